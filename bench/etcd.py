@@ -45,7 +45,7 @@ ASKS = [
     ("an empty value", *txn(success=[put("b", "")])),
     ("a guard that fails, and nothing to do", *txn([guard("a", 1)], [put("a", "3")])),
     ("several at once", *txn([guard("a", 3), guard("b", 4)], [put("c/1", "x"), put("c/2", "y"), put("c/3", "z"), get("a")])),
-    ("a read behind a put of the same transaction", *txn(success=[put("d", "1"), get("d")])),
+    ("a read after a put of the same transaction", *txn(success=[put("d", "1"), get("d")])),
     ("a range", *reads("c/", range_end=b64("c0"))),
     ("a range of two", *reads("c/", range_end=b64("c0"), limit="2")),
     ("a range of keys alone", *reads("c/", range_end=b64("c0"), keys_only=True)),
@@ -157,12 +157,12 @@ def main():
     told = [[], []]
     for at, stream in enumerate(streams):
         if line(stream) != {"created": True}:
-            problems.append("the first line of a watch that starts behind")
+            problems.append("the first line of a watch that starts after")
         # etcd may tell of several revisions in one line, and zetcd tells of each in a line of its own.
         while len(told[at]) < 5:
             told[at] += line(stream)
     if told[0] != told[1]:
-        differs("a watch that starts behind", *told)
+        differs("a watch that starts after", *told)
 
     # By choice: a delete is of one key.
     body = {"success": [{"request_delete_range": {"key": b64("c/"), "range_end": b64("c0")}}]}

@@ -81,7 +81,7 @@ def dials_that_are_silent(program, work):
         assert threads <= 256 + 4, threads
         assert waited < 25 and again < 30, (waited, again)
         it.bounds(60, 60)
-        return it.told(f"a new client waited {waited:.0f} s behind 300, and {again:.1f} s after 2,000 had left", f"{threads} threads")
+        return it.told(f"a new client waited {waited:.0f} s after 300, and {again:.1f} s after 2,000 had left", f"{threads} threads")
 
 
 def half_dial(port):

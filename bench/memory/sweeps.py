@@ -58,7 +58,7 @@ def sweep(run, name, words, stdin, judge, wanted=None, status=0, folder=None):
 
 
 def out_of_memory(status, relation, _said):
-    """The program's own end: status 7, behind a front of what it writes otherwise."""
+    """The program's own end: status 7, after a front of what it writes otherwise."""
     return "status 7" if status == 7 and relation in ("front", "same") else None
 
 
@@ -101,7 +101,7 @@ def rows(run):
         packets = row.rstrip("\n").split(" ")[-1]
 
         def judge(status, relation, said):
-            # A refusal before or behind the call makes no row; one in it is told as what the row comes to.
+            # A refusal before or after the call makes no row; one in it is told as what the row comes to.
             told = re.match(r"differs rows line 1: (memory|write) ([0-9a-f]*|-);", said)
             if status == 1 and relation == "same" and told:
                 front = told[2].replace("-", "")

@@ -19,7 +19,7 @@ pub struct Entered<'a> {
     pub count: u32,
     /// The record of the head that each of them left.
     pub record: &'a [u8],
-    /// Whether the feed was closed behind them.
+    /// Whether the feed was closed after them.
     pub closed: bool,
 }
 

@@ -8,7 +8,7 @@
 //! |---|---|
 //! | `serve PIECE BYTES` | why the connection ended, as in a transcript's `close` line, and all that it wrote, where these bytes came in pieces of PIECE bytes, or as many as fit where PIECE is 0 |
 //! | `alone PIECE BYTES` | the same, by the call that begins the tree of an etcd of its own |
-//! | `closed PIECE BYTES` | as `serve`, where the feed was closed before and the client is idle for a turn behind its pieces |
+//! | `closed PIECE BYTES` | as `serve`, where the feed was closed before and the client is idle for a turn after its pieces |
 //! | `fed FIRST COUNT RECORD PIECE BYTES` | the same, where the feed has COUNT entries, the first with the number after FIRST, each by RECORD, the value of the head |
 //! | `trace PIECE BYTES` | what a trace was told: the time and the kind of each input, and the length of each packet |
 //! | `ticks STEP PIECE BYTES` | the same, where the clock goes on by STEP milliseconds with each reading |

@@ -87,7 +87,7 @@ pub fn stream_of(
 }
 
 /// Serves a stream to its end by this clock, with what the feed has by then. Where the feed was closed, the client is idle for a turn
-/// behind its pieces.
+/// after its pieces.
 pub fn serve_by<R: Wait, C: Clock, T: Trace>(
     rt: &R,
     alloc: Global,

@@ -54,11 +54,11 @@ call-on s t q (Ok a) h = carry-on s t q a h
 call-on s t q (Err e) h = subst (Continues s) (sym h) (stays s)
 
 here : (s mid t : Store) (q : Ask) (r : Result Answer CallFault) → CarriesCall s q r mid → Continues mid t → IfOk r (IsHonestAnswer s t q)
-here s mid t q (Ok a) h more = record { before = s; behind = mid; after_ask = stays s; carried = h; before_answer = more }
+here s mid t q (Ok a) h more = record { before = s; after = mid; after_ask = stays s; carried = h; before_answer = more }
 here s mid t q (Err e) h more = tt
 
 earlier : (s mid t : Store) (q : Ask) (r : Result Answer CallFault) → Continues s mid → IfOk r (IsHonestAnswer mid t q) → IfOk r (IsHonestAnswer s t q)
-earlier s mid t q (Ok a) first h = record { before = h.before; behind = h.behind; after_ask = goes_on s mid h.before first h.after_ask; carried = h.carried; before_answer = h.before_answer }
+earlier s mid t q (Ok a) first h = record { before = h.before; after = h.after; after_ask = goes_on s mid h.before first h.after_ask; carried = h.carried; before_answer = h.before_answer }
 earlier s mid t q (Err e) first h = tt
 
 pub honest : (s t : Store) (cs : List Call) → CarriesAll s cs t → Continues s t × All (IsHonestCall s t) cs

@@ -4,7 +4,7 @@
 //! status 200; an ask that the store denies, and a body that cannot be read, with status 400. `specs/Serving` says so.
 //!
 //! A request to watch a key is answered by a stream: a line that says that the watch was created, and a line for each put that the
-//! store tells, of rising revisions from the one that was asked for on. The last chunk comes where the store is closed, and behind a
+//! store tells, of rising revisions from the one that was asked for on. The last chunk comes where the store is closed, and after a
 //! line that says so where the revision to go on from was compacted (`specs/Streaming`).
 //!
 //! # Limits

@@ -18,7 +18,7 @@ use std::time::Clock as SystemClock;
 use zx_base::Memory;
 use zx_outside::{Got, Sink, Source};
 
-/// The line with a line feed behind it.
+/// The line with a line feed after it.
 fn with_feed(line: Vec<u8>) -> Result<Vec<u8>, Memory>
     ensures { IfOk result (λ text. text.items ≡ line.items ++ 10 ∷ []) }
 {

@@ -14,8 +14,8 @@ both : (a b : Bool) → (a && b) ≡ true → (a ≡ true) × (b ≡ true)
 both true b e = (refl, e)
 both false b e = absurd (let apart : false ≡ true = e in cc)
 
-behind : (a b : List ℕ) → list_all is_blank_byte (a ++ b) ≡ true → list_all is_blank_byte b ≡ true
-behind a b e = (both _ _ (sym (list_all-append is_blank_byte a b) ∙ e)).1
+rest_blank : (a b : List ℕ) → list_all is_blank_byte (a ++ b) ≡ true → list_all is_blank_byte b ≡ true
+rest_blank a b e = (both _ _ (sym (list_all-append is_blank_byte a b) ∙ e)).1
 
 front : (a b : List ℕ) → list_all is_blank_byte (a ++ b) ≡ true → list_all is_blank_byte a ≡ true
 front a b e = (both _ _ (sym (list_all-append is_blank_byte a b) ∙ e)).0
@@ -42,8 +42,8 @@ token_begins (b ∷ m) more token blank = token_is_not_blank b (All-head (λ x. 
 pub no_head-blank : (k : Kind) (bytes : List ℕ) → list_all is_blank_byte bytes ≡ true → HasNoHead k bytes
 no_head-blank kind.Request bytes blank fields head rest is e =
     let whole = e ∙ ap (λ (x : List ℕ). x ++ rest) is.3 ∙ print_request-append is.0 rest in
-    token_begins is.0.method _ is.1.method (behind (print_blank is.0.blank) _ (subst (λ (x : List ℕ). list_all is_blank_byte x ≡ true) whole blank))
+    token_begins is.0.method _ is.1.method (rest_blank (print_blank is.0.blank) _ (subst (λ (x : List ℕ). list_all is_blank_byte x ≡ true) whole blank))
 no_head-blank kind.Response bytes blank fields head rest is e =
     let whole = e ∙ ap (λ (x : List ℕ). x ++ rest) is.3 ∙ print_response-append is.0 rest in
-    let bad : false ≡ true = behind (print_blank is.0.blank) _ (subst (λ (x : List ℕ). list_all is_blank_byte x ≡ true) whole blank) in
+    let bad : false ≡ true = rest_blank (print_blank is.0.blank) _ (subst (λ (x : List ℕ). list_all is_blank_byte x ≡ true) whole blank) in
     absurd cc

@@ -11,7 +11,7 @@ use Rattle.httparse.specs.Grammar.{print_chunk_line}
 use Rattle.ev_http.proofs.Takings.{no_feed-nil}
 use Rattle.ev_http.specs.Taking.{Told, HasNoFeed}
 use Rattle.std.specs.Prelude.{Option, Result}
-use Rattle.ev_http.specs.Body.{Chunk, print_chunks, contents, Behind, AtContent, Came, EndsWhole, TakesBytes, TakesPart, after_content, Framed}
+use Rattle.ev_http.specs.Body.{Chunk, print_chunks, contents, AfterChunks, AtContent, Came, EndsWhole, TakesBytes, TakesPart, after_content, Framed}
 
 nothing : (bytes added : List ℕ) → added ≡ [] → bytes ++ added ≡ bytes
 nothing bytes added e = ap (λ (x : List ℕ). bytes ++ x) e ∙ append-nil bytes
@@ -39,12 +39,12 @@ counted_whole left body added body' source tally none nil same line start f byte
       subst (λ (x : Framing). EndsWhole x part.Whole source) (sym is) tt,
     )
 
-pub behind_more : (start place : ℕ) (f : Framing) (chunks : List Chunk) (tail bytes added tail' : List ℕ) → Behind start place f chunks tail bytes → tail ++ added ≡ tail' → Behind start place f chunks tail' (bytes ++ added)
-behind_more start place f chunks tail bytes added tail' behind joined = record {
-  chunked = behind.chunked;
-  are_chunks = behind.are_chunks;
-  bytes_are = ap (λ (x : List ℕ). x ++ added) behind.bytes_are ∙ append_assoc (print_chunks chunks) tail added ∙ ap (λ (x : List ℕ). print_chunks chunks ++ x) joined;
-  place_is = behind.place_is;
+pub after_more : (start place : ℕ) (f : Framing) (chunks : List Chunk) (tail bytes added tail' : List ℕ) → AfterChunks start place f chunks tail bytes → tail ++ added ≡ tail' → AfterChunks start place f chunks tail' (bytes ++ added)
+after_more start place f chunks tail bytes added tail' so_far joined = record {
+  chunked = so_far.chunked;
+  are_chunks = so_far.are_chunks;
+  bytes_are = ap (λ (x : List ℕ). x ++ added) so_far.bytes_are ∙ append_assoc (print_chunks chunks) tail added ∙ ap (λ (x : List ℕ). print_chunks chunks ++ x) joined;
+  place_is = so_far.place_is;
 }
 
 pub chunk_goes : (f : Framing) (p : Part) (source : Told) → f ≡ framing.Chunked → EndsWhole f p source
@@ -57,7 +57,7 @@ in_content start place left zero f line bytes added body body' at grown size = r
   size = at.size;
   is_size = at.is_size;
   content = at.content ++ added;
-  behind = behind_more _ _ _ _ _ _ _ _ at.behind (
+  so_far = after_more _ _ _ _ _ _ _ _ at.so_far (
       append_assoc (print_chunk_line at.size) at.content added
       ∙ ap (λ (x : List ℕ). print_chunk_line at.size ++ x) (sym (append-nil (at.content ++ added)) ∙ ap (λ (x : List ℕ). (at.content ++ added) ++ x) (sym at.empty)));
   body_is = grown ∙ ap (λ (x : List ℕ). x ++ added) at.body_is ∙ append_assoc (contents at.chunks) at.content added;
@@ -70,7 +70,7 @@ in_content start place left (suc n) f line bytes added body body' at grown size 
   size = at.size;
   is_size = at.is_size;
   content = at.content ++ added;
-  behind = behind_more _ _ _ _ _ _ _ _ at.behind (append_assoc (print_chunk_line at.size) at.content added);
+  so_far = after_more _ _ _ _ _ _ _ _ at.so_far (append_assoc (print_chunk_line at.size) at.content added);
   body_is = grown ∙ ap (λ (x : List ℕ). x ++ added) at.body_is ∙ append_assoc (contents at.chunks) at.content added;
   left_is = omega (arith, length-append at.content added, at.left_is, size);
   some = omega arith;
@@ -81,5 +81,5 @@ pub content_more : (n place left : ℕ) (body added body' : List ℕ) (source : 
     → (line : List ℕ) → TakesPart (Ok (after_content place (left - n))) (part.Content place left) line body added line body' source tally
 content_more n place left body added body' source tally got line start f bytes came taken = (
   in_content start place left (left - n) f line bytes added body body' came got.0 (omega (arith, got.1, got.3)),
-  chunk_goes f (after_content place (left - n)) source came.behind.chunked,
+  chunk_goes f (after_content place (left - n)) source came.so_far.chunked,
 )

@@ -14,10 +14,10 @@ use Rattle.ev_http.specs.declared.body.Part.{Part}
 use Rattle.ev_http.specs.declared.body.Part.TheVariants as part
 use Rattle.ev_http.specs.declared.taking.Tally.{Tally}
 use Rattle.ev_http.specs.Taking.{Told, Ends, counted, HasNoFeed, IsLine, Grows, TakesLine}
-use Rattle.ev_http.specs.Body.{Chunk, IsChunk, print_chunk, IsSizeLine, print_chunks, contents, IsFieldLine, AreFields, InChunks, Behind, AtSize, AtGap, AtTrailer, Came, IsOpen, IsNoChunk, IsNoTrailer, BreaksAt, TakesPart, SizeAnswer, TrailerAnswer, Framed}
+use Rattle.ev_http.specs.Body.{Chunk, IsChunk, print_chunk, IsSizeLine, print_chunks, contents, IsFieldLine, AreFields, InChunks, AfterChunks, AtSize, AtGap, AtTrailer, Came, IsOpen, IsNoChunk, IsNoTrailer, BreaksAt, TakesPart, SizeAnswer, TrailerAnswer, Framed}
 use Rattle.ev_http.proofs.Takings.{no_feed-nil}
 use Rattle.ev_http.proofs.Feeds.{same_line, text_short, no_feed-append, no_feed-cons, no_chunk-long, no_chunk-never}
-use Rattle.ev_http.proofs.Bodies.{behind_more, chunk_goes}
+use Rattle.ev_http.proofs.Bodies.{after_more, chunk_goes}
 
 pub line_grown : (old added new : List ℕ) → HasNoFeed old → IsLine added → new ≡ old ++ added → IsLine new
 line_grown old added new none is grown = (
@@ -49,7 +49,7 @@ line_stops fault.WriteFault p line added new body limit source tally goes got st
 pub size_grows : (place limit : ℕ) (line added new body : List ℕ) (start : ℕ) (f : Framing) (bytes : List ℕ) → AtSize start place f line bytes body → Grows line added new limit → AtSize start place f new (bytes ++ added) body
 size_grows place limit line added new body start f bytes at grows = record {
   chunks = at.chunks;
-  behind = behind_more _ _ _ _ _ _ _ _ at.behind (sym grows.grown);
+  so_far = after_more _ _ _ _ _ _ _ _ at.so_far (sym grows.grown);
   body_is = at.body_is;
   no_feed = grown_no_feed line added new limit at.no_feed grows;
 }
@@ -62,8 +62,8 @@ size_next (part.Content q left) place next start f line added new bytes body at 
       size = says.0;
       is_size = record { is_line = says.1; short = subst (λ (x : List ℕ). length x ≤ 1026) says.2 short };
       content = [];
-      behind = subst (λ (x : ℕ). Behind start x f at.chunks (print_chunk_line says.0 ++ []) (bytes ++ added)) (sym says.5)
-          (behind_more _ _ _ _ _ _ _ _ at.behind (sym grown ∙ says.2 ∙ sym (append-nil (print_chunk_line says.0))));
+      so_far = subst (λ (x : ℕ). AfterChunks start x f at.chunks (print_chunk_line says.0 ++ []) (bytes ++ added)) (sym says.5)
+          (after_more _ _ _ _ _ _ _ _ at.so_far (sym grown ∙ says.2 ∙ sym (append-nil (print_chunk_line says.0))));
       body_is = at.body_is ∙ sym (append-nil (contents at.chunks));
       left_is = omega (arith, says.3);
       some = says.4;
@@ -71,7 +71,7 @@ size_next (part.Content q left) place next start f line added new bytes body at 
     }
 size_next (part.Trailer q fields) place next start f line added new bytes body at grown is short answer counts =
     let says = answer (line_grown line added new at.no_feed is grown) in
-    let bytes_are = (behind_more _ _ _ _ _ _ _ _ at.behind (sym grown ∙ says.2)).bytes_are in record {
+    let bytes_are = (after_more _ _ _ _ _ _ _ _ at.so_far (sym grown ∙ says.2)).bytes_are in record {
       chunks = at.chunks;
       last = says.0;
       is_last = record { line = record { is_line = says.1; short = subst (λ (x : List ℕ). length x ≤ 1026) says.2 short }; none = says.3 };
@@ -82,8 +82,8 @@ size_next (part.Trailer q fields) place next start f line added new bytes body a
       no_feed = no_feed-nil;
       line_is = refl;
       fields_is = says.4;
-      chunked = at.behind.chunked;
-      are_chunks = at.behind.are_chunks;
+      chunked = at.so_far.chunked;
+      are_chunks = at.so_far.are_chunks;
       bytes_are = bytes_are ∙ ap (λ (x : List ℕ). print_chunks at.chunks ++ x) (sym (append-nil (print_chunk_line says.0)));
       place_is = says.5 ∙ counts ∙ ap (λ (x : List ℕ). counted (start + length x)) bytes_are;
       body_is = at.body_is;
@@ -98,17 +98,17 @@ pub size_whole : (p : Part) (place : ℕ) (line added new body : List ℕ) (limi
     → (IsLine new → SizeAnswer (Some p) place tally.taken new) → TakesPart (Ok p) (part.Size place) line body added [] body source tally
 size_whole p place line added new body limit source tally got answer start f bytes came taken = (
   size_next p place tally.taken start f line added new bytes body came got.1 got.0 got.2 answer taken,
-  chunk_goes f p source came.behind.chunked,
+  chunk_goes f p source came.so_far.chunked,
 )
 
-breaks_chunk : (start place : ℕ) (f : Framing) (chunks : List Chunk) (tail bytes : List ℕ) → Behind start place f chunks tail bytes → IsNoChunk tail → BreaksAt start place f bytes
-breaks_chunk start place f chunks tail bytes behind none = inl (chunks, tail, behind, none)
+breaks_chunk : (start place : ℕ) (f : Framing) (chunks : List Chunk) (tail bytes : List ℕ) → AfterChunks start place f chunks tail bytes → IsNoChunk tail → BreaksAt start place f bytes
+breaks_chunk start place f chunks tail bytes so_far none = inl (chunks, tail, so_far, none)
 
 pub size_broken : (place n : ℕ) (line added new body : List ℕ) (source : Told) (tally : Tally) → new ≡ line ++ added → n ≡ place → ((start : ℕ) (f : Framing) (bytes : List ℕ) → AtSize start place f line bytes body → IsNoChunk new)
     → (last : List ℕ) → TakesPart (Err (fault.Body n)) (part.Size place) line body added last body source tally
 size_broken place n line added new body source tally grown same none last start f bytes came taken =
     subst (λ (x : ℕ). BreaksAt start x f (bytes ++ added)) (sym same)
-    (breaks_chunk start place f came.chunks new (bytes ++ added) (behind_more _ _ _ _ _ _ _ _ came.behind (sym grown)) (none start f bytes came))
+    (breaks_chunk start place f came.chunks new (bytes ++ added) (after_more _ _ _ _ _ _ _ _ came.so_far (sym grown)) (none start f bytes came))
 
 pub size_fails : (place : ℕ) (line added new body : List ℕ) (source : Told) (tally : Tally) → IsLine added × (new ≡ line ++ added) × (length new ≤ 1026)
     → (IsLine new → IsNoChunk new) → TakesPart (Err (fault.Body place)) (part.Size place) line body added new body source tally
@@ -157,7 +157,7 @@ gap_grows place limit line added new body start f bytes at grows = record {
   size = at.size;
   is_size = at.is_size;
   content = at.content;
-  behind = behind_more _ _ _ _ _ _ _ _ at.behind (gap_joined at.size at.content line added new grows.grown);
+  so_far = after_more _ _ _ _ _ _ _ _ at.so_far (gap_joined at.size at.content line added new grows.grown);
   body_is = at.body_is;
   size_is = at.size_is;
   some = at.some;
@@ -168,7 +168,7 @@ gap_broken : (place : ℕ) (line added new body : List ℕ) (source : Told) (tal
     → TakesPart (Err (fault.Body place)) (part.Gap place) line body added new body source tally
 gap_broken place line added new body source tally grown none start f bytes came taken =
     breaks_chunk start place f came.chunks (print_chunk_line came.size ++ (came.content ++ new)) (bytes ++ added)
-    (behind_more _ _ _ _ _ _ _ _ came.behind (gap_joined came.size came.content line added new grown)) (no_chunk-gap came.size came.content new came.is_size came.size_is came.some (none came.no_feed))
+    (after_more _ _ _ _ _ _ _ _ came.so_far (gap_joined came.size came.content line added new grown)) (no_chunk-gap came.size came.content new came.is_size came.size_is came.some (none came.no_feed))
 
 pub gap_other : (place limit : ℕ) (line added new body : List ℕ) (source : Told) (tally : Tally) → IsLine added × (new ≡ line ++ added) × (length new ≤ limit) → new ≢ 13 ∷ 10 ∷ []
     → TakesPart (Err (fault.Body place)) (part.Gap place) line body added new body source tally
@@ -199,23 +199,23 @@ pub gap_whole : (place limit : ℕ) (line added new body : List ℕ) (source : T
     → TakesPart (Ok (part.Size tally.taken)) (part.Gap place) line body added [] body source tally
 gap_whole place limit line added new body source tally got same start f bytes came taken =
     let c : Chunk = record { line = came.size; content = came.content } in
-    let more = behind_more _ _ _ _ _ _ _ _ came.behind (gap_joined came.size came.content line added (13 ∷ 10 ∷ []) (sym same ∙ got.1)) in
+    let more = after_more _ _ _ _ _ _ _ _ came.so_far (gap_joined came.size came.content line added (13 ∷ 10 ∷ []) (sym same ∙ got.1)) in
     let chunks : List Chunk = came.chunks ++ c ∷ [] in
     let printed : print_chunks chunks ≡ print_chunks came.chunks ++ print_chunk c = flat_map-append print_chunk came.chunks (c ∷ []) ∙ ap (λ (x : List ℕ). print_chunks came.chunks ++ x) (append-nil (print_chunk c)) in
     let held : contents chunks ≡ contents came.chunks ++ c.content = flat_map-append (λ (x : Chunk). x.content) came.chunks (c ∷ []) ∙ ap (λ (x : List ℕ). contents came.chunks ++ x) (append-nil c.content) in
     let bytes_are : bytes ++ added ≡ print_chunks chunks ++ [] = more.bytes_are ∙ sym printed ∙ sym (append-nil (print_chunks chunks)) in (
       record {
         chunks = chunks;
-        behind = record {
-          chunked = came.behind.chunked;
-          are_chunks = All-append IsChunk came.chunks (c ∷ []) came.behind.are_chunks (All-cons IsChunk c [] (record { line = came.is_size; size = came.size_is; some = came.some }) (All-nil IsChunk));
+        so_far = record {
+          chunked = came.so_far.chunked;
+          are_chunks = All-append IsChunk came.chunks (c ∷ []) came.so_far.are_chunks (All-cons IsChunk c [] (record { line = came.is_size; size = came.size_is; some = came.some }) (All-nil IsChunk));
           bytes_are = bytes_are;
           place_is = taken ∙ ap (λ (x : List ℕ). counted (start + length x)) (bytes_are ∙ append-nil (print_chunks chunks));
         };
         body_is = came.body_is ∙ sym held;
         no_feed = no_feed-nil;
       },
-      chunk_goes f (part.Size tally.taken) source came.behind.chunked,
+      chunk_goes f (part.Size tally.taken) source came.so_far.chunked,
     )
 
 -- ---- trailers

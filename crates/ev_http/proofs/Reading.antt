@@ -18,7 +18,7 @@ came_first (framing.Counted n) start fits = (ap framing.Counted (omega arith), r
 came_first framing.ToEnd start fits = (refl, refl)
 came_first framing.Chunked start fits = record {
   chunks = [];
-  behind = record { chunked = refl; are_chunks = All-nil IsChunk; bytes_are = refl; place_is = omega arith };
+  so_far = record { chunked = refl; are_chunks = All-nil IsChunk; bytes_are = refl; place_is = omega arith };
   body_is = refl;
   no_feed = no_feed-nil;
 }

@@ -30,9 +30,9 @@ chunk_unique : (c d : Chunk) (x y : List ℕ) → IsChunk c → IsChunk d → pr
 chunk_unique c d x y is has e =
     let same = chunk_line_unique (print_chunk c ++ x) c.line d.line ((c.content ++ 13 ∷ 10 ∷ []) ++ x) ((d.content ++ 13 ∷ 10 ∷ []) ++ y)
     (is.line.is_line, append_assoc (print_chunk_line c.line) (c.content ++ 13 ∷ 10 ∷ []) x) (has.line.is_line, e ∙ append_assoc (print_chunk_line d.line) (d.content ++ 13 ∷ 10 ∷ []) y) in
-    let behind : c.content ++ (13 ∷ 10 ∷ x) ≡ d.content ++ (13 ∷ 10 ∷ y) = sym (append_assoc c.content (13 ∷ 10 ∷ []) x) ∙ same.1 ∙ append_assoc d.content (13 ∷ 10 ∷ []) y in
+    let onward : c.content ++ (13 ∷ 10 ∷ x) ≡ d.content ++ (13 ∷ 10 ∷ y) = sym (append_assoc c.content (13 ∷ 10 ∷ []) x) ∙ same.1 ∙ append_assoc d.content (13 ∷ 10 ∷ []) y in
     let size : length c.content ≡ length d.content = is.size ∙ ap chunk_size same.0 ∙ sym has.size in
-    let parts = split_same c.content d.content (13 ∷ 10 ∷ x) (13 ∷ 10 ∷ y) size behind in
+    let parts = split_same c.content d.content (13 ∷ 10 ∷ x) (13 ∷ 10 ∷ y) size onward in
     let rest = parts.1 in
     (parts.0, cc)
 
@@ -129,11 +129,11 @@ content_after : (start place n : ℕ) (f : Framing) (line bytes body' left body 
 content_after start place n f line bytes body' left body after rest b at e =
     let x = (print_chunk_line at.size ++ at.content) ++ left in
     let y = ending body after b rest in
-    let fs = follows at.chunks (print_chunk_line at.size ++ at.content) bytes left body after rest b at.behind.are_chunks at.behind.bytes_are e in
+    let fs = follows at.chunks (print_chunk_line at.size ++ at.content) bytes left body after rest b at.so_far.are_chunks at.so_far.bytes_are e in
     let next = next_size at.chunks at.size b.last x y body (at.content ++ left) at.is_size.is_line (omega (arith, at.left_is, at.some)) b.is_last fs (append_assoc (print_chunk_line at.size) at.content left) in
     let size : length next.0.content ≡ length at.content + n = next.2.size ∙ ap chunk_size (sym next.3) ∙ sym at.left_is in
-    let behind = 13 ∷ 10 ∷ (print_chunks next.1 ++ (print_chunk_line b.last ++ y)) in
-    let q = front_of next.0.content behind at.content left (sym next.5) (omega (arith, size)) in
+    let onward = 13 ∷ 10 ∷ (print_chunks next.1 ++ (print_chunk_line b.last ++ y)) in
+    let q = front_of next.0.content onward at.content left (sym next.5) (omega (arith, size)) in
     let long : length next.0.content ≡ length at.content + length q.0 = ap length q.1 ∙ length-append at.content q.0 in (
       record {
         more = q.0 ++ contents next.1;
@@ -142,7 +142,7 @@ content_after start place n f line bytes body' left body after rest b at e =
             ∙ ap (λ (t : List ℕ). t ++ (q.0 ++ contents next.1)) (sym at.body_is);
         announced = omega (arith, size, long, length-append q.0 (contents next.1));
       },
-      λ none. omega (arith, size, at.some, ap length next.5, length-append at.content left, ap length none, length-append next.0.content behind),
+      λ none. omega (arith, size, at.some, ap length next.5, length-append at.content left, ap length none, length-append next.0.content onward),
     )
 
 gap_after : (start place : ℕ) (f : Framing) (line bytes body' left body after rest : List ℕ) (b : InChunks body after) → AtGap start place f line bytes body' → after ++ rest ≡ bytes ++ left
@@ -150,7 +150,7 @@ gap_after : (start place : ℕ) (f : Framing) (line bytes body' left body after 
 gap_after start place f line bytes body' left body after rest b at e =
     let x = (print_chunk_line at.size ++ (at.content ++ line)) ++ left in
     let y = ending body after b rest in
-    let fs = follows at.chunks (print_chunk_line at.size ++ (at.content ++ line)) bytes left body after rest b at.behind.are_chunks at.behind.bytes_are e in
+    let fs = follows at.chunks (print_chunk_line at.size ++ (at.content ++ line)) bytes left body after rest b at.so_far.are_chunks at.so_far.bytes_are e in
     let next = next_size at.chunks at.size b.last x y body ((at.content ++ line) ++ left) at.is_size.is_line at.some b.is_last fs (append_assoc (print_chunk_line at.size) (at.content ++ line) left) in
     let size : length at.content ≡ length next.0.content = at.size_is ∙ ap chunk_size next.3 ∙ sym next.2.size in
     let more = print_chunks next.1 ++ (print_chunk_line b.last ++ y) in
@@ -169,7 +169,7 @@ size_after : (start place : ℕ) (f : Framing) (line bytes body' left body after
     → GoesOnBy 0 body' body × (left ≡ [] → ⊥)
 size_after start place f line bytes body' left body after rest b at e =
     let y = ending body after b rest in
-    let fs = follows at.chunks line bytes left body after rest b at.behind.are_chunks at.behind.bytes_are e in (
+    let fs = follows at.chunks line bytes left body after rest b at.so_far.are_chunks at.so_far.bytes_are e in (
       record { more = contents fs.chunks; body_is = fs.body_is ∙ ap (λ (t : List ℕ). t ++ contents fs.chunks) (sym at.body_is); announced = omega arith },
       λ none. size_cut line fs.chunks b.last y at.no_feed (sym (append-nil line) ∙ ap (λ (t : List ℕ). line ++ t) (sym none) ∙ fs.bytes_are),
     )
@@ -265,13 +265,13 @@ came_after (part.Counted n) start f line bytes body' left body after rest framed
 came_after part.ToEnd start f line bytes body' left body after rest framed came e none =
     (whole_fits f bytes body' left body after rest (subst (λ (x : Framing). Framed x body' bytes) (sym came.0) came.1) framed e none, λ more nil. absurd more)
 came_after (part.Size place) start f line bytes body' left body after rest framed came e none =
-    let got = size_after start place f line bytes body' left body after rest (in_chunks f body after came.behind.chunked framed) came e in
+    let got = size_after start place f line bytes body' left body after rest (in_chunks f body after came.so_far.chunked framed) came e in
     (got.0, λ more. got.1)
 came_after (part.Content place n) start f line bytes body' left body after rest framed came e none =
-    let got = content_after start place n f line bytes body' left body after rest (in_chunks f body after came.behind.chunked framed) came e in
+    let got = content_after start place n f line bytes body' left body after rest (in_chunks f body after came.so_far.chunked framed) came e in
     (got.0, λ more. got.1)
 came_after (part.Gap place) start f line bytes body' left body after rest framed came e none =
-    let got = gap_after start place f line bytes body' left body after rest (in_chunks f body after came.behind.chunked framed) came e in
+    let got = gap_after start place f line bytes body' left body after rest (in_chunks f body after came.so_far.chunked framed) came e in
     (got.0, λ more. got.1)
 came_after (part.Trailer place n) start f line bytes body' left body after rest framed came e none =
     let got = trailer_after start place n f line bytes body' left body after rest (in_chunks f body after came.chunked framed) came e in
@@ -297,8 +297,8 @@ trailer_breaks chunks last tail bytes left body after rest b are is_last is none
     none b.fields b.end left rest b.are_fields b.few next.0
 
 pub breaks_none : (start place : ℕ) (f : Framing) (bytes left body after rest : List ℕ) → Framed f body after → BreaksAt start place f bytes → after ++ rest ≡ bytes ++ left → ⊥
-breaks_none start place f bytes left body after rest framed (inl (chunks, tail, behind, none)) e =
-    chunk_breaks chunks tail bytes left body after rest (in_chunks f body after behind.chunked framed) behind.are_chunks behind.bytes_are none e
+breaks_none start place f bytes left body after rest framed (inl (chunks, tail, onward, none)) e =
+    chunk_breaks chunks tail bytes left body after rest (in_chunks f body after onward.chunked framed) onward.are_chunks onward.bytes_are none e
 breaks_none start place f bytes left body after rest framed (inr (chunks, last, tail, chunked, are, is_last, is, place_is, none)) e =
     trailer_breaks chunks last tail bytes left body after rest (in_chunks f body after chunked framed) are is_last is none e
 

@@ -72,7 +72,7 @@ Framed framing.ToEnd body bytes = bytes ≡ body
 Framed framing.Chunked body bytes = InChunks body bytes
 
 -- Whole chunks, and then these bytes, which begin at this place.
-pub record Behind (start place : ℕ) (f : Framing) (chunks : List Chunk) (tail bytes : List ℕ) : Type 0 where
+pub record AfterChunks (start place : ℕ) (f : Framing) (chunks : List Chunk) (tail bytes : List ℕ) : Type 0 where
   pub chunked : f ≡ framing.Chunked
   pub are_chunks : All IsChunk chunks
   pub bytes_are : bytes ≡ print_chunks chunks ++ tail
@@ -81,7 +81,7 @@ pub record Behind (start place : ℕ) (f : Framing) (chunks : List Chunk) (tail 
 -- In the line before a chunk.
 pub record AtSize (start place : ℕ) (f : Framing) (line bytes body : List ℕ) : Type 0 where
   pub chunks : List Chunk
-  pub behind : Behind start place f chunks line bytes
+  pub so_far : AfterChunks start place f chunks line bytes
   pub body_is : body ≡ contents chunks
   pub no_feed : HasNoFeed line
 
@@ -91,7 +91,7 @@ pub record AtContent (start place left : ℕ) (f : Framing) (line bytes body : L
   pub size : ChunkLine
   pub is_size : IsSizeLine size
   pub content : List ℕ
-  pub behind : Behind start place f chunks (print_chunk_line size ++ content) bytes
+  pub so_far : AfterChunks start place f chunks (print_chunk_line size ++ content) bytes
   pub body_is : body ≡ contents chunks ++ content
   pub left_is : length content + left ≡ chunk_size size
   pub some : 0 < left
@@ -103,7 +103,7 @@ pub record AtGap (start place : ℕ) (f : Framing) (line bytes body : List ℕ) 
   pub size : ChunkLine
   pub is_size : IsSizeLine size
   pub content : List ℕ
-  pub behind : Behind start place f chunks (print_chunk_line size ++ (content ++ line)) bytes
+  pub so_far : AfterChunks start place f chunks (print_chunk_line size ++ (content ++ line)) bytes
   pub body_is : body ≡ contents chunks ++ content
   pub size_is : length content ≡ chunk_size size
   pub some : 0 < chunk_size size
@@ -149,7 +149,7 @@ IsNoTrailer bytes = (fields : List ℕ) (end : LineEnd) (more rest : List ℕ) �
 -- The bytes after a head break a rule at a place: no chunk and no last line begins there, or no trailer that is short enough.
 abbrev pub BreaksAt : ℕ → ℕ → Framing → List ℕ → Type 0
 BreaksAt start place f bytes =
-    ((chunks : List Chunk) × (tail : List ℕ) × Behind start place f chunks tail bytes × IsNoChunk tail)
+    ((chunks : List Chunk) × (tail : List ℕ) × AfterChunks start place f chunks tail bytes × IsNoChunk tail)
     ⊎ ((chunks : List Chunk) × (last : ChunkLine) × (tail : List ℕ) × (f ≡ framing.Chunked) × (All IsChunk chunks) × IsLastLine last
     × (bytes ≡ print_chunks chunks ++ (print_chunk_line last ++ tail)) × (place ≡ counted (start + length (print_chunks chunks ++ print_chunk_line last))) × IsNoTrailer tail)
 

@@ -26,7 +26,7 @@ pub fn write_all<K: Sink>(sink: &mut K, bytes: &[u8]) -> Result<(), HttpFault>
     Ok(())
 }
 
-/// Up to how many bytes a body is copied behind its head, so that both go out in one write. A longer body is not copied.
+/// Up to how many bytes a body is copied after its head, so that both go out in one write. A longer body is not copied.
 const MAX_JOINED: usize = 16384;
 
 /// Writes a head and then a body.

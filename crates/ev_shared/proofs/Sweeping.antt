@@ -22,14 +22,14 @@ all_done now s xs i le h = subst (All (LapsesBy now s)) (take_all i xs le) h
 
 -- ---- the store that the leases leave
 
-one_behind : (now : ℕ) (xs : List Term) (x : Term) (s : Store) → swept now (xs ++ x ∷ []) s ≡ swept_one now x (swept now xs s)
-one_behind now [] x s = refl
-one_behind now (y ∷ xs) x s = one_behind now xs x (swept_one now y s)
+one_after : (now : ℕ) (xs : List Term) (x : Term) (s : Store) → swept now (xs ++ x ∷ []) s ≡ swept_one now x (swept now xs s)
+one_after now [] x s = refl
+one_after now (y ∷ xs) x s = one_after now xs x (swept_one now y s)
 
 pub swept_on : (now : ℕ) (s t u : Store) (xs : List Term) (i : ℕ) (x : Term) → i < length xs → x ≡ get_or xs i x → t ≡ swept now (take i xs) s → u ≡ swept_one now x t
     → u ≡ swept now (take (i + 1) xs) s
 swept_on now s t u xs i x lt is before here =
-    here ∙ ap (swept_one now x) before ∙ sym (one_behind now (take i xs) x s) ∙ ap (λ (y : Term). swept now (take i xs ++ y ∷ []) s) is ∙ sym (ap (λ (l : List Term). swept now l s) (take_more xs i x lt))
+    here ∙ ap (swept_one now x) before ∙ sym (one_after now (take i xs) x s) ∙ ap (λ (y : Term). swept now (take i xs ++ y ∷ []) s) is ∙ sym (ap (λ (l : List Term). swept now l s) (take_more xs i x lt))
 
 pub swept_all : (now : ℕ) (s t : Store) (xs : List Term) (i : ℕ) → length xs ≤ i → t ≡ swept now (take i xs) s → t ≡ swept now xs s
 swept_all now s t xs i le h = h ∙ ap (λ (l : List Term). swept now l s) (take_all i xs le)
@@ -42,7 +42,7 @@ swept_so_far now s t u xs i before same = (i, same ∙ before)
 pub left_before : (now : ℕ) (s t : Store) (xs ys : List Term) → IsSweptPartly now xs s t → ys ≡ xs → IsLeft now xs s ys t
 left_before now s t xs ys part same = inl (part, same)
 
-pub left_behind : (now : ℕ) (s t u : Store) (xs ys zs : List Term) → t ≡ swept now xs s → Stay now t xs ys → u ≡ t → zs ≡ ys → IsLeft now xs s zs u
-left_behind now s t u xs ys zs swept_all_of stay same_store same =
+pub left_after : (now : ℕ) (s t u : Store) (xs ys zs : List Term) → t ≡ swept now xs s → Stay now t xs ys → u ≡ t → zs ≡ ys → IsLeft now xs s zs u
+left_after now s t u xs ys zs swept_all_of stay same_store same =
     let kept : Stay now u xs ys = subst (λ (x : Store). Stay now x xs ys) (sym same_store) stay in
     inr (same_store ∙ swept_all_of, subst (λ (l : List Term). Stay now u xs l) (sym same) kept)

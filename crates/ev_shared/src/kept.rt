@@ -200,7 +200,7 @@ impl Kept {
     /// Carries out one ask at this moment. Before it, each lease whose seconds have passed lapses, and no other; a lapse that is denied
     /// since the store is full is left undone. After a denial, and where memory runs out, leases may have lapsed; nothing else has
     /// changed.
-    #[tactic(auto, using(crate::proofs::Replaying::longer_still, crate::proofs::Sweeping::left_before, crate::proofs::Sweeping::left_behind))]
+    #[tactic(auto, using(crate::proofs::Replaying::longer_still, crate::proofs::Sweeping::left_before, crate::proofs::Sweeping::left_after))]
     pub fn call_at(&mut self, now: u64, ask: &Ask) -> Result<Answer, StoreFault>
         requires { IsGrantable ask.now }
         ensures carried { IfOk result (λ a. carry (swept now self.old.terms.items self.old.store) ask.now ≡ Some (self.new.store, a)) }

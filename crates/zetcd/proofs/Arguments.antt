@@ -23,9 +23,9 @@ texts-is_word name (w ∷ []) h = ap (λ (t : List ℕ). t ∷ []) h
 texts-is_word name (w ∷ v ∷ words) h = absurd h
 
 -- the words after the first, if there is a first
-pub arguments-behind : {Z : Type 0} (words : List (String Z)) (n : ℕ) → n ≡ min (length words) 1 → map string_bytes (take (length words - n) (drop n words)) ≡ arguments words
-arguments-behind [] n h = rw h refl
-arguments-behind (w ∷ words) n h = rw (h ∙ one) (ap (map string_bytes) (whole ∙ take-length words))
+pub arguments-after : {Z : Type 0} (words : List (String Z)) (n : ℕ) → n ≡ min (length words) 1 → map string_bytes (take (length words - n) (drop n words)) ≡ arguments words
+arguments-after [] n h = rw h refl
+arguments-after (w ∷ words) n h = rw (h ∙ one) (ap (map string_bytes) (whole ∙ take-length words))
   where
     one : min (suc (length words)) 1 ≡ 1
     one = omega arith

@@ -184,8 +184,8 @@ where
     ensures unless_write_fault { IfOk result (λ s. s ≢ Status.WriteFault → O.counts out.new ≡ O.counts out.old) }
 {
     let words = words_of(alloc, args)?;
-    let behind_name = words.len().min(1);
-    let words = lent(alloc, &words.as_slice()[behind_name..])?;
+    let after_name = words.len().min(1);
+    let words = lent(alloc, &words.as_slice()[after_name..])?;
     let status = zetcd(
         rt,
         alloc,

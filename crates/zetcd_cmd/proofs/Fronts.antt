@@ -10,8 +10,8 @@ pub TakesSome-front : (whole : List ℕ) (taken taken' : Option (List ℕ)) → 
 TakesSome-front whole taken taken' front = (take front.0 whole, drop front.0 whole, sym (take-append-drop front.0 whole), front.2)
 
 -- all of what stands before, and then some
-pub TakesSome-behind : (first second : List ℕ) (taken taken' taken'' : Option (List ℕ)) → Takes first taken taken' → TakesSome second taken' taken'' → TakesSome (first ++ second) taken taken''
-TakesSome-behind first second taken taken' taken'' takes some = (
+pub TakesSome-after : (first second : List ℕ) (taken taken' taken'' : Option (List ℕ)) → Takes first taken taken' → TakesSome second taken' taken'' → TakesSome (first ++ second) taken taken''
+TakesSome-after first second taken taken' taken'' takes some = (
   first ++ some.0,
   some.1,
   ap (λ t. first ++ t) some.2 ∙ sym (append_assoc first some.0 some.1),
@@ -26,4 +26,4 @@ TakesSome-more whole more taken taken' some = (some.0, some.1 ++ more, ap (λ t.
 pub TakesSome-rest : (piece : List ℕ) (at : ℕ) (taken taken' taken'' : Option (List ℕ)) → Takes (take at piece) taken taken' → TakesFront (drop at piece) taken' taken'' → TakesSome piece taken taken''
 TakesSome-rest piece at taken taken' taken'' takes front =
     subst (λ (t : List ℕ). TakesSome t taken taken'') (take-append-drop at piece)
-    (TakesSome-behind (take at piece) (drop at piece) taken taken' taken'' takes (TakesSome-front (drop at piece) taken' taken'' front))
+    (TakesSome-after (take at piece) (drop at piece) taken taken' taken'' takes (TakesSome-front (drop at piece) taken' taken'' front))

@@ -4,7 +4,7 @@ use Rattle.std.specs.Prelude.{Option, Some, None, Bool, true, false, is_some, na
 use Rattle.std.proofs.lemmas.Bool.{lt-ltb}
 use Rattle.zk_transcript.specs.declared.transcript.TranscriptLine.{TranscriptLine}
 use Rattle.zt_lines.specs.Lines.{line_read}
-use Rattle.zt_lines.specs.Transcripts.{Transcript, is_last_line, lines_from, nothing_behind, then_lines, transcript}
+use Rattle.zt_lines.specs.Transcripts.{Transcript, is_last_line, lines_from, nothing_after, then_lines, transcript}
 use Rattle.zt_text.specs.Scripts.{max_script, pieces}
 use Rattle.zt_text.proofs.PieceLaws.{pieces-some}
 use Rattle.zx_outside.specs.Reading.{Gives}
@@ -26,7 +26,7 @@ then_lines-unread n (Some l) later h = h
 cut-unread : (n : ℕ) (p : List ℕ) (ps : List (List ℕ)) → is_some (lines_from true n (p ∷ ps)).1 ≡ true
 cut-unread n p [] = refl
 cut-unread n p (q ∷ ps) =
-    elim (is_last_line p) as (λ b. is_some (if b then nothing_behind true (n + 1) (q ∷ ps) else then_lines n (line_read p) (lines_from true (n + 1) (q ∷ ps))).1 ≡ true) [
+    elim (is_last_line p) as (λ b. is_some (if b then nothing_after true (n + 1) (q ∷ ps) else then_lines n (line_read p) (lines_from true (n + 1) (q ∷ ps))).1 ≡ true) [
       | true ↦ refl
       | false ↦ then_lines-unread n (line_read p) (lines_from true (n + 1) (q ∷ ps)) (cut-unread (n + 1) q ps)
     ]

@@ -14,7 +14,7 @@ use Rattle.zetcd_cmd.specs.declared.script.Script.{Script}
 use Rattle.zetcd_cmd.specs.declared.script.Stop.{Stop}
 use Rattle.zetcd_cmd.specs.declared.script.Stop.TheVariants as stop
 use Rattle.zetcd_cmd.specs.Replayed.{IsOver}
-use Rattle.zetcd_cmd.specs.Scripting.{HasNoLineFeed, Plays, Halts, IsKeptOut, Says, behind, HasRead, Stands, IsApplied, Ends, EndsEarly, IsOverAt}
+use Rattle.zetcd_cmd.specs.Scripting.{HasNoLineFeed, Plays, Halts, IsKeptOut, Says, after, HasRead, Stands, IsApplied, Ends, EndsEarly, IsOverAt}
 use Rattle.zetcd_cmd.proofs.ScriptLaws.{Says-line, script_from-line, line_read-long, script_from-long, script_from-last, script_from-cut}
 
 abbrev no_line_feed : ℕ → Type 0
@@ -40,14 +40,14 @@ Halts-kept_out line w stop.Memory out = tt {0}
 
 -- a line that stands next in the script was not applied
 Ends-at : (input line : List ℕ) (happenings : List Happening) (later : Reading) (w : World) (new : Script) (why : Stop) → Reached happenings w → new.line ≡ length happenings + 1 →
-    script input ≡ behind happenings (then_script (length happenings + 1) (line_read line) later) → Halts line w why new.world → Ends input new why
+    script input ≡ with_first happenings (then_script (length happenings + 1) (line_read line) later) → Halts line w why new.world → Ends input new why
 Ends-at input line happenings later w new (stop.Unread why) reached number read halts = record {
   before = happenings;
   later = [];
   end = Some (length happenings + 1, Unreadable);
   reached = subst (λ (v : World). Reached happenings v) (sym halts.2) reached;
   number = number;
-  read = read ∙ ap (λ o. behind happenings (then_script (length happenings + 1) o later)) halts.1;
+  read = read ∙ ap (λ o. with_first happenings (then_script (length happenings + 1) o later)) halts.1;
   against = let why_is = halts.0 in (why, ap (λ (n : ℕ). Some (n, Unreadable)) (sym number) ∙ ap (λ (u : Unread). Some (new.line, u)) (sym why_is), refl);
 }
 Ends-at input line happenings later w new (stop.Refused why) reached number read halts = record {
@@ -56,7 +56,7 @@ Ends-at input line happenings later w new (stop.Refused why) reached number read
   end = later.1;
   reached = subst (λ (v : World). Reached happenings v) (sym halts.3) reached;
   number = number;
-  read = read ∙ ap (λ o. behind happenings (then_script (length happenings + 1) o later)) halts.1;
+  read = read ∙ ap (λ o. with_first happenings (then_script (length happenings + 1) o later)) halts.1;
   against = (why, subst (λ (v : World). fault v halts.0 ≡ Some why) (sym halts.3) halts.2, refl);
 }
 Ends-at input line happenings later w new stop.Memory reached number read halts = tt {0}
@@ -64,16 +64,16 @@ Ends-at input line happenings later w new stop.Memory reached number read halts 
 -- ---- a line that ends
 
 -- bytes that follow what is pending
-behind_pending : (seen lines pending later : List ℕ) → seen ≡ lines ++ pending → seen ++ later ≡ lines ++ (pending ++ later)
-behind_pending seen lines pending later parts = ap (λ t. t ++ later) parts ∙ append_assoc lines pending later
+after_pending : (seen lines pending later : List ℕ) → seen ≡ lines ++ pending → seen ++ later ≡ lines ++ (pending ++ later)
+after_pending seen lines pending later parts = ap (λ t. t ++ later) parts ∙ append_assoc lines pending later
 
-line_behind : (seen lines pending bytes rest : List ℕ) → seen ≡ lines ++ pending → seen ++ (bytes ++ 10 ∷ rest) ≡ lines ++ ((pending ++ bytes) ++ 10 ∷ rest)
-line_behind seen lines pending bytes rest parts =
-    behind_pending seen lines pending (bytes ++ 10 ∷ rest) parts ∙ ap (λ t. lines ++ t) (sym (append_assoc pending bytes (10 ∷ rest)))
+line_after : (seen lines pending bytes rest : List ℕ) → seen ≡ lines ++ pending → seen ++ (bytes ++ 10 ∷ rest) ≡ lines ++ ((pending ++ bytes) ++ 10 ∷ rest)
+line_after seen lines pending bytes rest parts =
+    after_pending seen lines pending (bytes ++ 10 ∷ rest) parts ∙ ap (λ t. lines ++ t) (sym (append_assoc pending bytes (10 ∷ rest)))
 
 -- how much was read
-length-behind : (seen lines pending bytes : List ℕ) → seen ≡ lines ++ pending → length (seen ++ bytes) ≡ length lines + length (pending ++ bytes)
-length-behind seen lines pending bytes parts = ap length (behind_pending seen lines pending bytes parts) ∙ length-append lines (pending ++ bytes)
+length-after : (seen lines pending bytes : List ℕ) → seen ≡ lines ++ pending → length (seen ++ bytes) ≡ length lines + length (pending ++ bytes)
+length-after seen lines pending bytes parts = ap length (after_pending seen lines pending bytes parts) ∙ length-append lines (pending ++ bytes)
 
 pub HasRead-line : (seen bytes : List ℕ) (old new : Script) → HasNoLineFeed bytes → Plays (old.pending.items ++ bytes) old.world new.world → new.pending.items ≡ [] →
     new.line ≡ min (old.line + 1) (2 ^ 64 - 1) → HasRead seen old → length (seen ++ bytes) < max_script → HasRead (seen ++ (bytes ++ 10 ∷ [])) new
@@ -82,13 +82,13 @@ HasRead-line seen bytes old new lacks plays empty next r fits =
     let text = seen ++ (bytes ++ 10 ∷ []) in
     let applied = plays r.happenings r.reached in
     let many = r.says.many in
-    let size = length-behind seen r.lines old.pending.items bytes r.parts in
+    let size = length-after seen r.lines old.pending.items bytes r.parts in
     let count : length (r.happenings ++ applied.0 ∷ []) ≡ length r.happenings + 1 = length-append r.happenings (applied.0 ∷ []) in
     let number = r.number in
     record {
       lines = text;
       happenings = r.happenings ++ applied.0 ∷ [];
-      says = Says-line r.lines line text r.happenings applied.0 r.says (All-append no_line_feed old.pending.items bytes r.begun lacks) applied.1 (line_behind seen r.lines old.pending.items bytes [] r.parts);
+      says = Says-line r.lines line text r.happenings applied.0 r.says (All-append no_line_feed old.pending.items bytes r.begun lacks) applied.1 (line_after seen r.lines old.pending.items bytes [] r.parts);
       parts = sym (ap (λ p. text ++ p) empty ∙ append-nil text);
       begun = subst HasNoLineFeed (sym empty) (All-nil no_line_feed);
       short = rw empty (omega arith);
@@ -100,11 +100,11 @@ pub Ends-line : (seen bytes rest : List ℕ) (old new : Script) (why : Stop) →
     HasRead seen old → length (seen ++ bytes) < max_script → Ends (seen ++ (bytes ++ 10 ∷ rest)) new why
 Ends-line seen bytes rest old new why lacks halts same r fits =
     let line = old.pending.items ++ bytes in
-    let size = length-behind seen r.lines old.pending.items bytes r.parts in
+    let size = length-after seen r.lines old.pending.items bytes r.parts in
     let at = script_from-line max_script r.lines line rest r.happenings r.says (All-append no_line_feed old.pending.items bytes r.begun lacks) (omega arith) in
     let input = seen ++ (bytes ++ 10 ∷ rest) in
     Ends-at input line r.happenings at.0 old.world new why r.reached (same ∙ r.number)
-    (script-from input ∙ ap (script_from 1 max_script) (line_behind seen r.lines old.pending.items bytes rest r.parts) ∙ at.1) halts
+    (script-from input ∙ ap (script_from 1 max_script) (line_after seen r.lines old.pending.items bytes rest r.parts) ∙ at.1) halts
 
 -- ---- a line that goes on
 
@@ -114,7 +114,7 @@ HasRead-begun seen bytes old new lacks grown short world line r = record {
   lines = r.lines;
   happenings = r.happenings;
   says = r.says;
-  parts = behind_pending seen r.lines old.pending.items bytes r.parts ∙ ap (λ p. r.lines ++ p) (sym grown);
+  parts = after_pending seen r.lines old.pending.items bytes r.parts ∙ ap (λ p. r.lines ++ p) (sym grown);
   begun = subst HasNoLineFeed (sym grown) (All-append no_line_feed old.pending.items bytes r.begun lacks);
   short = short;
   number = line ∙ r.number;
@@ -125,10 +125,10 @@ pub Ends-begun : (seen bytes rest : List ℕ) (old new : Script) (why : Stop) �
     HasRead seen old → length (seen ++ bytes) ≤ max_script → Ends ((seen ++ bytes) ++ rest) new why
 Ends-begun seen bytes rest old new (stop.Unread why) lacks out world line r fits =
     let begun = old.pending.items ++ bytes in
-    let size = length-behind seen r.lines old.pending.items bytes r.parts in
+    let size = length-after seen r.lines old.pending.items bytes r.parts in
     let input = (seen ++ bytes) ++ rest in
     let place : input ≡ r.lines ++ (begun ++ rest) =
-    ap (λ t. t ++ rest) (behind_pending seen r.lines old.pending.items bytes r.parts) ∙ append_assoc r.lines begun rest in
+    ap (λ t. t ++ rest) (after_pending seen r.lines old.pending.items bytes r.parts) ∙ append_assoc r.lines begun rest in
     record {
       before = r.happenings;
       later = [];
@@ -167,14 +167,14 @@ Goes-line old now new bytes rest line later parts one goes seen r fits =
     )
 
 pub Goes-halts : (old now new : Script) (bytes rest line later : List ℕ) (why : Stop) → rest ≡ line ++ 10 ∷ later →
-    ((seen behind : List ℕ) → HasRead seen now → length (seen ++ line) < max_script → Ends (seen ++ (line ++ 10 ∷ behind)) new why) → Goes old bytes now rest →
-    (seen behind : List ℕ) → HasRead seen old → length (seen ++ bytes) ≤ max_script → Ends ((seen ++ bytes) ++ behind) new why
-Goes-halts old now new bytes rest line later why parts one goes seen behind r fits =
+    ((seen after : List ℕ) → HasRead seen now → length (seen ++ line) < max_script → Ends (seen ++ (line ++ 10 ∷ after)) new why) → Goes old bytes now rest →
+    (seen after : List ℕ) → HasRead seen old → length (seen ++ bytes) ≤ max_script → Ends ((seen ++ bytes) ++ after) new why
+Goes-halts old now new bytes rest line later why parts one goes seen after r fits =
     let far = goes seen r fits in
     let whole : seen ++ bytes ≡ far.0 ++ (line ++ 10 ∷ later) = far.2 ∙ ap (λ t. far.0 ++ t) parts in
-    let place : (seen ++ bytes) ++ behind ≡ far.0 ++ (line ++ 10 ∷ (later ++ behind)) =
-    ap (λ t. t ++ behind) whole ∙ append_assoc far.0 (line ++ 10 ∷ later) behind ∙ ap (λ t. far.0 ++ t) (append_assoc line (10 ∷ later) behind) in
-    subst (λ (t : List ℕ). Ends t new why) (sym place) (one far.0 (later ++ behind) far.1 (line_fits (seen ++ bytes) far.0 line later whole fits))
+    let place : (seen ++ bytes) ++ after ≡ far.0 ++ (line ++ 10 ∷ (later ++ after)) =
+    ap (λ t. t ++ after) whole ∙ append_assoc far.0 (line ++ 10 ∷ later) after ∙ ap (λ t. far.0 ++ t) (append_assoc line (10 ∷ later) after) in
+    subst (λ (t : List ℕ). Ends t new why) (sym place) (one far.0 (later ++ after) far.1 (line_fits (seen ++ bytes) far.0 line later whole fits))
 
 pub Goes-begun : (old now new : Script) (bytes rest : List ℕ) → HasNoLineFeed rest → new.pending.items ≡ now.pending.items ++ rest → length new.pending.items ≤ max_line →
     new.world ≡ now.world → new.line ≡ now.line → Goes old bytes now rest → (seen : List ℕ) → HasRead seen old → length (seen ++ bytes) ≤ max_script → HasRead (seen ++ bytes) new
@@ -183,11 +183,11 @@ Goes-begun old now new bytes rest lacks grown short world line goes seen r fits 
     subst (λ (t : List ℕ). HasRead t new) (sym far.2) (HasRead-begun far.0 rest now new lacks grown short world line far.1)
 
 pub Goes-kept_out : (old now new : Script) (bytes rest : List ℕ) (why : Stop) → HasNoLineFeed rest → IsKeptOut (now.pending.items ++ rest) why → new.world ≡ now.world → new.line ≡ now.line →
-    Goes old bytes now rest → (seen behind : List ℕ) → HasRead seen old → length (seen ++ bytes) ≤ max_script → Ends ((seen ++ bytes) ++ behind) new why
-Goes-kept_out old now new bytes rest why lacks out world line goes seen behind r fits =
+    Goes old bytes now rest → (seen after : List ℕ) → HasRead seen old → length (seen ++ bytes) ≤ max_script → Ends ((seen ++ bytes) ++ after) new why
+Goes-kept_out old now new bytes rest why lacks out world line goes seen after r fits =
     let far = goes seen r fits in
-    subst (λ (t : List ℕ). Ends (t ++ behind) new why) (sym far.2)
-    (Ends-begun far.0 rest behind now new why lacks out world line far.1 (subst (λ (t : List ℕ). length t ≤ max_script) far.2 fits))
+    subst (λ (t : List ℕ). Ends (t ++ after) new why) (sym far.2)
+    (Ends-begun far.0 rest after now new why lacks out world line far.1 (subst (λ (t : List ℕ). length t ≤ max_script) far.2 fits))
 
 -- ---- whole pieces
 
@@ -195,7 +195,7 @@ piece_fits : (seen piece : List ℕ) (room : ℕ) → length seen + room ≡ max
 piece_fits seen piece room left fits = rw (length-append seen piece) (omega arith)
 
 pub Ends-piece : (seen piece rest : List ℕ) (old new : Script) (why : Stop) → length piece ≤ old.room →
-    ((seen behind : List ℕ) → HasRead seen old → length (seen ++ piece) ≤ max_script → Ends ((seen ++ piece) ++ behind) new why) → Stands seen old → Ends ((seen ++ piece) ++ rest) new why
+    ((seen after : List ℕ) → HasRead seen old → length (seen ++ piece) ≤ max_script → Ends ((seen ++ piece) ++ after) new why) → Stands seen old → Ends ((seen ++ piece) ++ rest) new why
 Ends-piece seen piece rest old new why fits one s = one seen rest s.read (piece_fits seen piece old.room s.room fits)
 
 -- a piece that has more bytes than may come
@@ -206,7 +206,7 @@ front_place seen piece rest room =
     ∙ append_assoc (seen ++ take room piece) (drop room piece) rest
 
 pub Ends-front : (seen piece front rest : List ℕ) (old new : Script) (why : Stop) → front ≡ take old.room piece → length front ≤ old.room →
-    ((seen behind : List ℕ) → HasRead seen old → length (seen ++ front) ≤ max_script → Ends ((seen ++ front) ++ behind) new why) → Stands seen old → Ends ((seen ++ piece) ++ rest) new why
+    ((seen after : List ℕ) → HasRead seen old → length (seen ++ front) ≤ max_script → Ends ((seen ++ front) ++ after) new why) → Stands seen old → Ends ((seen ++ piece) ++ rest) new why
 Ends-front seen piece front rest old new why front_is fits one s =
     subst (λ (t : List ℕ). Ends t new why) (sym (front_place seen piece rest old.room ∙ ap (λ t. (seen ++ t) ++ (drop old.room piece ++ rest)) (sym front_is)))
     (Ends-piece seen front (drop old.room piece ++ rest) old new why fits one s)
@@ -221,7 +221,7 @@ Ends-cut seen rest s r full more =
       end = Some (length r.happenings + 1, TooLong);
       reached = r.reached;
       number = r.number;
-      read = script-from (seen ++ rest) ∙ ap (script_from 1 max_script) (behind_pending seen r.lines s.pending.items rest r.parts)
+      read = script-from (seen ++ rest) ∙ ap (script_from 1 max_script) (after_pending seen r.lines s.pending.items rest r.parts)
           ∙ script_from-cut max_script r.lines s.pending.items rest r.happenings r.says r.begun r.short (sym size ∙ full) more
           ∙ ap (λ (hs : List Happening). (hs, Some (length r.happenings + 1, TooLong))) (sym (append-nil r.happenings));
       against = (TooLong, ap (λ (n : ℕ). Some (n, TooLong)) (sym r.number), refl);
@@ -244,7 +244,7 @@ last_line-some n [] some = absurd (omega arith)
 last_line-some n (b ∷ bs) some = refl
 
 -- what is read of it all
-script-seen : (seen : List ℕ) (s : Script) (r : HasRead seen s) → length seen ≤ max_script → script seen ≡ behind r.happenings (last_line false (length r.happenings + 1) s.pending.items)
+script-seen : (seen : List ℕ) (s : Script) (r : HasRead seen s) → length seen ≤ max_script → script seen ≡ after r.happenings (last_line false (length r.happenings + 1) s.pending.items)
 script-seen seen s r fits =
     let size : length seen ≡ length r.lines + length s.pending.items = ap length r.parts ∙ length-append r.lines s.pending.items in
     script-from seen ∙ ap (script_from 1 max_script) r.parts ∙ script_from-last max_script r.lines s.pending.items r.happenings r.says r.begun (omega arith)
@@ -256,7 +256,7 @@ IsApplied-whole seen s empty st =
     record {
       happenings = hs;
       reached = st.read.reached;
-      read = script-seen seen s st.read (omega arith) ∙ ap (λ p. behind hs (last_line false (length hs + 1) p)) empty ∙ ap (λ (all : List Happening). (all, None)) (append-nil hs);
+      read = script-seen seen s st.read (omega arith) ∙ ap (λ p. with_first hs (last_line false (length hs + 1) p)) empty ∙ ap (λ (all : List Happening). (all, None)) (append-nil hs);
     }
 
 pub IsApplied-line : (seen : List ℕ) (old new : Script) → 0 < length old.pending.items → Plays old.pending.items old.world new.world → Stands seen old → IsApplied seen new
@@ -268,8 +268,8 @@ IsApplied-line seen old new some plays st =
       happenings = hs ++ applied.0 ∷ [];
       reached = applied.2;
       read = script-seen seen old st.read (omega arith)
-          ∙ ap (behind hs) (last_line-some (length hs + 1) old.pending.items some)
-          ∙ ap (λ o. behind hs (then_script (length hs + 1) o ([], None))) applied.1;
+          ∙ ap (with_first hs) (last_line-some (length hs + 1) old.pending.items some)
+          ∙ ap (λ o. with_first hs (then_script (length hs + 1) o ([], None))) applied.1;
     }
 
 pub Ends-last : (seen : List ℕ) (old new : Script) (why : Stop) → 0 < length old.pending.items → Halts old.pending.items old.world why new.world → new.line ≡ old.line → Stands seen old → Ends seen new why
@@ -277,7 +277,7 @@ Ends-last seen old new why some halts same st =
     let left = st.room in
     let hs = st.read.happenings in
     Ends-at seen old.pending.items hs ([], None) old.world new why st.read.reached (same ∙ st.read.number)
-    (script-seen seen old st.read (omega arith) ∙ ap (behind hs) (last_line-some (length hs + 1) old.pending.items some)) halts
+    (script-seen seen old st.read (omega arith) ∙ ap (with_first hs) (last_line-some (length hs + 1) old.pending.items some)) halts
 
 -- what the lines say that were applied
 pub script-lines : (seen : List ℕ) (s : Script) (st : Stands seen s) → script st.read.lines ≡ (st.read.happenings, None)
@@ -292,11 +292,11 @@ script-lines seen s st =
 -- with its line feed
 pub IsOver-line : (seen bytes rest : List ℕ) (old : Script) (n : ℕ) → n ≡ old.line → HasRead seen old → length (seen ++ bytes) < max_script → IsOver (seen ++ (bytes ++ 10 ∷ rest)) n
 IsOver-line seen bytes rest old n same r fits =
-    let size = length-behind seen r.lines old.pending.items bytes r.parts in
+    let size = length-after seen r.lines old.pending.items bytes r.parts in
     record {
       lines = r.lines;
       rest = (old.pending.items ++ bytes) ++ 10 ∷ rest;
-      parts = line_behind seen r.lines old.pending.items bytes rest r.parts;
+      parts = line_after seen r.lines old.pending.items bytes rest r.parts;
       whole = r.says.whole;
       happenings = r.happenings;
       says = script-says r.lines r.happenings r.says (omega arith);
@@ -307,11 +307,11 @@ IsOver-line seen bytes rest old n same r fits =
 -- longer than a line may be
 IsOver-long : (seen bytes : List ℕ) (old : Script) (n : ℕ) → n ≡ old.line → HasRead seen old → length (seen ++ bytes) ≤ max_script → max_line < length (old.pending.items ++ bytes) → IsOver (seen ++ bytes) n
 IsOver-long seen bytes old n same r fits long =
-    let size = length-behind seen r.lines old.pending.items bytes r.parts in
+    let size = length-after seen r.lines old.pending.items bytes r.parts in
     record {
       lines = r.lines;
       rest = old.pending.items ++ bytes;
-      parts = behind_pending seen r.lines old.pending.items bytes r.parts;
+      parts = after_pending seen r.lines old.pending.items bytes r.parts;
       whole = r.says.whole;
       happenings = r.happenings;
       says = script-says r.lines r.happenings r.says (omega arith);
@@ -326,7 +326,7 @@ IsOver-script seen rest s r full more =
     record {
       lines = r.lines;
       rest = s.pending.items ++ rest;
-      parts = behind_pending seen r.lines s.pending.items rest r.parts;
+      parts = after_pending seen r.lines s.pending.items rest r.parts;
       whole = r.says.whole;
       happenings = r.happenings;
       says = script-says r.lines r.happenings r.says (omega arith);
@@ -340,7 +340,7 @@ over_at read s (stop.Refused why) over = over
 over_at read s stop.Memory over = tt {0}
 
 pub Over-halts : (old now new : Script) (bytes rest line later : List ℕ) (why : Stop) → rest ≡ line ++ 10 ∷ later →
-    ((seen behind : List ℕ) → HasRead seen now → length (seen ++ line) < max_script → IsOver (seen ++ (line ++ 10 ∷ behind)) new.line) → Goes old bytes now rest →
+    ((seen after : List ℕ) → HasRead seen now → length (seen ++ line) < max_script → IsOver (seen ++ (line ++ 10 ∷ after)) new.line) → Goes old bytes now rest →
     (seen : List ℕ) → HasRead seen old → length (seen ++ bytes) ≤ max_script → IsOverAt (seen ++ bytes) new why
 Over-halts old now new bytes rest line later why parts one goes seen r fits =
     let far = goes seen r fits in
@@ -368,7 +368,7 @@ ends_early read s (stop.Refused why) ends over = (ends, over)
 ends_early read s stop.Memory ends over = tt {0}
 
 pub EndsEarly-piece : (seen piece : List ℕ) (old new : Script) (why : Stop) → length piece ≤ old.room →
-    ((seen behind : List ℕ) → HasRead seen old → length (seen ++ piece) ≤ max_script → Ends ((seen ++ piece) ++ behind) new why) →
+    ((seen after : List ℕ) → HasRead seen old → length (seen ++ piece) ≤ max_script → Ends ((seen ++ piece) ++ after) new why) →
     ((seen : List ℕ) → HasRead seen old → length (seen ++ piece) ≤ max_script → IsOverAt (seen ++ piece) new why) → Stands seen old → EndsEarly (seen ++ piece) new why
 EndsEarly-piece seen piece old new why fits ends over s =
     let short = piece_fits seen piece old.room s.room fits in
@@ -399,7 +399,7 @@ over_more read rest s (stop.Refused why) over = IsOver-more read rest s.line ove
 over_more read rest s stop.Memory over = tt {0}
 
 pub EndsEarly-front : (seen piece front : List ℕ) (old new : Script) (why : Stop) → front ≡ take old.room piece → length front ≤ old.room →
-    ((seen behind : List ℕ) → HasRead seen old → length (seen ++ front) ≤ max_script → Ends ((seen ++ front) ++ behind) new why) →
+    ((seen after : List ℕ) → HasRead seen old → length (seen ++ front) ≤ max_script → Ends ((seen ++ front) ++ after) new why) →
     ((seen : List ℕ) → HasRead seen old → length (seen ++ front) ≤ max_script → IsOverAt (seen ++ front) new why) → Stands seen old → EndsEarly (seen ++ piece) new why
 EndsEarly-front seen piece front old new why front_is fits ends over s =
     let short = piece_fits seen front old.room s.room fits in

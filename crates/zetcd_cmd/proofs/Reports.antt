@@ -10,7 +10,7 @@ use Rattle.zx_outside.specs.Writing.{Takes}
 use Rattle.zx_outside.proofs.Streams.{append_known-nil, Takes-append}
 use Rattle.zetcd_cmd.specs.Outcomes.{TakesSome}
 use Rattle.zetcd_cmd.specs.Reporting.{Passes}
-use Rattle.zetcd_cmd.proofs.Fronts.{TakesSome-behind, TakesSome-more}
+use Rattle.zetcd_cmd.proofs.Fronts.{TakesSome-after, TakesSome-more}
 
 pub Passes-nil : (buffer : List ℕ) (taken : Option (List ℕ)) → Passes [] buffer buffer taken taken
 Passes-nil buffer taken = ([], sym (append-nil buffer), sym (append_known-nil taken))
@@ -44,7 +44,7 @@ pub TakesSome-passed : (first second buffer buffer' : List ℕ) (taken taken' ta
 TakesSome-passed first second buffer buffer' taken taken' taken'' early some =
     subst (λ (t : List ℕ). TakesSome t taken taken'')
     (sym (append_assoc early.0 buffer' second) ∙ ap (λ t. t ++ second) early.1 ∙ append_assoc buffer first second)
-    (TakesSome-behind early.0 (buffer' ++ second) taken taken' taken'' early.2 some)
+    (TakesSome-after early.0 (buffer' ++ second) taken taken' taken'' early.2 some)
 
 -- the lines up to one are the front of them all
 pub transcript_text-parts : (lines : List TranscriptLine) (i : ℕ) → transcript_text lines ≡ transcript_text (take i lines) ++ transcript_text (drop i lines)

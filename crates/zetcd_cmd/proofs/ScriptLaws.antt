@@ -11,7 +11,7 @@ use Rattle.zt_text.specs.declared.script.Happening.{Happening}
 use Rattle.zt_text.specs.declared.script.Unread.TheVariants.{Unreadable, TooLong}
 use Rattle.zt_text.specs.Scripts.{Script, pieces, lines_from, last_line, then_script, line_read, max_line, script_from}
 use Rattle.zt_text.proofs.PieceLaws.{pieces-none, pieces-first, pieces-some}
-use Rattle.zetcd_cmd.specs.Scripting.{HasNoLineFeed, Says, behind}
+use Rattle.zetcd_cmd.specs.Scripting.{HasNoLineFeed, Says, with_first}
 
 -- ---- one line more
 
@@ -27,8 +27,8 @@ lines_from-first is_cut n line rest lacks =
     ap (lines_from is_cut n) (pieces-first 10 line rest lacks ∙ ap (λ ps. line ∷ ps) some.2)
     ∙ ap (λ ps. then_script n (line_read line) (lines_from is_cut (n + 1) ps)) (sym some.2)
 
-behind-more : (happenings : List Happening) (h : Happening) (later : Script) → behind happenings (h ∷ later.0, later.1) ≡ behind (happenings ++ h ∷ []) later
-behind-more happenings h later = ap (λ (hs : List Happening). (hs, later.1)) (sym (append_assoc happenings (h ∷ []) later.0))
+after-more : (happenings : List Happening) (h : Happening) (later : Script) → with_first happenings (h ∷ later.0, later.1) ≡ with_first (happenings ++ h ∷ []) later
+after-more happenings h later = ap (λ (hs : List Happening). (hs, later.1)) (sym (append_assoc happenings (h ∷ []) later.0))
 
 pub Says-line : (lines line text : List ℕ) (happenings : List Happening) (h : Happening) → Says lines happenings → HasNoLineFeed line → line_read line ≡ Some h →
     text ≡ lines ++ (line ++ 10 ∷ []) → Says text (happenings ++ h ∷ [])
@@ -42,10 +42,10 @@ Says-line lines line text happenings h s lacks read text_is =
           ap (λ t. t ++ rest) text_is ∙ append_assoc lines (line ++ 10 ∷ []) rest ∙ ap (λ t. lines ++ t) (append_assoc line (10 ∷ []) rest) in
           ap (λ t. lines_from is_cut 1 (pieces 10 t)) place
           ∙ s.says is_cut (line ++ 10 ∷ rest)
-          ∙ ap (behind happenings) (lines_from-first is_cut (length happenings + 1) line rest lacks
+          ∙ ap (with_first happenings) (lines_from-first is_cut (length happenings + 1) line rest lacks
           ∙ ap (λ r. then_script (length happenings + 1) r (lines_from is_cut (length happenings + 1 + 1) (pieces 10 rest))) read)
-          ∙ behind-more happenings h (lines_from is_cut (length happenings + 1 + 1) (pieces 10 rest))
-          ∙ ap (λ n. behind (happenings ++ h ∷ []) (lines_from is_cut (n + 1) (pieces 10 rest))) (sym count);
+          ∙ after-more happenings h (lines_from is_cut (length happenings + 1 + 1) (pieces 10 rest))
+          ∙ ap (λ n. with_first (happenings ++ h ∷ []) (lines_from is_cut (n + 1) (pieces 10 rest))) (sym count);
       whole = inr (lines ++ line, text_is ∙ sym (append_assoc lines line (10 ∷ [])));
       many = rw (text_is, size, count) (omega arith);
     }
@@ -54,7 +54,7 @@ Says-line lines line text happenings h s lacks read text_is =
 
 -- the lines say the same in a script, and what follows them may be cut
 script_from-lines : (room : ℕ) (lines tail : List ℕ) (happenings : List Happening) → Says lines happenings → length lines ≤ room →
-    script_from 1 room (lines ++ tail) ≡ behind happenings (lines_from (nat_lt room (length (lines ++ tail))) (length happenings + 1) (pieces 10 (take (room - length lines) tail)))
+    script_from 1 room (lines ++ tail) ≡ with_first happenings (lines_from (nat_lt room (length (lines ++ tail))) (length happenings + 1) (pieces 10 (take (room - length lines) tail)))
 unfolding script_from
 script_from-lines room lines tail happenings s fits =
     let size : room ≡ length lines + (room - length lines) = omega arith in
@@ -64,7 +64,7 @@ script_from-lines room lines tail happenings s fits =
 
 -- a line follows them that ends within the room
 pub script_from-line : (room : ℕ) (lines line rest : List ℕ) (happenings : List Happening) → Says lines happenings → HasNoLineFeed line → length lines + length line < room →
-    (later : Script) × (script_from 1 room (lines ++ (line ++ 10 ∷ rest)) ≡ behind happenings (then_script (length happenings + 1) (line_read line) later))
+    (later : Script) × (script_from 1 room (lines ++ (line ++ 10 ∷ rest)) ≡ with_first happenings (then_script (length happenings + 1) (line_read line) later))
 script_from-line room lines line rest happenings s lacks fits =
     let tail = line ++ 10 ∷ rest in
     let is_cut = nat_lt room (length (lines ++ tail)) in
@@ -74,8 +74,8 @@ script_from-line room lines line rest happenings s lacks fits =
     ap (λ n. take n tail) size ∙ take-append-add line (10 ∷ rest) (suc more) in (
       lines_from is_cut (length happenings + 1 + 1) (pieces 10 (take more rest)),
       script_from-lines room lines tail happenings s (omega arith)
-          ∙ ap (λ t. behind happenings (lines_from is_cut (length happenings + 1) (pieces 10 t))) front
-          ∙ ap (behind happenings) (lines_from-first is_cut (length happenings + 1) line (take more rest) lacks),
+          ∙ ap (λ t. with_first happenings (lines_from is_cut (length happenings + 1) (pieces 10 t))) front
+          ∙ ap (with_first happenings) (lines_from-first is_cut (length happenings + 1) line (take more rest) lacks),
     )
 
 -- ---- a line that is too long
@@ -112,23 +112,23 @@ script_from-long room lines begun rest happenings s lacks long fits =
     let first = begun ++ split.0 in
     let long_first : max_line < length first = rw (length-append begun split.0) (omega arith) in
     script_from-lines room lines tail happenings s (omega arith)
-    ∙ ap (λ t. behind happenings (lines_from is_cut (length happenings + 1) (pieces 10 t))) front
-    ∙ ap (λ ps. behind happenings (lines_from is_cut (length happenings + 1) ps)) split.2
-    ∙ ap (behind happenings) (lines_from-long is_cut (length happenings + 1) first split.1 (lt-ltb max_line (length first) long_first) (line_read-long first long_first))
+    ∙ ap (λ t. with_first happenings (lines_from is_cut (length happenings + 1) (pieces 10 t))) front
+    ∙ ap (λ ps. with_first happenings (lines_from is_cut (length happenings + 1) ps)) split.2
+    ∙ ap (with_first happenings) (lines_from-long is_cut (length happenings + 1) first split.1 (lt-ltb max_line (length first) long_first) (line_read-long first long_first))
     ∙ ap (λ (hs : List Happening). (hs, Some (length happenings + 1, Unreadable))) (append-nil happenings)
 
 -- ---- a script that ends
 
 -- a last line without a line feed follows them, or nothing
 pub script_from-last : (room : ℕ) (lines line : List ℕ) (happenings : List Happening) → Says lines happenings → HasNoLineFeed line → length lines + length line ≤ room →
-    script_from 1 room (lines ++ line) ≡ behind happenings (last_line false (length happenings + 1) line)
+    script_from 1 room (lines ++ line) ≡ with_first happenings (last_line false (length happenings + 1) line)
 script_from-last room lines line happenings s lacks fits =
     let whole : take (room - length lines) line ≡ line = take_all (room - length lines) line (omega arith) in
     let uncut : nat_lt room (length (lines ++ line)) ≡ false = le-ltb room (length (lines ++ line)) (rw (length-append lines line) fits) in
     script_from-lines room lines line happenings s (omega arith)
-    ∙ ap (λ t. behind happenings (lines_from (nat_lt room (length (lines ++ line))) (length happenings + 1) (pieces 10 t))) whole
-    ∙ ap (λ b. behind happenings (lines_from b (length happenings + 1) (pieces 10 line))) uncut
-    ∙ ap (λ ps. behind happenings (lines_from false (length happenings + 1) ps)) (pieces-none 10 line lacks)
+    ∙ ap (λ t. with_first happenings (lines_from (nat_lt room (length (lines ++ line))) (length happenings + 1) (pieces 10 t))) whole
+    ∙ ap (λ b. with_first happenings (lines_from b (length happenings + 1) (pieces 10 line))) uncut
+    ∙ ap (λ ps. with_first happenings (lines_from false (length happenings + 1) ps)) (pieces-none 10 line lacks)
 
 -- a line follows them in which the room ends
 pub script_from-cut : (room : ℕ) (lines line rest : List ℕ) (happenings : List Happening) → Says lines happenings → HasNoLineFeed line → length line ≤ max_line →
@@ -140,8 +140,8 @@ script_from-cut room lines line rest happenings s lacks short full more =
     let size : length (lines ++ tail) ≡ length lines + (length line + length rest) = length-append lines tail ∙ ap (λ n. length lines + n) (length-append line rest) in
     let cut : nat_lt room (length (lines ++ tail)) ≡ true = lt-ltb room (length (lines ++ tail)) (rw size (omega arith)) in
     script_from-lines room lines tail happenings s (omega arith)
-    ∙ ap (λ t. behind happenings (lines_from (nat_lt room (length (lines ++ tail))) (length happenings + 1) (pieces 10 t))) front
-    ∙ ap (λ b. behind happenings (lines_from b (length happenings + 1) (pieces 10 line))) cut
-    ∙ ap (λ ps. behind happenings (lines_from true (length happenings + 1) ps)) (pieces-none 10 line lacks)
-    ∙ ap (λ b. behind happenings ([], Some (length happenings + 1, if b then Unreadable else TooLong))) (le-ltb max_line (length line) short)
+    ∙ ap (λ t. with_first happenings (lines_from (nat_lt room (length (lines ++ tail))) (length happenings + 1) (pieces 10 t))) front
+    ∙ ap (λ b. with_first happenings (lines_from b (length happenings + 1) (pieces 10 line))) cut
+    ∙ ap (λ ps. with_first happenings (lines_from true (length happenings + 1) ps)) (pieces-none 10 line lacks)
+    ∙ ap (λ b. with_first happenings ([], Some (length happenings + 1, if b then Unreadable else TooLong))) (le-ltb max_line (length line) short)
     ∙ ap (λ (hs : List Happening). (hs, Some (length happenings + 1, TooLong))) (append-nil happenings)

@@ -19,7 +19,7 @@ use Rattle.zetcd_cmd.specs.declared.status.Status.{Status}
 use Rattle.zetcd_cmd.specs.declared.status.Status.TheVariants as status
 use Rattle.zetcd_cmd.specs.Outcomes.{Did, IsAtItsEnd, IsFront, IsBegun, ShowWrites, Shows, TakesSome, IsUnharmed, Failed}
 use Rattle.zetcd_cmd.specs.Streaming.{status_at, Closes, Finishes, IsOpen, counts_at}
-use Rattle.zetcd_cmd.proofs.Fronts.{TakesSome-behind}
+use Rattle.zetcd_cmd.proofs.Fronts.{TakesSome-after}
 
 -- ---- piece by piece
 
@@ -154,7 +154,7 @@ front_in : (found : Option Ending) (seen piece text : List ℕ) (lines : List (L
     Takes (joined lines) taken taken' → Adds found s piece [] text new → TakesSome text taken' taken'' →
     (output : List ℕ) × Takes output taken taken'' × IsFront (λ other whole. ShowWrites other ended left (seen ++ piece) whole) output
 front_in None seen piece text lines s new ended left taken taken' taken'' follows takes adds some =
-    let far = TakesSome-behind (joined lines) text taken taken' taken'' takes some in (
+    let far = TakesSome-after (joined lines) text taken taken' taken'' takes some in (
       far.0,
       far.3,
       (
@@ -166,7 +166,7 @@ front_in None seen piece text lines s new ended left taken taken' taken'' follow
       ),
     )
 front_in (Some end) seen piece text lines s new ended left taken taken' taken'' follows takes adds some =
-    let far = TakesSome-behind (joined lines) text taken taken' taken'' takes some in (
+    let far = TakesSome-after (joined lines) text taken taken' taken'' takes some in (
       far.0,
       far.3,
       (
@@ -221,7 +221,7 @@ Did-finished close.ReadFault seen lines s new ended given given' left left' take
 Did-finished close.WriteFault seen lines s new ended given given' left left' taken taken' taken'' gives whole follows takes finishes =
     let end = finishes.0 in
     let text = finishes.2 in
-    let far = TakesSome-behind (joined lines) finishes.1 taken taken' taken'' takes finishes.3 in
+    let far = TakesSome-after (joined lines) finishes.1 taken taken' taken'' takes finishes.3 in
     record {
       read = seen;
       output = far.0;

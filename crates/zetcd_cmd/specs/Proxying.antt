@@ -47,10 +47,10 @@ status_of (ends.Feed end) = status.Feed end
 --
 -- 0: it listened, as many clients as the limit allows were accepted, and there is one line about each: `closed N CAUSE`, or
 -- `closed N no link` where a dial failed. No cause is `feed`.
--- 10: the hub was found closed by this end, which is told behind the lines about all clients so far, but for one at most: the last, who
+-- 10: the hub was found closed by this end, which is told after the lines about all clients so far, but for one at most: the last, who
 -- was accepted as the hub was found closed, and has no number.
 -- 6: the first ask failed or a worker was not started, and `net fault` is all that was written; or a door had a fault, at once or
--- behind the lines so far, of fewer clients than the limit allows.
+-- after the lines so far, of fewer clients than the limit allows.
 -- 5: a front of what was to be written next: a line about a client is about one that has none yet. 7: the lines so far, and perhaps one
 -- more, about such a client.
 abbrev pub Proxies : ℕ → Status → List ℕ → ℕ → ℕ → ℕ → ℕ → ℕ → Seen → Seen → Type 0

@@ -42,12 +42,12 @@ IsKeptOut line stop.Memory = Unit {0}
 -- ---- the script so far
 
 -- what was said before, and then what is read of the rest
-abbrev pub behind : List Happening → Reading → Reading
-behind happenings later = (happenings ++ later.0, later.1)
+abbrev pub with_first : List Happening → Reading → Reading
+with_first happenings later = (happenings ++ later.0, later.1)
 
 -- these bytes are whole lines that say these happenings, whatever follows them
 pub record Says (lines : List ℕ) (happenings : List Happening) : Type 0 where
-  pub says : (is_cut : Bool) (rest : List ℕ) → lines_from is_cut 1 (pieces 10 (lines ++ rest)) ≡ behind happenings (lines_from is_cut (length happenings + 1) (pieces 10 rest))
+  pub says : (is_cut : Bool) (rest : List ℕ) → lines_from is_cut 1 (pieces 10 (lines ++ rest)) ≡ with_first happenings (lines_from is_cut (length happenings + 1) (pieces 10 rest))
   pub whole : IsWholeLines lines
   pub many : length happenings ≤ length lines
 

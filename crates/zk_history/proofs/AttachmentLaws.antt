@@ -60,8 +60,8 @@ find-here : (e : ℤ × Session) (es : Entries) → find int_cmp e.0 (e ∷ es) 
 find-here e es = ap (λ r. cond (is_eq r) (Some e.1) (find int_cmp e.0 es)) (tied_itself int_cmp_total e.0)
 
 -- a session on a connection that the later entries have is not that of the first entry
-find-behind : (c : ℕ) (id : ℤ) (e : ℤ × Session) (es : Entries) → T (below_all int_cmp e.0 es) → is_on c (find int_cmp id es) ≡ true → find int_cmp id (e ∷ es) ≡ find int_cmp id es
-find-behind c id e es below on =
+find-after : (c : ℕ) (id : ℤ) (e : ℤ × Session) (es : Entries) → T (below_all int_cmp e.0 es) → is_on c (find int_cmp id es) ≡ true → find int_cmp id (e ∷ es) ≡ find int_cmp id es
+find-after c id e es below on =
     elim (int_cmp id e.0) as (λ r. int_cmp id e.0 ≡ r → cond (is_eq r) (Some e.1) (find int_cmp id es) ≡ find int_cmp id es) [
       | Less ↦ λ h. refl
       | Equal ↦ λ h.
@@ -86,10 +86,10 @@ least-in c (e ∷ es) id s sorted is on least =
     let on_first : is_attached_to c e ≡ true = ap (λ (x : Session). is_on c (Some x)) same ∙ on in
     ap (λ b. cond b (Some e) (attached_in c es)) on_first ∙ (λ i. Some (sym eq i, same i)))
     (λ h gt.
-    let behind : find int_cmp id es ≡ Some s = sym (ap (λ r. cond (is_eq r) (Some e.1) (find int_cmp id es)) h) ∙ is in
+    let later : find int_cmp id es ≡ Some s = sym (ap (λ r. cond (is_eq r) (Some e.1) (find int_cmp id es)) h) ∙ is in
     elim (is_attached_to c e) as (λ b. is_attached_to c e ≡ b → cond b (Some e) (attached_in c es) ≡ Some (id, s)) [
       | true ↦ λ at. absurd (let up : id ≤ℤ e.0 = least e.0 (ap (is_on c) (find-here e es) ∙ at) in omega (arith, ints))
-      | false ↦ λ at. least-in c es id s (second_part _ _ sorted) behind on (λ other there. least other (ap (is_on c) (find-behind c other e es below there) ∙ there))
+      | false ↦ λ at. least-in c es id s (second_part _ _ sorted) later on (λ other there. least other (ap (is_on c) (find-after c other e es below there) ∙ there))
     ] refl)
 
 none-in : (c : ℕ) (es : Entries) → T (is_sorted int_cmp es) → ((other : ℤ) → is_on c (find int_cmp other es) ≡ false) → attached_in c es ≡ None
@@ -98,7 +98,7 @@ none-in c (e ∷ es) sorted off =
     let here : is_attached_to c e ≡ false = sym (ap (is_on c) (find-here e es)) ∙ off e.0 in
     ap (λ b. cond b (Some e) (attached_in c es)) here
     ∙ none-in c es (second_part _ _ sorted) (λ other. elim (cases_Bool (is_on c (find int_cmp other es))) [
-      | inl on ↦ sym (ap (is_on c) (find-behind c other e es (first_part _ _ sorted) on)) ∙ off other
+      | inl on ↦ sym (ap (is_on c) (find-after c other e es (first_part _ _ sorted) on)) ∙ off other
       | inr not_on ↦ not_on
     ])
 

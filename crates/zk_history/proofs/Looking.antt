@@ -81,12 +81,12 @@ module _ {A : Type 0} (show : TranscriptLine → Option A) (test : TranscriptLin
   pub place-none : first_place (λ x. when (test x) x) 0 lines ≡ None → first_place show 0 lines ≡ None
   place-none e = first_place-marked show test agree 0 lines ∙ ap (shown_at show) e
 
-  behind : (place : ℕ) (o : Option A) → option_map (λ (x : ℕ × A). x.1) (option_map (λ a. (place, a)) o) ≡ o
-  behind place None = refl
-  behind place (Some a) = refl
+  placed_same : (place : ℕ) (o : Option A) → option_map (λ (x : ℕ × A). x.1) (option_map (λ a. (place, a)) o) ≡ o
+  placed_same place None = refl
+  placed_same place (Some a) = refl
 
   pub shown-some : (place : ℕ) (l : TranscriptLine) → first_place (λ x. when (test x) x) 0 lines ≡ Some (place, l) → first_shown show lines ≡ show l
-  shown-some place l e = first_shown-placed show 0 lines ∙ ap (λ o. option_map (λ (x : ℕ × A). x.1) o) (place-some place l e) ∙ behind place (show l)
+  shown-some place l e = first_shown-placed show 0 lines ∙ ap (λ o. option_map (λ (x : ℕ × A). x.1) o) (place-some place l e) ∙ placed_same place (show l)
 
   pub shown-none : first_place (λ x. when (test x) x) 0 lines ≡ None → first_shown show lines ≡ None
   shown-none e = first_shown-placed show 0 lines ∙ ap (λ o. option_map (λ (x : ℕ × A). x.1) o) (place-none e)

@@ -160,7 +160,7 @@ impl<'a> Past<'a> {
     }
 
     /// The place after the last line.
-    pub fn behind(alloc: Global, all: &'a [TranscriptLine]) -> Result<Past<'a>, Memory>
+    pub fn at_end(alloc: Global, all: &'a [TranscriptLine]) -> Result<Past<'a>, Memory>
         ensures len { IfOk result (λ p. p.len ≡ length all.now) }
         ensures all { IfOk result (λ p. p.all.now ≡ all.now) }
     {

@@ -9,7 +9,7 @@ use Rattle.zk_model.specs.Watches.{Watches}
 use Rattle.zk_transcript.specs.Answers.{Told, xid_of}
 use Rattle.zk_transcript.specs.Walks.{Answer, Due, Walker, answer_as_of, fired_above, has_header, may_answer_at, move, own_update, placed_frame, reply_step, reply_step_if, told_as_of}
 use Rattle.zk_judge.specs.NextFrames.{before_frame}
-use Rattle.zk_judge.specs.Seen.{answer_behind}
+use Rattle.zk_judge.specs.Seen.{answer_after}
 
 if-is : {A : Type 0} (b : Bool) (o p : A) → b ≡ true → (if b then o else p) ≡ o
 if-is true o p is = refl
@@ -20,14 +20,14 @@ if-not true o p is = absurd (cc)
 if-not false o p is = refl
 
 pub answered : (past : List TranscriptLine) (c : ℕ) (id : ℤ) (w : Walker) (own : Option (ℕ × UpdateRec)) (k : ℕ) (bytes : List ℕ) (x : Frame)
-    → x ≡ read_request bytes → (may_answer_at past w && has_header x) ≡ true → answer_behind past c id w own k x ≡ answer_as_of past c id w own (Some (k, bytes))
+    → x ≡ read_request bytes → (may_answer_at past w && has_header x) ≡ true → answer_after past c id w own k x ≡ answer_as_of past c id w own (Some (k, bytes))
 unfolding answer_as_of
-answered past c id w own k bytes x is may = rw (← is) (sym (if-is (may_answer_at past w && has_header x) (answer_behind past c id w own k x) None may))
+answered past c id w own k bytes x is may = rw (← is) (sym (if-is (may_answer_at past w && has_header x) (answer_after past c id w own k x) None may))
 
 pub not-answered : (past : List TranscriptLine) (c : ℕ) (id : ℤ) (w : Walker) (own : Option (ℕ × UpdateRec)) (k : ℕ) (bytes : List ℕ) (x : Frame)
     → x ≡ read_request bytes → (may_answer_at past w && has_header x) ≡ false → None ≡ answer_as_of past c id w own (Some (k, bytes))
 unfolding answer_as_of
-not-answered past c id w own k bytes x is may = rw (← is) (sym (if-not (may_answer_at past w && has_header x) (answer_behind past c id w own k x) None may))
+not-answered past c id w own k bytes x is may = rw (← is) (sym (if-not (may_answer_at past w && has_header x) (answer_after past c id w own k x) None may))
 
 -- ---- as choices
 
@@ -74,7 +74,7 @@ same-next past w k i xid ds None same = refl
 same-next past w k i xid ds (Some t) same = ap (λ (j : ℕ). Some (reply_step past (before_frame j) k xid ds t)) same
 
 pub answer-fired : (past : List TranscriptLine) (c : ℕ) (id : ℤ) (w : Walker) (own : Option (ℕ × UpdateRec)) (k i : ℕ) (x : Frame) (g : Watches × List Due) → i ≡ w.next → g ≡ fired_above past w.zxid w.watches
-    → reply_step_if past (before_frame i) k (xid_of x) g.1 (told_as_of past c id x g.0 own) ≡ answer_behind past c id w own k x
+    → reply_step_if past (before_frame i) k (xid_of x) g.1 (told_as_of past c id x g.0 own) ≡ answer_after past c id w own k x
 answer-fired past c id w own k i x g next first =
     same-next past w k i (xid_of x) g.1 (told_as_of past c id x g.0 own) next
     ∙ ap (λ (f : Watches × List Due). reply_step_if past w k (xid_of x) f.1 (told_as_of past c id x f.0 own)) first

@@ -1,7 +1,7 @@
 pub mod Agendas
 pub mod AnswersAsOf
 pub mod ArmedReads
-pub mod Behind
+pub mod RestAfter
 pub mod EachVerdict
 pub mod FrontPackets
 pub mod Fronts

@@ -15,7 +15,7 @@ use Rattle.zk_transcript.specs.Walks.{Answer, Due, Plain, Walker, due_notices, a
 use Rattle.zk_least.specs.LeastMoments.{first_of, moments_for}
 use Rattle.zk_least.specs.LeastQueues.{is_front, then_plainly, told_through, told_up_to}
 use Rattle.zk_least.specs.LeastReplies.{given_at, is_least_by_reply, reply_given}
-use Rattle.zk_least.specs.LeastSteps.{is_least, is_least_behind}
+use Rattle.zk_least.specs.LeastSteps.{is_least, is_least_after}
 use Rattle.zk_least.specs.LeastWalk.{given, is_allowed, next_reply, repeats, zxid_in}
 use Rattle.zk_least.proofs.Ahead.{plainly-by}
 use Rattle.zk_least.proofs.AllowedMoments.{allowed-as}
@@ -31,7 +31,7 @@ use Rattle.zk_least.proofs.Sound.{given-is}
 use Rattle.zk_legal.specs.Faults.{history_fault}
 use Rattle.zk_judge.specs.Fronts.{IsTold}
 use Rattle.zk_judge.specs.Waiting.{IsEarliest, IsNotBefore, goes_on, tried}
-use Rattle.zk_judge.proofs.Behind.{behind-length}
+use Rattle.zk_judge.proofs.RestAfter.{rest_after-length}
 use Rattle.zk_judge.proofs.Fronts.{IsUpdateOf, update-of}
 use Rattle.zk_judge.proofs.Lawful.{legal-when, zxids-when}
 use Rattle.zk_judge.proofs.Tries.{first-fails, first-passes}
@@ -40,7 +40,7 @@ use Rattle.zk_judge.proofs.Tries.{first-fails, first-passes}
 
 pub goes-skip : (lines : List TranscriptLine) (c : ℕ) (id : ℤ) (w : Walker) (ps : List Due) (m : ℕ) (ms : List ℕ) → tried lines c id w ps m ≡ None → goes_on lines c id w ps (m ∷ ms) ≡ goes_on lines c id w ps ms
 unfolding goes_on
-goes-skip lines c id w ps m ms none = ap (is_least_behind lines c id) (first-fails lines c id w ps m ms none)
+goes-skip lines c id w ps m ms none = ap (is_least_after lines c id) (first-fails lines c id w ps m ms none)
 
 pub goes-none : (lines : List TranscriptLine) (c : ℕ) (id : ℤ) (w : Walker) (ps : List Due) → goes_on lines c id w ps [] ≡ false
 unfolding goes_on
@@ -49,7 +49,7 @@ goes-none lines c id w ps = refl
 pub goes-first : (lines : List TranscriptLine) (c : ℕ) (id : ℤ) (w : Walker) (ps : List Due) (m : ℕ) (ms : List ℕ) (y : Walker × List Due)
     → tried lines c id w ps m ≡ Some y → goes_on lines c id w ps (m ∷ ms) ≡ is_least lines c id y.0 y.1
 unfolding goes_on
-goes-first lines c id w ps m ms y is = ap (is_least_behind lines c id) (first-passes lines c id w ps m ms y is)
+goes-first lines c id w ps m ms y is = ap (is_least_after lines c id) (first-passes lines c id w ps m ms y is)
 
 not-tried : (lines : List TranscriptLine) (c : ℕ) (id : ℤ) (w : Walker) (ps : List Due) (m : ℕ) → (is_allowed lines c id w ps m ≡ true → ⊥) → tried lines c id w ps m ≡ None
 not-tried lines c id w ps m not = by (is_allowed lines c id w ps m) refl
@@ -98,11 +98,11 @@ pub at-end : (lines : List TranscriptLine) (c : ℕ) (id : ℤ) (w : Walker) (ps
 at-end lines c id w ps run above next = by-reply lines c id w ps None run above next
 
 pub at-plain : (lines : List TranscriptLine) (c : ℕ) (id : ℤ) (w : Walker) (ps : List Due) (bytes : List ℕ) → IsRunning lines → pos 0 <ℤ w.zxid → next_reply ps ≡ Some bytes
-    → repeats (placed_frame c w.next lines) bytes ≡ true → is_least lines c id w ps ≡ is_least_behind lines c id (then_plainly lines c id (given ps (told_up_to lines w (zxid_in bytes))))
+    → repeats (placed_frame c w.next lines) bytes ≡ true → is_least lines c id w ps ≡ is_least_after lines c id (then_plainly lines c id (given ps (told_up_to lines w (zxid_in bytes))))
 at-plain lines c id w ps bytes run above next plain =
     by-reply lines c id w ps (Some bytes) run above next ∙ by (repeats (placed_frame c w.next lines) bytes) plain
   where
-    by : (b : Bool) → b ≡ true → is_least_behind lines c id (reply_given lines c id w ps bytes b) ≡ is_least_behind lines c id (then_plainly lines c id (given ps (told_up_to lines w (zxid_in bytes))))
+    by : (b : Bool) → b ≡ true → is_least_after lines c id (reply_given lines c id w ps bytes b) ≡ is_least_after lines c id (then_plainly lines c id (given ps (told_up_to lines w (zxid_in bytes))))
     by true e = refl
     by false e = absurd (cc)
 
@@ -112,8 +112,8 @@ unfolding goes_on
 at-moments lines c id w ps bytes run above next apart =
     by-reply lines c id w ps (Some bytes) run above next ∙ by (repeats (placed_frame c w.next lines) bytes) apart
   where
-    by : (b : Bool) → b ≡ false → is_least_behind lines c id (reply_given lines c id w ps bytes b)
-        ≡ is_least_behind lines c id (given_at lines c id w ps (first_of (is_allowed lines c id w ps) (moments_for lines c id w bytes (placed_frame c w.next lines))))
+    by : (b : Bool) → b ≡ false → is_least_after lines c id (reply_given lines c id w ps bytes b)
+        ≡ is_least_after lines c id (given_at lines c id w ps (first_of (is_allowed lines c id w ps) (moments_for lines c id w bytes (placed_frame c w.next lines))))
     by true e = absurd (cc)
     by false e = refl
 
@@ -206,7 +206,7 @@ plain-on lines c id w ps z y run above told h = by (given ps (told_up_to lines w
           above = omega (arith, ints, above, rises);
           earliest = λ from. no-earlier lines w y.0 from moment rises;
           told = same-told lines a.0.0 y.0 zxid since r.told;
-          fewer = omega (arith, one, behind-length a.0.1 ps x.1 a.3, behind-length b.0.1 x.1 y.1 b.3);
+          fewer = omega (arith, one, rest_after-length a.0.1 ps x.1 a.3, rest_after-length b.0.1 x.1 y.1 b.3);
         }
 
 some-more : (ds : List Due) (d : Due) → 0 < length (ds ++ d ∷ [])
@@ -245,18 +245,18 @@ answer-on lines c id w ps m y run above h = by (is_allowed lines c id w ps m) h
               let late : nat_le y.0.moment (length (take n lines)) ≡ false = grind (arith, nat_tests, few) in
               rw late refl);
           told = front-told lines y.0 m (legal-when lines run) shows (omega (arith, since, after_update-bound z (take m lines), size));
-          fewer = omega (arith, some, behind-length a.0.1 ps y.1 a.3);
+          fewer = omega (arith, some, rest_after-length a.0.1 ps y.1 a.3);
         }
 
 -- ---- a reply that repeats the walker's zxid
 
 pub plain-some : (lines : List TranscriptLine) (c : ℕ) (id : ℤ) (w : Walker) (ps : List Due) (bytes : List ℕ) (y : Walker × List Due) → IsRunning lines → pos 0 <ℤ w.zxid → next_reply ps ≡ Some bytes
     → repeats (placed_frame c w.next lines) bytes ≡ true → Some y ≡ then_plainly lines c id (given ps (told_up_to lines w (zxid_in bytes))) → is_least lines c id y.0 y.1 ≡ is_least lines c id w ps
-plain-some lines c id w ps bytes y run above next plain is = ap (is_least_behind lines c id) is ∙ sym (at-plain lines c id w ps bytes run above next plain)
+plain-some lines c id w ps bytes y run above next plain is = ap (is_least_after lines c id) is ∙ sym (at-plain lines c id w ps bytes run above next plain)
 
 pub plain-none : (lines : List TranscriptLine) (c : ℕ) (id : ℤ) (w : Walker) (ps : List Due) (bytes : List ℕ) → IsRunning lines → pos 0 <ℤ w.zxid → next_reply ps ≡ Some bytes
     → repeats (placed_frame c w.next lines) bytes ≡ true → None ≡ then_plainly lines c id (given ps (told_up_to lines w (zxid_in bytes))) → false ≡ is_least lines c id w ps
-plain-none lines c id w ps bytes run above next plain is = ap (is_least_behind lines c id) is ∙ sym (at-plain lines c id w ps bytes run above next plain)
+plain-none lines c id w ps bytes run above next plain is = ap (is_least_after lines c id) is ∙ sym (at-plain lines c id w ps bytes run above next plain)
 
 pub told-up-as : (lines : List TranscriptLine) (w : Walker) (z : ℤ) (u : ℕ × ℤ) → w.zxid <ℤ z → Some u ≡ first_place (update_shown z) 0 lines → told_through lines w (Some u) ≡ told_up_to lines w z
 told-up-as lines w z u less found =

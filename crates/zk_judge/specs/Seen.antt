@@ -56,5 +56,5 @@ abbrev pub taken_by : List Due → Taken → Walker × List Due
 taken_by ps t = (walker_of t.walker, drop t.count ps)
 
 -- the answer to a frame at place k that may be answered as of the moment after these lines
-abbrev pub answer_behind : List TranscriptLine → ℕ → ℤ → Walker → Option (ℕ × UpdateRec) → ℕ → Frame → Option (Walker × List Due)
-answer_behind past c id w own k x = let g = fired_above past w.zxid w.watches in reply_step_if past w k (xid_of x) g.1 (told_as_of past c id x g.0 own)
+abbrev pub answer_after : List TranscriptLine → ℕ → ℤ → Walker → Option (ℕ × UpdateRec) → ℕ → Frame → Option (Walker × List Due)
+answer_after past c id w own k x = let g = fired_above past w.zxid w.watches in reply_step_if past w k (xid_of x) g.1 (told_as_of past c id x g.0 own)

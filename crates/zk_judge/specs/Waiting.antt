@@ -4,7 +4,7 @@ use Rattle.zk_transcript.specs.declared.transcript.TranscriptLine.{TranscriptLin
 use Rattle.zk_transcript.specs.Walks.{Answer, Due, Walker, may_answer_at, move, packets}
 use Rattle.zk_least.specs.LeastMoments.{first_of}
 use Rattle.zk_least.specs.LeastReplies.{given_at}
-use Rattle.zk_least.specs.LeastSteps.{is_least_behind}
+use Rattle.zk_least.specs.LeastSteps.{is_least_after}
 use Rattle.zk_least.specs.LeastWalk.{given, is_allowed}
 use Rattle.zk_judge.specs.Fronts.{IsTold}
 use Rattle.zk_judge.specs.Seen.{walker_of}
@@ -23,7 +23,7 @@ tried lines c id w ps m = if is_allowed lines c id w ps m then given ps (move li
 
 -- the least walk goes on from the first of these moments that is allowed
 unfoldable pub goes_on : List TranscriptLine → ℕ → ℤ → Walker → List Due → List ℕ → Bool
-goes_on lines c id w ps ms = is_least_behind lines c id (given_at lines c id w ps (first_of (is_allowed lines c id w ps) ms))
+goes_on lines c id w ps ms = is_least_after lines c id (given_at lines c id w ps (first_of (is_allowed lines c id w ps) ms))
 
 -- whether the least walk gives the packets: it is known, or it depends on the moments to try
 abbrev pub is_walked : List TranscriptLine → Walked → Bool

@@ -246,7 +246,7 @@ fn staged(
 }
 
 /// The moment right after a line.
-fn behind(index: &Index, place: usize) -> usize
+fn moment_after(index: &Index, place: usize) -> usize
     requires { place < length index.now.lines.now }
     ensures { result ≡ place + 1 }
 {
@@ -309,7 +309,7 @@ impl Conversation {
         ensures { result ≡ awaited_of self.now.stage }
     {
         match &self.stage {
-            Stage::Attached { place, .. } => Some(behind(index, *place)),
+            Stage::Attached { place, .. } => Some(moment_after(index, *place)),
             Stage::Refused { first, .. } => Some(*first),
             Stage::Walks(walked) => walked.awaited(),
         }

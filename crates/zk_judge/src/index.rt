@@ -76,7 +76,7 @@ impl<'a> Index<'a> {
         };
         Ok(Index {
             lines,
-            past: Past::behind(alloc, lines)?,
+            past: Past::at_end(alloc, lines)?,
             effects,
             sent: Sent::of(alloc, lines)?,
         })

@@ -5,7 +5,7 @@ ghost use Rattle.std.specs.Int.{from_be_bytes, w32, w64};
 ghost use Rattle.std.specs.List.{All};
 ghost use Rattle.zk_jute.specs.Packets.{CanBeSent, NoticeCanBeSent, notice_packet as notice_packet_of, reply_packet as reply_packet_of};
 ghost use Rattle.zk_transcript.specs.Walks.{due_notices};
-ghost use Rattle.zk_least.specs.LeastWalk.{behind, next_reply as next_reply_of, zxid_in as zxid_in_of};
+ghost use Rattle.zk_least.specs.LeastWalk.{rest_after, next_reply as next_reply_of, zxid_in as zxid_in_of};
 ghost use Rattle.zk_least.specs.LeastMoments.{code_in as code_in_of};
 ghost use Rattle.zk_history.specs.Shown.{placed_bytes};
 ghost use Rattle.zk_judge.specs.Sent.{packets_in};
@@ -142,7 +142,7 @@ fn is_given(due: &Due, place: usize, bytes: &[u8]) -> bool
 /// Whether the packets that are due come next, none before the first place where it may stand.
 pub fn come_first(due: &[Due], packets: Packets<'_>) -> bool
     ensures within { IsTrue result → length due.now ≤ length (packets_in packets.entry) }
-    ensures rest { behind due.now (packets_in packets.entry) ≡ (if result then Some (drop (length due.now) (packets_in packets.entry)) else None) }
+    ensures rest { rest_after due.now (packets_in packets.entry) ≡ (if result then Some (drop (length due.now) (packets_in packets.entry)) else None) }
 {
     let mut left = packets;
     for wanted in due {

@@ -112,7 +112,7 @@ fn answered_plainly(
 {
     let count = told.due.len();
     let answer = answer_plainly(alloc, index, party, told.walker)?;
-    match given(answer, packets.behind(count)) {
+    match given(answer, packets.rest_after(count)) {
         Some(step) => Ok(Some(Taken {
             count: count + step.due.len(),
             walker: step.walker,

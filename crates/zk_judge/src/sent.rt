@@ -29,7 +29,7 @@ fn bytes_at(lines: &[TranscriptLine], place: usize) -> &[u8]
 }
 
 /// The places after the first ones, of which there are `taken`.
-fn places_behind(places: &[usize], taken: usize) -> &[usize]
+fn places_after(places: &[usize], taken: usize) -> &[usize]
     requires { taken ≤ length places.now }
     ensures { result.now ≡ drop taken places.now }
 {
@@ -70,13 +70,13 @@ impl<'a> Packets<'a> {
     }
 
     /// The packets after the first ones, of which there are `taken`.
-    pub fn behind(self, taken: usize) -> Packets<'a>
+    pub fn rest_after(self, taken: usize) -> Packets<'a>
         requires { taken ≤ length (packets_in self) }
         ensures { packets_in result ≡ drop taken (packets_in self.entry) }
     {
         Packets {
             lines: self.lines,
-            places: places_behind(self.places, taken),
+            places: places_after(self.places, taken),
         }
     }
 }

@@ -141,7 +141,7 @@ pub fn settle(
     let mut taken = taken;
     let packets = index.packets_of(party.connection);
     'replies: loop {
-        let left = packets.behind(taken);
+        let left = packets.rest_after(taken);
         let Some(reply) = next_reply(left) else {
             let fired = fire_above(alloc, index, index.lines, walker)?;
             return Ok(Walked::Ends(is_front(left, &fired.due)));
@@ -197,7 +197,7 @@ fn try_only(alloc: Global, index: &Index, state: &State, wait: Wait) -> Result<W
         state,
         wait.party,
         wait.walker,
-        index.packets_of(wait.party.connection).behind(wait.taken),
+        index.packets_of(wait.party.connection).rest_after(wait.taken),
         moment,
     )?;
     match tried {
@@ -230,7 +230,7 @@ fn try_first(alloc: Global, index: &Index, state: &State, wait: Wait) -> Result<
         state,
         wait.party,
         walker,
-        index.packets_of(wait.party.connection).behind(wait.taken),
+        index.packets_of(wait.party.connection).rest_after(wait.taken),
         moment,
     )?;
     match tried {

@@ -209,13 +209,13 @@ later_values (replies.Refused code) = []
 later_values (replies.Good body) = body_values body
 
 -- a reply with this error, whose values after the header these bytes spell
-record Behind (code : Opcode) (err : ℤ) (bytes : List ℕ) (r : Reply) : Type 0 where
+record IsReadAfter (code : Opcode) (err : ℤ) (bytes : List ℕ) (r : Reply) : Type 0 where
   suits : Suits code r
   err_is : err_of r ≡ err
   spelled : Spelled Spells (later_values r) bytes
 
-good_behind : (code : Opcode) (bytes : List ℕ) (r : Reply) (rest : List ℕ) → (reply_body_at code bytes >>= λ x. ended (replies.Good x.0, x.1)) ≡ Ok (r, rest) → Behind code (pos 0) bytes r
-good_behind code bytes r rest e =
+good_after : (code : Opcode) (bytes : List ℕ) (r : Reply) (rest : List ℕ) → (reply_body_at code bytes >>= λ x. ended (replies.Good x.0, x.1)) ≡ Ok (r, rest) → IsReadAfter code (pos 0) bytes r
+good_after code bytes r rest e =
     let a = bind_ok (reply_body_at code bytes) (λ x. ended (replies.Good x.0, x.1)) (r, rest) e in
     let done : Read Reply = Ok (replies.Good a.0.0, a.0.1) in
     let w = whole_is done r rest a.2 in
@@ -223,15 +223,15 @@ good_behind code bytes r rest e =
     let t = body_takes code bytes a.0.0 a.0.1 a.1 in
     let last : a.0.1 ≡ [] = ap (λ (y : Reply × List ℕ). y.1) same ∙ w.1 in
     let whole : bytes ≡ t.0.front = t.0.parts ∙ ap (λ (z : List ℕ). t.0.front ++ z) last ∙ append-nil t.0.front in
-    subst (λ (q : Reply). Behind code (pos 0) bytes q) (ap (λ (y : Reply × List ℕ). y.0) same)
+    subst (λ (q : Reply). IsReadAfter code (pos 0) bytes q) (ap (λ (y : Reply × List ℕ). y.0) same)
     (record { suits = t.1; err_is = refl; spelled = subst (λ (z : List ℕ). Spelled Spells (body_values a.0.0) z) (sym whole) t.0.spelled })
 
-refused_behind : (code : Opcode) (err : ℤ) (bytes : List ℕ) (r : Reply) (rest : List ℕ) → err ≢ pos 0 → ended (replies.Refused err, bytes) ≡ Ok (r, rest) → Behind code err bytes r
-refused_behind code err bytes r rest apart e =
+refused_after : (code : Opcode) (err : ℤ) (bytes : List ℕ) (r : Reply) (rest : List ℕ) → err ≢ pos 0 → ended (replies.Refused err, bytes) ≡ Ok (r, rest) → IsReadAfter code err bytes r
+refused_after code err bytes r rest apart e =
     let done : Read Reply = Ok (replies.Refused err, bytes) in
     let w = whole_is done r rest e in
     let same = ok_is (replies.Refused err, bytes) (r, rest) w.0 in
-    subst (λ (q : Reply). Behind code err bytes q) (ap (λ (y : Reply × List ℕ). y.0) same)
+    subst (λ (q : Reply). IsReadAfter code err bytes q) (ap (λ (y : Reply × List ℕ). y.0) same)
     (record { suits = apart; err_is = refl; spelled = ap (λ (y : Reply × List ℕ). y.1) same ∙ w.1 })
 
 zero_is : (err : ℤ) → int_eq err (pos 0) ≡ true → err ≡ pos 0
@@ -243,13 +243,13 @@ is_zero err e = (Decides-int_eq err (pos 0)).1 e
 false_true : {b : Bool} → b ≡ false → b ≡ true → ⊥
 false_true f t = absurd cc
 
-behind_if : (good : Bool) (code : Opcode) (err : ℤ) (bytes : List ℕ) (r : Reply) (rest : List ℕ) → int_eq err (pos 0) ≡ good
-    → cond good (reply_body_at code bytes >>= λ x. ended (replies.Good x.0, x.1)) (ended (replies.Refused err, bytes)) ≡ Ok (r, rest) → Behind code err bytes r
-behind_if true code err bytes r rest good e = subst (λ (n : ℤ). Behind code n bytes r) (sym (zero_is err good)) (good_behind code bytes r rest e)
-behind_if false code err bytes r rest bad e = refused_behind code err bytes r rest (λ z. false_true bad (is_zero err z)) e
+after_if : (good : Bool) (code : Opcode) (err : ℤ) (bytes : List ℕ) (r : Reply) (rest : List ℕ) → int_eq err (pos 0) ≡ good
+    → cond good (reply_body_at code bytes >>= λ x. ended (replies.Good x.0, x.1)) (ended (replies.Refused err, bytes)) ≡ Ok (r, rest) → IsReadAfter code err bytes r
+after_if true code err bytes r rest good e = subst (λ (n : ℤ). IsReadAfter code n bytes r) (sym (zero_is err good)) (good_after code bytes r rest e)
+after_if false code err bytes r rest bad e = refused_after code err bytes r rest (λ z. false_true bad (is_zero err z)) e
 
-behind : (code : Opcode) (err : ℤ) (bytes : List ℕ) (r : Reply) (rest : List ℕ) → reply_at code err bytes ≡ Ok (r, rest) → Behind code err bytes r
-behind code err bytes r rest e = behind_if (int_eq err (pos 0)) code err bytes r rest refl e
+read_after : (code : Opcode) (err : ℤ) (bytes : List ℕ) (r : Reply) (rest : List ℕ) → reply_at code err bytes ≡ Ok (r, rest) → IsReadAfter code err bytes r
+read_after code err bytes r rest e = after_if (int_eq err (pos 0)) code err bytes r rest refl e
 
 apart_is : (b : Bool) (err : ℤ) → int_eq err (pos 0) ≡ b → err ≢ pos 0 → b ≡ false
 apart_is false err e apart = refl
@@ -306,7 +306,7 @@ same_code c d e = cc
 pub found : (frame : List ℕ) (kind : ℤ) (code : Opcode) (xid zxid : ℤ) (r : Reply) → opcode_numbered kind ≡ Some code → read_reply frame kind ≡ Answers xid zxid r → IsReply code xid zxid r frame
 found frame kind code xid zxid r numbered e =
     let a = answered_by frame kind xid zxid r e in
-    let b = behind a.code (front_int (drop 12 frame)) (drop 16 frame) r a.rest a.body in
+    let b = read_after a.code (front_int (drop 12 frame)) (drop 16 frame) r a.rest a.body in
     let code_is : a.code ≡ code = same_code a.code code (sym a.numbered ∙ numbered) in
     let t = first_int frame xid (omega (arith, a.long_enough)) a.xid_is in
     let u = first_long (drop 4 frame) zxid (omega (arith, a.long_enough, length-drop 4 frame)) a.zxid_is in

@@ -20,7 +20,7 @@ use Rattle.zk_transcript.specs.History.{State, state_at, session_at}
 use Rattle.zk_transcript.specs.Legal.{is_legal}
 use Rattle.zk_transcript.specs.Walks.{Walker, Choice, Tell, Plain, Answer, Due, move, walk, then_due, are_sent, is_walked, placed_frame, own_update, fired_above, later_of, with_end, looked, seen_told, told_by_state, told_as_of, answer_plainly, plain_answer, is_auth_refusal, all_choices, next_index, is_fresh, are_fresh}
 use Rattle.zk_transcript.proofs.Longer.{if_Some, move-index}
-use Rattle.zk_least.specs.LeastWalk.{zxid_in, is_notice, next_reply, behind, is_plain, repeats, plain_choice, HasZxids}
+use Rattle.zk_least.specs.LeastWalk.{zxid_in, is_notice, next_reply, rest_after, is_plain, repeats, plain_choice, HasZxids}
 use Rattle.zk_least.specs.LeastMoments.{code_in}
 use Rattle.zk_least.proofs.Rising.{at-line, state-long, IsLong}
 use Rattle.zk_least.proofs.Sound.{IsGood, IsFresh}
@@ -33,13 +33,13 @@ use Rattle.zk_least.proofs.Exchange.{IsTold, told-by, exchange, next-above}
 
 -- ---- the first of good choices
 
-sent-behind : (ds es ps : List Due) → are_sent (ds ++ es) ps ≡ true → (rest : List Due) × (behind ds ps ≡ Some rest) × (are_sent es rest ≡ true)
-sent-behind [] es ps h = (ps, refl, h)
-sent-behind (d ∷ ds) es [] h = absurd (cc)
-sent-behind (d ∷ ds) es (p ∷ ps) h = go (nat_le d.0 p.0 && bytes_eq d.1 p.1) (sent-behind ds es ps) h
+sent-rest_after : (ds es ps : List Due) → are_sent (ds ++ es) ps ≡ true → (rest : List Due) × (rest_after ds ps ≡ Some rest) × (are_sent es rest ≡ true)
+sent-rest_after [] es ps h = (ps, refl, h)
+sent-rest_after (d ∷ ds) es [] h = absurd (cc)
+sent-rest_after (d ∷ ds) es (p ∷ ps) h = go (nat_le d.0 p.0 && bytes_eq d.1 p.1) (sent-rest_after ds es ps) h
   where
-    go : (b : Bool) → (are_sent (ds ++ es) ps ≡ true → (rest : List Due) × (behind ds ps ≡ Some rest) × (are_sent es rest ≡ true)) → (b && are_sent (ds ++ es) ps) ≡ true
-        → (rest : List Due) × ((if b then behind ds ps else None) ≡ Some rest) × (are_sent es rest ≡ true)
+    go : (b : Bool) → (are_sent (ds ++ es) ps ≡ true → (rest : List Due) × (rest_after ds ps ≡ Some rest) × (are_sent es rest ≡ true)) → (b && are_sent (ds ++ es) ps) ≡ true
+        → (rest : List Due) × ((if b then rest_after ds ps else None) ≡ Some rest) × (are_sent es rest ≡ true)
     go true ih e = ih e
     go false ih e = absurd (cc)
 
@@ -47,7 +47,7 @@ pub record IsFirstOf (lines : List TranscriptLine) (c : ℕ) (id : ℤ) (w : Wal
   pub made : Walker × List Due
   pub rest : List Due
   pub moved : move lines c id w x ≡ Some made
-  pub there : behind made.1 ps ≡ Some rest
+  pub there : rest_after made.1 ps ≡ Some rest
   pub fresh : IsFresh lines c w.next x
   pub good : IsGood lines c id made.0 rest xs
 
@@ -61,7 +61,7 @@ good-first lines c id w ps x xs g = by (move lines c id w x) refl g.lawful
     on : (u : Walker × List Due) → move lines c id w x ≡ Some u → (o : Option (Walker × List Due)) → walk lines c id u.0 xs ≡ o → is_walked (then_due u.1 o) ps ≡ true → IsFirstOf lines c id w ps x xs
     on u e None r h = absurd (cc)
     on u e (Some q) r h =
-        let s = sent-behind u.1 q.1 ps h in
+        let s = sent-rest_after u.1 q.1 ps h in
         let i : next_index w.next x ≡ u.0.next = sym (move-index lines c id w x u e) in
         record {
           made = u;
@@ -204,7 +204,7 @@ pub record IsAfter (lines : List TranscriptLine) (c : ℕ) (id : ℤ) (w : Walke
   pub rest : List Due
   pub later : List Choice
   pub moved : move lines c id w x ≡ Some made
-  pub there : behind made.1 ps ≡ Some rest
+  pub there : rest_after made.1 ps ≡ Some rest
   pub fresh : IsFresh lines c w.next x
   pub good : IsGood lines c id made.0 rest later
   pub shorter : length later < n
@@ -219,12 +219,12 @@ first-after : (lines : List TranscriptLine) (c : ℕ) (id : ℤ) (w : Walker) (p
 first-after lines c id w ps x xs f = record { made = f.made; rest = f.rest; later = xs; moved = f.moved; there = f.there; fresh = f.fresh; good = f.good; shorter = omega arith }
 
 -- notices do not hide the next reply
-pub next-behind : (ds ps rest : List Due) → are_notices ds ≡ true → behind ds ps ≡ Some rest → next_reply ps ≡ next_reply rest
-next-behind [] ps rest a h = (let e : ps ≡ rest = cc in ap next_reply e)
-next-behind (d ∷ ds) [] rest a h = absurd (cc)
-next-behind (d ∷ ds) (p ∷ ps) rest a h = by (nat_le d.0 p.0) (bytes_eq d.1 p.1) refl (next-behind ds ps rest (and_parts (is_notice d.1) (are_notices ds) a).1) h
+pub next-rest_after : (ds ps rest : List Due) → are_notices ds ≡ true → rest_after ds ps ≡ Some rest → next_reply ps ≡ next_reply rest
+next-rest_after [] ps rest a h = (let e : ps ≡ rest = cc in ap next_reply e)
+next-rest_after (d ∷ ds) [] rest a h = absurd (cc)
+next-rest_after (d ∷ ds) (p ∷ ps) rest a h = by (nat_le d.0 p.0) (bytes_eq d.1 p.1) refl (next-rest_after ds ps rest (and_parts (is_notice d.1) (are_notices ds) a).1) h
   where
-    by : (u v : Bool) → bytes_eq d.1 p.1 ≡ v → (behind ds ps ≡ Some rest → next_reply ps ≡ next_reply rest) → (if u && v then behind ds ps else None) ≡ Some rest
+    by : (u v : Bool) → bytes_eq d.1 p.1 ≡ v → (rest_after ds ps ≡ Some rest → next_reply ps ≡ next_reply rest) → (if u && v then rest_after ds ps else None) ≡ Some rest
         → (if is_notice p.1 then next_reply ps else Some p.1) ≡ next_reply rest
     by true true e ih t =
         let same : d.1 ≡ p.1 = (bytes_eq-Decides d.1 p.1).0 e in
@@ -233,12 +233,12 @@ next-behind (d ∷ ds) (p ∷ ps) rest a h = by (nat_le d.0 p.0) (bytes_eq d.1 p
     by true false e ih t = absurd (cc)
     by false v e ih t = absurd (cc)
 
-behind-append : (ds es ps qs rest : List Due) → behind ds ps ≡ Some qs → behind es qs ≡ Some rest → behind (ds ++ es) ps ≡ Some rest
-behind-append [] es ps qs rest f g = (let e : ps ≡ qs = cc in subst (λ l. behind es l ≡ Some rest) (sym e) g)
-behind-append (d ∷ ds) es [] qs rest f g = absurd (cc)
-behind-append (d ∷ ds) es (p ∷ ps) qs rest f g = by (nat_le d.0 p.0 && bytes_eq d.1 p.1) (λ h. behind-append ds es ps qs rest h g) f
+rest_after-append : (ds es ps qs rest : List Due) → rest_after ds ps ≡ Some qs → rest_after es qs ≡ Some rest → rest_after (ds ++ es) ps ≡ Some rest
+rest_after-append [] es ps qs rest f g = (let e : ps ≡ qs = cc in subst (λ l. rest_after es l ≡ Some rest) (sym e) g)
+rest_after-append (d ∷ ds) es [] qs rest f g = absurd (cc)
+rest_after-append (d ∷ ds) es (p ∷ ps) qs rest f g = by (nat_le d.0 p.0 && bytes_eq d.1 p.1) (λ h. rest_after-append ds es ps qs rest h g) f
   where
-    by : (b : Bool) → (behind ds ps ≡ Some qs → behind (ds ++ es) ps ≡ Some rest) → (if b then behind ds ps else None) ≡ Some qs → (if b then behind (ds ++ es) ps else None) ≡ Some rest
+    by : (b : Bool) → (rest_after ds ps ≡ Some qs → rest_after (ds ++ es) ps ≡ Some rest) → (if b then rest_after ds ps else None) ≡ Some qs → (if b then rest_after (ds ++ es) ps else None) ≡ Some rest
     by true ih h = ih h
     by false ih h = absurd (cc)
 
@@ -256,7 +256,7 @@ plain-ahead lines c id w ps xs r f =
     let long = range-long w r in
     let back : zxid_in bytes ≡ w.zxid = reply-zxid (xid_of x) w.zxid q.said.reply long in
     let next : next_reply ps ≡ Some bytes =
-    reply-next [] (later_of w.since (q.place + 1), bytes) ps f.rest refl (not-notice (xid_of x) w.zxid q.said.reply long) (ap (λ (p : Walker × List Due). behind p.1 ps) q.gives ∙ f.there) in
+    reply-next [] (later_of w.since (q.place + 1), bytes) ps f.rest refl (not-notice (xid_of x) w.zxid q.said.reply long) (ap (λ (p : Walker × List Due). rest_after p.1 ps) q.gives ∙ f.there) in
     let again : repeats (placed_frame c w.next lines) bytes ≡ true =
     ap (λ o. repeats o bytes) q.frame ∙ ap (λ o. is_plain x o bytes) q.plain ∙ ap (λ z. bytes_eq bytes (reply_packet (xid_of x) z q.said.reply)) back ∙ (bytes_eq-Decides bytes bytes).1 refl in
     Plainly bytes next again (omega (arith, ints, back)) (subst (IsAfter lines c id w ps (length (Plain ∷ xs))) (sym (plain-here w (zxid_in bytes) back)) (first-after lines c id w ps Plain xs f))
@@ -268,7 +268,7 @@ answer-ahead lines c id w ps m xs legal least tree f =
     let l = state-long lines m legal least in
     Asof (reply_packet (xid_of (read_request mk.bytes)) z mk.what.1.reply)
     (shown-reply (take m lines) w mk.place (xid_of (read_request mk.bytes)) (fired_above (take m lines) w.zxid w.watches).1 mk.what ps f.rest l (fired-notices (take m lines) w.zxid w.watches)
-    (ap (λ (p : Walker × List Due). behind p.1 ps) mk.gives ∙ f.there))
+    (ap (λ (p : Walker × List Due). rest_after p.1 ps) mk.gives ∙ f.there))
     (no-repeat lines c id w m f.made z tree mk) m (first-after lines c id w ps (Answer m) xs f)
 
 tell-ahead : (lines : List TranscriptLine) (c : ℕ) (id : ℤ) (w : Walker) (ps : List Due) (xs : List Choice) → is_legal lines ≡ true → HasZxids lines → InRange w → (f : IsFirstOf lines c id w ps Tell xs)
@@ -279,7 +279,7 @@ tell-ahead lines c id w ps xs legal least r f a = by a
     t = told-range lines w f.made legal least r (told-by lines c id w f.made f.moved)
 
     same : next_reply ps ≡ next_reply f.rest
-    same = next-behind f.made.1 ps f.rest t.3 f.there
+    same = next-rest_after f.made.1 ps f.rest t.3 f.there
 
     by : Ahead lines c id f.made.0 f.rest (length xs) → Ahead lines c id w ps (length (Tell ∷ xs))
     by (Over e) = Quiet (same ∙ ap next_reply e) (first-after lines c id w ps Tell xs f)
@@ -293,7 +293,7 @@ tell-ahead lines c id w ps xs legal least r f a = by a
           rest = h.rest;
           later = h.later;
           moved = exchange lines c id w m f.made h.made legal r.0 f.moved h.moved;
-          there = behind-append f.made.1 h.made.1 ps f.rest h.rest f.there h.there;
+          there = rest_after-append f.made.1 h.made.1 ps f.rest h.rest f.there h.there;
           fresh = subst (λ i. IsFresh lines c i (Answer m)) t.2 h.fresh;
           good = h.good;
           shorter = omega (arith, h.shorter);

@@ -13,7 +13,7 @@ use Rattle.zk_transcript.specs.Answers.{Told, xid_of}
 use Rattle.zk_transcript.specs.History.{state_at}
 use Rattle.zk_transcript.specs.Legal.{is_legal}
 use Rattle.zk_transcript.specs.Walks.{Walker, Answer, Due, move, next_update, placed_frame, own_update, fired_above, told_as_of, is_past, is_fresh}
-use Rattle.zk_least.specs.LeastWalk.{zxid_in, next_reply, behind, given, is_allowed, HasZxids}
+use Rattle.zk_least.specs.LeastWalk.{zxid_in, next_reply, rest_after, given, is_allowed, HasZxids}
 use Rattle.zk_least.specs.LeastMoments.{AllowedMomentLaw}
 use Rattle.zk_least.proofs.Rising.{state-long, below-state}
 use Rattle.zk_least.proofs.LastUpdates.{past-update}
@@ -28,7 +28,7 @@ pub record AllowedAs (lines : List TranscriptLine) (c : ℕ) (id : ℤ) (w : Wal
   pub result : Walker × List Due
   pub rest : List Due
   pub moved : move lines c id w (Answer m) ≡ Some result
-  pub there : behind result.1 ps ≡ Some rest
+  pub there : rest_after result.1 ps ≡ Some rest
   pub fresh : is_fresh lines c w.next (Answer m) ≡ true
   pub made : IsMade lines c id w m result
 
@@ -45,7 +45,7 @@ pub shown : (lines : List TranscriptLine) (c : ℕ) (id : ℤ) (w : Walker) (ps 
 shown lines c id w ps m bytes legal least next a =
     let mk = a.made in
     let s = shown-reply (take m lines) w mk.place (xid_of (read_request mk.bytes)) (fired_above (take m lines) w.zxid w.watches).1 mk.what ps a.rest (state-long lines m legal least) (fired-notices (take m lines) w.zxid w.watches)
-    (ap (λ (p : Walker × List Due). behind p.1 ps) mk.gives ∙ a.there) in
+    (ap (λ (p : Walker × List Due). rest_after p.1 ps) mk.gives ∙ a.there) in
     one bytes (reply_packet (xid_of (read_request mk.bytes)) (state_at lines m).zxid mk.what.1.reply) (sym next ∙ s)
   where
     one : (a b : List ℕ) → ◌≡◌ {A = Option (List ℕ)} (Some a) (Some b) → a ≡ b
@@ -98,7 +98,7 @@ allowed-moment-law lines c id w ps bytes m legal least up next h =
       framed = mk.frame;
       fresh = past-is m (placed_frame c w.next lines) (mk.place, mk.bytes) mk.frame a.fresh;
       zxid = at;
-      behind_update = (past-update lines m (zxid_in bytes) legal (allowed-up lines c id w ps m (zxid_in bytes) up a at) at).from;
+      update_before = (past-update lines m (zxid_in bytes) legal (allowed-up lines c id w ps m (zxid_in bytes) up a at) at).from;
       before_next = λ x e. not-past lines m (zxid_in bytes) x legal at e;
       own = λ u e. own-moment lines c m id (read_request mk.bytes) (fired_above (take m lines) w.zxid w.watches).0 (own_update c w.next lines) u mk.what mk.within e mk.told;
     }

@@ -15,7 +15,7 @@ use Rattle.zk_transcript.specs.Answers.{Told, xid_of}
 use Rattle.zk_transcript.specs.History.{after}
 use Rattle.zk_transcript.specs.Walks.{Walker, Answer, Due, move, due_notices, fired_at, is_above, then_fired, fired_from, fired_above, placed_frame, own_update, later_of, told_as_of, reply_step, reply_step_if, has_header, may_answer_at, answer_as_of, after_update}
 use Rattle.zk_transcript.proofs.Longer.{if_Some, then_Some}
-use Rattle.zk_least.specs.LeastWalk.{is_notice, next_reply, behind}
+use Rattle.zk_least.specs.LeastWalk.{is_notice, next_reply, rest_after}
 use Rattle.zk_least.proofs.EarlierMoments.{if-both}
 use Rattle.zk_least.proofs.Rising.{IsLong}
 use Rattle.zk_least.proofs.Headers.{notice-zxid, not-notice}
@@ -97,7 +97,7 @@ unfolding fired_above
 fired-notices past p w = from-notices past p 0 past (w, []) refl
 
 -- the reply is the first packet that is no notice
-pub reply-next : (ds : List Due) (d : Due) (ps rest : List Due) → are_notices ds ≡ true → is_notice d.1 ≡ false → behind (ds ++ d ∷ []) ps ≡ Some rest → next_reply ps ≡ Some d.1
+pub reply-next : (ds : List Due) (d : Due) (ps rest : List Due) → are_notices ds ≡ true → is_notice d.1 ≡ false → rest_after (ds ++ d ∷ []) ps ≡ Some rest → next_reply ps ≡ Some d.1
 reply-next [] d [] rest a b h = absurd (cc)
 reply-next [] d (p ∷ ps) rest a b h = go (nat_le d.0 p.0) (bytes_eq d.1 p.1) refl h
   where
@@ -110,7 +110,7 @@ reply-next [] d (p ∷ ps) rest a b h = go (nat_le d.0 p.0) (bytes_eq d.1 p.1) r
 reply-next (x ∷ xs) d [] rest a b h = absurd (cc)
 reply-next (x ∷ xs) d (p ∷ ps) rest a b h = go (nat_le x.0 p.0) (bytes_eq x.1 p.1) refl (λ t. reply-next xs d ps rest (and_parts (is_notice x.1) (are_notices xs) a).1 b t) h
   where
-    go : (u v : Bool) → bytes_eq x.1 p.1 ≡ v → (behind (xs ++ d ∷ []) ps ≡ Some rest → next_reply ps ≡ Some d.1) → (if u && v then behind (xs ++ d ∷ []) ps else None) ≡ Some rest
+    go : (u v : Bool) → bytes_eq x.1 p.1 ≡ v → (rest_after (xs ++ d ∷ []) ps ≡ Some rest → next_reply ps ≡ Some d.1) → (if u && v then rest_after (xs ++ d ∷ []) ps else None) ≡ Some rest
         → (if is_notice p.1 then next_reply ps else Some p.1) ≡ Some d.1
     go true true e ih t =
         let same : x.1 ≡ p.1 = (bytes_eq-Decides x.1 p.1).0 e in
@@ -122,7 +122,7 @@ reply-next (x ∷ xs) d (p ∷ ps) rest a b h = go (nat_le x.0 p.0) (bytes_eq x.
 -- the reply of an answer is the next that the packets show
 pub shown-reply : (past : List TranscriptLine) (w : Walker) (k : ℕ) (xid : ℤ) (fired : List Due) (t : Bool × Told) (ps rest : List Due)
     → IsLong (after past).zxid → are_notices fired ≡ true
-    → behind (reply_step past w k xid fired t).1 ps ≡ Some rest → next_reply ps ≡ Some (reply_packet xid (after past).zxid t.1.reply)
+    → rest_after (reply_step past w k xid fired t).1 ps ≡ Some rest → next_reply ps ≡ Some (reply_packet xid (after past).zxid t.1.reply)
 shown-reply past w k xid fired t ps rest long f h =
     let z = (after past).zxid in
     let own = due_notices (later_of (after_update z past) (k + 1)) t.1.notices in

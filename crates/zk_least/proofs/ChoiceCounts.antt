@@ -13,8 +13,8 @@ use Rattle.zk_transcript.specs.declared.transcript.TranscriptLine.TheVariants.{U
 use Rattle.zk_transcript.specs.Answers.{xid_of}
 use Rattle.zk_transcript.specs.History.{state_at}
 use Rattle.zk_transcript.specs.Walks.{Walker, Choice, Tell, Plain, Answer, Due, move, is_above, fired_above, due_notices, after_update, later_of}
-use Rattle.zk_least.specs.LeastWalk.{behind, given, least_choice, least_from}
-use Rattle.zk_least.specs.LeastSteps.{least_step, is_least, is_least_behind, LeastStepLaw, PlacesRise}
+use Rattle.zk_least.specs.LeastWalk.{rest_after, given, least_choice, least_from}
+use Rattle.zk_least.specs.LeastSteps.{least_step, is_least, is_least_after, LeastStepLaw, PlacesRise}
 use Rattle.zk_least.proofs.Sound.{IsGood, given-is}
 use Rattle.zk_least.proofs.Answering.{IsMade, made}
 use Rattle.zk_least.proofs.Exchange.{IsTold, told-by, next-above}
@@ -80,12 +80,12 @@ told-less lines w u t =
     down : (v : UpdateRec) → v.zxid ≤ℤ u.0.zxid → is_above u.0.zxid (Update v) ≡ false
     down v h = grind (arith, nat_tests, ints)
 
-behind-length : (ds ps rest : List Due) → behind ds ps ≡ Some rest → length ds + length rest ≡ length ps
-behind-length [] ps rest h = (let e : ps ≡ rest = cc in omega (arith, ap (λ (l : List Due). length l) e))
-behind-length (d ∷ ds) [] rest h = absurd (cc)
-behind-length (d ∷ ds) (p ∷ ps) rest h = by (nat_le d.0 p.0 && bytes_eq d.1 p.1) (behind-length ds ps rest) h
+rest_after-length : (ds ps rest : List Due) → rest_after ds ps ≡ Some rest → length ds + length rest ≡ length ps
+rest_after-length [] ps rest h = (let e : ps ≡ rest = cc in omega (arith, ap (λ (l : List Due). length l) e))
+rest_after-length (d ∷ ds) [] rest h = absurd (cc)
+rest_after-length (d ∷ ds) (p ∷ ps) rest h = by (nat_le d.0 p.0 && bytes_eq d.1 p.1) (rest_after-length ds ps rest) h
   where
-    by : (b : Bool) → (behind ds ps ≡ Some rest → length ds + length rest ≡ length ps) → (if b then behind ds ps else None) ≡ Some rest → suc (length ds) + length rest ≡ suc (length ps)
+    by : (b : Bool) → (rest_after ds ps ≡ Some rest → length ds + length rest ≡ length ps) → (if b then rest_after ds ps else None) ≡ Some rest → suc (length ds) + length rest ≡ suc (length ps)
     by true ih t = omega (arith, ih t)
     by false ih t = absurd (cc)
 
@@ -113,14 +113,14 @@ pub few : (lines : List TranscriptLine) (c : ℕ) (id : ℤ) (w : Walker) (ps : 
 few lines c id w ps [] g = omega arith
 few lines c id w ps (x ∷ xs) g =
     let f = good-first lines c id w ps x xs g in
-    omega (arith, choice-less lines c id w x f.made f.moved, behind-length f.made.1 ps f.rest f.there, few lines c id f.made.0 f.rest xs f.good)
+    omega (arith, choice-less lines c id w x f.made f.moved, rest_after-length f.made.1 ps f.rest f.there, few lines c id f.made.0 f.rest xs f.good)
 
 -- ---- the count of the least walk
 
 given-less : (lines : List TranscriptLine) (c : ℕ) (id : ℤ) (w : Walker) (ps : List Due) (x : Choice) (y : Walker × List Due) → given ps (move lines c id w x) ≡ Some y → above y.0.zxid lines + length y.1 < above w.zxid lines + length ps
 given-less lines c id w ps x y g =
     let u = given-is ps (move lines c id w x) y g in
-    omega (arith, choice-less lines c id w x u.0 u.1, behind-length u.0.1 ps y.1 u.3, ap (λ (v : Walker). above v.zxid lines) u.2)
+    omega (arith, choice-less lines c id w x u.0 u.1, rest_after-length u.0.1 ps y.1 u.3, ap (λ (v : Walker). above v.zxid lines) u.2)
 
 -- any two counts that are great enough give the same
 enough : (n m : ℕ) (lines : List TranscriptLine) (c : ℕ) (id : ℤ) (w : Walker) (ps : List Due) → above w.zxid lines + length ps ≤ n → above w.zxid lines + length ps ≤ m → least_from n lines c id w ps ≡ least_from m lines c id w ps
@@ -157,12 +157,12 @@ over : (lines : List TranscriptLine) (c : ℕ) (id : ℤ) (w : Walker) → is_le
 unfolding least_from
 over lines c id w = refl
 
-one-more : (n : ℕ) (lines : List TranscriptLine) (c : ℕ) (id : ℤ) (w : Walker) (p : Due) (ps : List Due) → above w.zxid lines + length (p ∷ ps) ≤ suc n → is_some (least_from (suc n) lines c id w (p ∷ ps)) ≡ is_least_behind lines c id (least_step lines c id w (p ∷ ps))
+one-more : (n : ℕ) (lines : List TranscriptLine) (c : ℕ) (id : ℤ) (w : Walker) (p : Due) (ps : List Due) → above w.zxid lines + length (p ∷ ps) ≤ suc n → is_some (least_from (suc n) lines c id w (p ∷ ps)) ≡ is_least_after lines c id (least_step lines c id w (p ∷ ps))
 unfolding least_from
 one-more n lines c id w p ps a = by (least_choice lines c id w (p ∷ ps))
   where
     on : (x : Choice) (o : Option (Walker × List Due)) → given (p ∷ ps) (move lines c id w x) ≡ o
-        → is_some (elim o [ None ↦ None | Some y ↦ option_map (λ xs. x ∷ xs) (least_from n lines c id y.0 y.1) ]) ≡ is_least_behind lines c id o
+        → is_some (elim o [ None ↦ None | Some y ↦ option_map (λ xs. x ∷ xs) (least_from n lines c id y.0 y.1) ]) ≡ is_least_after lines c id o
     on x None g = refl
     on x (Some y) g =
         let less = given-less lines c id w (p ∷ ps) x y g in
@@ -171,14 +171,14 @@ one-more n lines c id w p ps a = by (least_choice lines c id w (p ∷ ps))
 
     by : (o : Option Choice)
         → is_some (elim o [ None ↦ None | Some x ↦ elim (given (p ∷ ps) (move lines c id w x)) [ None ↦ None | Some y ↦ option_map (λ xs. x ∷ xs) (least_from n lines c id y.0 y.1) ] ])
-        ≡ is_least_behind lines c id (elim o [ None ↦ None | Some x ↦ given (p ∷ ps) (move lines c id w x) ])
+        ≡ is_least_after lines c id (elim o [ None ↦ None | Some x ↦ given (p ∷ ps) (move lines c id w x) ])
     by None = refl
     by (Some x) = on x (given (p ∷ ps) (move lines c id w x)) refl
 
 pub least-step-law : LeastStepLaw
 least-step-law lines c id w = record { over = over lines c id w; more = λ p ps. more p ps }
   where
-    more : (p : Due) (ps : List Due) → is_least lines c id w (p ∷ ps) ≡ is_least_behind lines c id (least_step lines c id w (p ∷ ps))
+    more : (p : Due) (ps : List Due) → is_least lines c id w (p ∷ ps) ≡ is_least_after lines c id (least_step lines c id w (p ∷ ps))
     more p ps =
         let e : length lines + length (p ∷ ps) ≡ suc (length lines + length ps) = omega arith in
         ap (λ n. is_some (least_from n lines c id w (p ∷ ps))) e ∙ one-more (length lines + length ps) lines c id w p ps (omega (arith, above-small w.zxid lines))

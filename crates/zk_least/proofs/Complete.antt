@@ -7,7 +7,7 @@ use Rattle.zk_transcript.specs.declared.transcript.TranscriptLine.{TranscriptLin
 use Rattle.zk_transcript.specs.History.{state_at}
 use Rattle.zk_transcript.specs.Legal.{is_legal}
 use Rattle.zk_transcript.specs.Walks.{Walker, Choice, Tell, Plain, Answer, Due, move, walk, are_sent, is_walked, is_fresh, are_fresh}
-use Rattle.zk_least.specs.LeastWalk.{zxid_in, behind, given, is_allowed, first_passing, least_moment, plain_choice, choice_for, least_choice, least_from, HasZxids}
+use Rattle.zk_least.specs.LeastWalk.{zxid_in, rest_after, given, is_allowed, first_passing, least_moment, plain_choice, choice_for, least_choice, least_from, HasZxids}
 use Rattle.std.proofs.lemmas.Bool.{and_from, and_parts}
 use Rattle.zk_least.proofs.Sound.{IsGood, given-is}
 use Rattle.zk_least.proofs.EarlierMoments.{IsEarlier, walk-earlier}
@@ -64,14 +64,14 @@ pub record IsLeastStep (lines : List TranscriptLine) (c : ℕ) (id : ℤ) (w : W
   pub later : List Choice
   pub least : least_choice lines c id w ps ≡ Some choice
   pub moved : move lines c id w choice ≡ Some made
-  pub there : behind made.1 ps ≡ Some rest
+  pub there : rest_after made.1 ps ≡ Some rest
   pub good : IsGood lines c id made.0 rest later
   pub shorter : length later < n
 
 after-step : (lines : List TranscriptLine) (c : ℕ) (id : ℤ) (w : Walker) (ps : List Due) (n : ℕ) (x : Choice) → least_choice lines c id w ps ≡ Some x → IsAfter lines c id w ps n x → IsLeastStep lines c id w ps n
 after-step lines c id w ps n x e a = record { choice = x; made = a.made; rest = a.rest; later = a.later; least = e; moved = a.moved; there = a.there; good = a.good; shorter = a.shorter }
 
-pub given-some : (ps : List Due) (o : Option (Walker × List Due)) (y : Walker × List Due) (rest : List Due) → o ≡ Some y → behind y.1 ps ≡ Some rest → given ps o ≡ Some (y.0, rest)
+pub given-some : (ps : List Due) (o : Option (Walker × List Due)) (y : Walker × List Due) (rest : List Due) → o ≡ Some y → rest_after y.1 ps ≡ Some rest → given ps o ≡ Some (y.0, rest)
 given-some ps o y rest e f = ap (given ps) e ∙ ap (option_map (λ r. (y.0, r))) f
 
 pub some-is : (o : Option (Walker × List Due)) → is_some o ≡ true → (y : Walker × List Due) × (o ≡ Some y)

@@ -102,15 +102,15 @@ reaches lines m p e z legal some a le = go (nat_lt e m) refl
           | inr q ↦ omega (arith, ints, q.1, r.zxid, a.same, le)
         ])
 
-behind-above : (lines : List TranscriptLine) (p : ℤ) (e j : ℕ) (z : ℤ) (l : TranscriptLine) → is_legal lines ≡ true → IsAbove p lines e z → e < j → slice_get lines j ≡ Some l → is_above p l ≡ is_above z l
-behind-above lines p e j z (Update x) legal a lt h =
+after-above : (lines : List TranscriptLine) (p : ℤ) (e j : ℕ) (z : ℤ) (l : TranscriptLine) → is_legal lines ≡ true → IsAbove p lines e z → e < j → slice_get lines j ≡ Some l → is_above p l ≡ is_above z l
+after-above lines p e j z (Update x) legal a lt h =
     let later = zxids-rise lines e j a.update x legal lt a.there h in
     yes-above p x (omega (arith, ints, later, a.same, a.up)) ∙ sym (yes-above z x (omega (arith, ints, later, a.same)))
-behind-above lines p e j z (Open x b c d) legal a lt h = refl
-behind-above lines p e j z (FrameLine x b c d) legal a lt h = refl
-behind-above lines p e j z (Send x b) legal a lt h = refl
-behind-above lines p e j z (Lapse x b) legal a lt h = refl
-behind-above lines p e j z (Close x b) legal a lt h = refl
+after-above lines p e j z (Open x b c d) legal a lt h = refl
+after-above lines p e j z (FrameLine x b c d) legal a lt h = refl
+after-above lines p e j z (Send x b) legal a lt h = refl
+after-above lines p e j z (Lapse x b) legal a lt h = refl
+after-above lines p e j z (Close x b) legal a lt h = refl
 
 pub up-to-it : (lines : List TranscriptLine) (p : ℤ) (e j : ℕ) (z : ℤ) (u : UpdateRec) → IsAbove p lines e z → j ≤ e → slice_get lines j ≡ Some (Update u) → u.zxid ≤ℤ z
 up-to-it lines p e j z u a le h = go (nat_lt j e) refl
@@ -130,7 +130,7 @@ first-above lines m p e z legal a lt = record {
   above = yes-above p a.update (omega (arith, ints, a.up, a.same));
   before = λ j l less h. not-above p l (λ u s. a.before j u less ((get-take m j lines l h).1 ∙ ap Some s));
   up_to = λ j l le h. not-above z l (λ u s. up-to-it lines p e j z u a le ((get-take m j lines l h).1 ∙ ap Some s));
-  behind = λ j l less h. behind-above lines p e j z l legal a less (get-take m j lines l h).1;
+  above_after = λ j l less h. after-above lines p e j z l legal a less (get-take m j lines l h).1;
 }
 
 -- ---- what was told

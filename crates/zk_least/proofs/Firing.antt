@@ -50,7 +50,7 @@ pub record IsFirst (p q : ℤ) (i : ℕ) (ls : List TranscriptLine) : Type 0 whe
   pub above : is_above p line ≡ true
   pub before : (j : ℕ) (l : TranscriptLine) → j < i → slice_get ls j ≡ Some l → is_above p l ≡ false
   pub up_to : (j : ℕ) (l : TranscriptLine) → j ≤ i → slice_get ls j ≡ Some l → is_above q l ≡ false
-  pub behind : (j : ℕ) (l : TranscriptLine) → i < j → slice_get ls j ≡ Some l → is_above p l ≡ is_above q l
+  pub above_after : (j : ℕ) (l : TranscriptLine) → i < j → slice_get ls j ≡ Some l → is_above p l ≡ is_above q l
 
 from-same : (full : List TranscriptLine) (p q : ℤ) (k : ℕ) (ls : List TranscriptLine) (x : Watches × List Due)
     → ((j : ℕ) (l : TranscriptLine) → slice_get ls j ≡ Some l → is_above p l ≡ is_above q l) → fired_from full p k ls x ≡ fired_from full q k ls x
@@ -64,7 +64,7 @@ first-tail p q i l ls f = record {
   above = f.above;
   before = λ j m lt e. f.before (suc j) m (omega (arith, lt)) e;
   up_to = λ j m lt e. f.up_to (suc j) m (omega (arith, lt)) e;
-  behind = λ j m lt e. f.behind (suc j) m (omega (arith, lt)) e;
+  above_after = λ j m lt e. f.above_after (suc j) m (omega (arith, lt)) e;
 }
 
 from-first : (full : List TranscriptLine) (p q : ℤ) (k i : ℕ) (ls : List TranscriptLine) (w : Watches) → IsFirst p q i ls
@@ -79,7 +79,7 @@ from-first full p q k zero (l ∷ ls) w f =
     let x : then_fired full k (is_above p l) (w, []) ≡ fired_at full (k + 0) w = ap (λ b. then_fired full k b (w, [])) a ∙ ap (λ n. fired_at full n w) (omega arith) in
     let b : is_above q l ≡ false = f.up_to 0 l (omega arith) refl in
     ap (fired_from full p (k + 1) ls) x
-    ∙ from-same full p q (k + 1) ls (fired_at full (k + 0) w) (λ j m e. f.behind (suc j) m (omega arith) e)
+    ∙ from-same full p q (k + 1) ls (fired_at full (k + 0) w) (λ j m e. f.above_after (suc j) m (omega arith) e)
     ∙ ap (λ c. fired_from full q (k + 1) ls (then_fired full k c (fired_at full (k + 0) w))) (sym b)
 from-first full p q k (suc i) (l ∷ ls) w f =
     let a : is_above p l ≡ false = f.before 0 l (omega arith) refl in

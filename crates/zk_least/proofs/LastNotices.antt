@@ -11,15 +11,15 @@ use Rattle.zk_transcript.specs.declared.transcript.TranscriptLine.{TranscriptLin
 use Rattle.zk_transcript.specs.declared.transcript.TranscriptLine.TheVariants.{Update, Open, Frame as FrameLine, Send, Lapse, Close}
 use Rattle.zk_transcript.specs.Legal.{is_legal}
 use Rattle.zk_transcript.specs.Walks.{Walker, Tell, Due, move, due_notices, fired_at, is_above, then_fired, fired_from, fired_above, next_update, above_shown}
-use Rattle.zk_least.specs.LeastWalk.{next_reply, behind, given, choice_for, least_choice}
-use Rattle.zk_least.specs.LeastSteps.{is_least, is_least_behind, least_step}
+use Rattle.zk_least.specs.LeastWalk.{next_reply, rest_after, given, choice_for, least_choice}
+use Rattle.zk_least.specs.LeastSteps.{is_least, is_least_after, least_step}
 use Rattle.zk_least.specs.LeastQueues.{is_apart, is_front, LastNoticesLaw}
 use Rattle.zk_least.proofs.FirstPlaces.{first_place-none}
 use Rattle.zk_least.proofs.Answering.{due-notices}
 use Rattle.zk_least.proofs.Exchange.{IsAbove, next-above, not-above, told-by, up-to-it}
-use Rattle.zk_least.proofs.Ahead.{next-behind}
+use Rattle.zk_least.proofs.Ahead.{next-rest_after}
 use Rattle.zk_least.proofs.ChoiceCounts.{above, told-less, least-step-law}
-use Rattle.zk_least.proofs.Queues.{before-end, unarmed-fires, none-fires, behind-first}
+use Rattle.zk_least.proofs.Queues.{before-end, unarmed-fires, none-fires, rest_after-first}
 use Rattle.zk_least.proofs.RepeatedPlaces.{told_first, tell-unarmed, tell-last, tell-next}
 
 -- ---- notices that are due later than at a place
@@ -73,7 +73,7 @@ same-place : (n : ℕ) (b : Bool) → (b && not (n == n)) ≡ false
 same-place n true = grind (arith, nat_tests)
 same-place n false = refl
 
-one-front : (n : ℕ) (ns : List Notice) (m : Notice) (p : Due) (rest : List Due) → are_later n rest ≡ true → is_front (p ∷ []) ((n, notice_packet m) ∷ (due_notices n ns ++ rest)) ≡ front_of (behind ((n, notice_packet m) ∷ due_notices n ns) (p ∷ [])) rest
+one-front : (n : ℕ) (ns : List Notice) (m : Notice) (p : Due) (rest : List Due) → are_later n rest ≡ true → is_front (p ∷ []) ((n, notice_packet m) ∷ (due_notices n ns ++ rest)) ≡ front_of (rest_after ((n, notice_packet m) ∷ due_notices n ns) (p ∷ [])) rest
 one-front n [] m p rest later = by (nat_le n p.0 && bytes_eq (notice_packet m) p.1)
   where
     by : (b : Bool) → (b && is_apart (n, notice_packet m) rest) ≡ front_of (if b then Some [] else None) rest
@@ -85,13 +85,13 @@ one-front n (o ∷ ns) m p rest later = same-place n (nat_le n p.0 && bytes_eq (
     by true = refl
     by false = refl
 
-front-behind : (n : ℕ) (ns : List Notice) (p : Due) (ps rest : List Due) → are_later n rest ≡ true → is_front (p ∷ ps) (due_notices n ns ++ rest) ≡ front_of (behind (due_notices n ns) (p ∷ ps)) rest
-front-behind n [] p ps rest later = refl
-front-behind n (m ∷ ns) p [] rest later = one-front n ns m p rest later
-front-behind n (m ∷ ns) p (q ∷ ps) rest later = by (nat_le n p.0 && bytes_eq (notice_packet m) p.1) (front-behind n ns q ps rest later)
+front-rest_after : (n : ℕ) (ns : List Notice) (p : Due) (ps rest : List Due) → are_later n rest ≡ true → is_front (p ∷ ps) (due_notices n ns ++ rest) ≡ front_of (rest_after (due_notices n ns) (p ∷ ps)) rest
+front-rest_after n [] p ps rest later = refl
+front-rest_after n (m ∷ ns) p [] rest later = one-front n ns m p rest later
+front-rest_after n (m ∷ ns) p (q ∷ ps) rest later = by (nat_le n p.0 && bytes_eq (notice_packet m) p.1) (front-rest_after n ns q ps rest later)
   where
-    by : (b : Bool) → is_front (q ∷ ps) (due_notices n ns ++ rest) ≡ front_of (behind (due_notices n ns) (q ∷ ps)) rest
-        → (b && is_front (q ∷ ps) (due_notices n ns ++ rest)) ≡ front_of (if b then behind (due_notices n ns) (q ∷ ps) else None) rest
+    by : (b : Bool) → is_front (q ∷ ps) (due_notices n ns ++ rest) ≡ front_of (rest_after (due_notices n ns) (q ∷ ps)) rest
+        → (b && is_front (q ∷ ps) (due_notices n ns ++ rest)) ≡ front_of (if b then rest_after (due_notices n ns) (q ∷ ps) else None) rest
     by true ih = ih
     by false ih = refl
 
@@ -109,10 +109,10 @@ hidden-above p (Send a b) h = refl
 hidden-above p (Lapse a b) h = refl
 hidden-above p (Close a b) h = refl
 
-all-behind : (lines : List TranscriptLine) (p : ℤ) (e : ℕ) (y : ℤ) (w : Watches) → is_legal lines ≡ true → IsAbove p lines e y → (fired_above lines p w).1 ≡ (fired_at lines e w).1 ++ (fired_above lines y (fired_at lines e w).0).1
-all-behind lines p e y w legal a =
+all-rest_after : (lines : List TranscriptLine) (p : ℤ) (e : ℕ) (y : ℤ) (w : Watches) → is_legal lines ≡ true → IsAbove p lines e y → (fired_above lines p w).1 ≡ (fired_at lines e w).1 ++ (fired_above lines y (fired_at lines e w).0).1
+all-rest_after lines p e y w legal a =
     let whole : take (length lines) lines ≡ lines = take_all (length lines) lines (omega arith) in
-    let q = behind-first lines (length lines) p e y w legal a (before-end lines e (Update a.update) a.there) in
+    let q = rest_after-first lines (length lines) p e y w legal a (before-end lines e (Update a.update) a.there) in
     ap (λ past. (fired_above past p w).1) (sym whole) ∙ ap (λ (x : Watches × List Due). x.1) q ∙ ap (λ past. (fired_at lines e w).1 ++ (fired_above past y (fired_at lines e w).0).1) whole
 
 tell-step : (lines : List TranscriptLine) (c : ℕ) (id : ℤ) (w : Walker) (ps : List Due) → next_reply ps ≡ None → least_step lines c id w ps ≡ given ps (move lines c id w Tell)
@@ -127,11 +127,11 @@ module _ (lines : List TranscriptLine) (c : ℕ) (id : ℤ) (legal : is_legal li
   Later w = (v : Walker) (qs : List Due) → above v.zxid lines < above w.zxid lines → next_reply qs ≡ None → Ends v qs
 
   told-more : (w : Walker) (p : Due) (ps : List Due) (e : ℕ) (y : ℤ) → next_reply (p ∷ ps) ≡ None → is_unarmed w.watches ≡ false → next_update w.zxid lines ≡ Some (e, y) → Later w
-      → is_least_behind lines c id (given (p ∷ ps) (Some (told_first lines w e y, (fired_at lines e w.watches).1))) ≡ is_front (p ∷ ps) (fired_above lines w.zxid w.watches).1
+      → is_least_after lines c id (given (p ∷ ps) (Some (told_first lines w e y, (fired_at lines e w.watches).1))) ≡ is_front (p ∷ ps) (fired_above lines w.zxid w.watches).1
   told-more w p ps e y none armed n later =
-      by (behind f (p ∷ ps)) refl
-      ∙ sym (front-behind (e + 1) _ p ps (fired_above lines y (fired_at lines e w.watches).0).1 (fired-later lines w.zxid e y (fired_at lines e w.watches).0 legal a))
-      ∙ ap (is_front (p ∷ ps)) (sym (all-behind lines w.zxid e y w.watches legal a))
+      by (rest_after f (p ∷ ps)) refl
+      ∙ sym (front-rest_after (e + 1) _ p ps (fired_above lines y (fired_at lines e w.watches).0).1 (fired-later lines w.zxid e y (fired_at lines e w.watches).0 legal a))
+      ∙ ap (is_front (p ∷ ps)) (sym (all-rest_after lines w.zxid e y w.watches legal a))
     where
       f : List Due
       f = (fired_at lines e w.watches).1
@@ -145,22 +145,22 @@ module _ (lines : List TranscriptLine) (c : ℕ) (id : ℤ) (legal : is_legal li
       less : above v.zxid lines < above w.zxid lines
       less = told-less lines w (v, f) (told-by lines c id w (v, f) (tell-next lines c id w e y armed n))
 
-      by : (o : Option (List Due)) → behind f (p ∷ ps) ≡ o → is_least_behind lines c id (option_map (λ qs. (v, qs)) o) ≡ front_of o (fired_above lines y (fired_at lines e w.watches).0).1
+      by : (o : Option (List Due)) → rest_after f (p ∷ ps) ≡ o → is_least_after lines c id (option_map (λ qs. (v, qs)) o) ≡ front_of o (fired_above lines y (fired_at lines e w.watches).0).1
       by None h = refl
-      by (Some qs) h = later v qs less (sym (next-behind f (p ∷ ps) qs (due-notices (e + 1) _) h) ∙ none)
+      by (Some qs) h = later v qs less (sym (next-rest_after f (p ∷ ps) qs (due-notices (e + 1) _) h) ∙ none)
 
   ends : (w : Walker) (ps : List Due) → next_reply ps ≡ None → Later w → Ends w ps
   ends w [] none later = (least-step-law lines c id w).over
   ends w (p ∷ ps) none later =
-      (least-step-law lines c id w).more p ps ∙ ap (is_least_behind lines c id) (tell-step lines c id w (p ∷ ps) none) ∙ by (is_unarmed w.watches) refl (next_update w.zxid lines) refl
+      (least-step-law lines c id w).more p ps ∙ ap (is_least_after lines c id) (tell-step lines c id w (p ∷ ps) none) ∙ by (is_unarmed w.watches) refl (next_update w.zxid lines) refl
     where
-      nothing : move lines c id w Tell ≡ None → fired_above lines w.zxid w.watches ≡ (w.watches, []) → is_least_behind lines c id (given (p ∷ ps) (move lines c id w Tell)) ≡ is_front (p ∷ ps) (fired_above lines w.zxid w.watches).1
-      nothing m f = ap (λ x. is_least_behind lines c id (given (p ∷ ps) x)) m ∙ ap (λ (x : Watches × List Due). is_front (p ∷ ps) x.1) (sym f)
+      nothing : move lines c id w Tell ≡ None → fired_above lines w.zxid w.watches ≡ (w.watches, []) → is_least_after lines c id (given (p ∷ ps) (move lines c id w Tell)) ≡ is_front (p ∷ ps) (fired_above lines w.zxid w.watches).1
+      nothing m f = ap (λ x. is_least_after lines c id (given (p ∷ ps) x)) m ∙ ap (λ (x : Watches × List Due). is_front (p ∷ ps) x.1) (sym f)
 
-      by : (b : Bool) → is_unarmed w.watches ≡ b → (n : Option (ℕ × ℤ)) → next_update w.zxid lines ≡ n → is_least_behind lines c id (given (p ∷ ps) (move lines c id w Tell)) ≡ is_front (p ∷ ps) (fired_above lines w.zxid w.watches).1
+      by : (b : Bool) → is_unarmed w.watches ≡ b → (n : Option (ℕ × ℤ)) → next_update w.zxid lines ≡ n → is_least_after lines c id (given (p ∷ ps) (move lines c id w Tell)) ≡ is_front (p ∷ ps) (fired_above lines w.zxid w.watches).1
       by true h n g = nothing (tell-unarmed lines c id w h) (unarmed-fires lines w.zxid w.watches h)
       by false h None g = nothing (tell-last lines c id w g) (none-fires lines w.zxid w.watches (λ j l at. hidden-above w.zxid l (first_place-none (above_shown w.zxid) 0 lines g j l at)))
-      by false h (Some x) g = ap (λ y. is_least_behind lines c id (given (p ∷ ps) y)) (tell-next lines c id w x.0 x.1 h g) ∙ told-more w p ps x.0 x.1 none h g later
+      by false h (Some x) g = ap (λ y. is_least_after lines c id (given (p ∷ ps) y)) (tell-next lines c id w x.0 x.1 h g) ∙ told-more w p ps x.0 x.1 none h g later
 
   pub last-ends : (n : ℕ) (w : Walker) (ps : List Due) → above w.zxid lines ≤ n → next_reply ps ≡ None → Ends w ps
   last-ends zero w ps le none = ends w ps none (λ v qs lt e. absurd (omega (arith, lt, le)))

@@ -68,10 +68,10 @@ record IsUpdateBefore (ls : List TranscriptLine) (e : ℕ) : Type 0 where
 before-more : (l : TranscriptLine) (ls : List TranscriptLine) (e : ℕ) → IsUpdateBefore ls e → IsUpdateBefore (l ∷ ls) (suc e)
 before-more l ls e b = let lt = b.before in record { place = suc b.place; update = b.update; before = omega (arith, lt); there = b.there }
 
-behind-line : (l : TranscriptLine) (ls : List TranscriptLine) (e : ℕ) (u : UpdateRec) → (l ≡ Update u → ⊥) → slice_get (l ∷ ls) e ≡ Some (Update u)
+rest_after-line : (l : TranscriptLine) (ls : List TranscriptLine) (e : ℕ) (u : UpdateRec) → (l ≡ Update u → ⊥) → slice_get (l ∷ ls) e ≡ Some (Update u)
     → ((k : ℕ) → slice_get ls k ≡ Some (Update u) → IsUpdateBefore ls k) → IsUpdateBefore (l ∷ ls) e
-behind-line l ls zero u apart at later = absurd (apart (let same : l ≡ Update u = cc in same))
-behind-line l ls (suc k) u apart at later = before-more l ls k (later k at)
+rest_after-line l ls zero u apart at later = absurd (apart (let same : l ≡ Update u = cc in same))
+rest_after-line l ls (suc k) u apart at later = before-more l ls k (later k at)
 
 begin-before : (ls : List TranscriptLine) (e : ℕ) (u : UpdateRec) → begins ls ≡ true → is_begin u.kind ≡ false → slice_get ls e ≡ Some (Update u) → IsUpdateBefore ls e
 begin-before [] e u h b at = absurd (cc)
@@ -81,10 +81,10 @@ begin-before (Update v ∷ ls) zero u h b at =
     absurd (cc)
 begin-before (Update v ∷ ls) (suc e) u h b at = record { place = 0; update = v; before = omega arith; there = refl }
 begin-before (Lapse r d ∷ ls) e u h b at = absurd (cc)
-begin-before (Open p q r s ∷ ls) e u h b at = behind-line (Open p q r s) ls e u (λ x. cc) at (λ k is. begin-before ls k u h b is)
-begin-before (FrameLine p q r s ∷ ls) e u h b at = behind-line (FrameLine p q r s) ls e u (λ x. cc) at (λ k is. begin-before ls k u h b is)
-begin-before (Send p q ∷ ls) e u h b at = behind-line (Send p q) ls e u (λ x. cc) at (λ k is. begin-before ls k u h b is)
-begin-before (Close p q ∷ ls) e u h b at = behind-line (Close p q) ls e u (λ x. cc) at (λ k is. begin-before ls k u h b is)
+begin-before (Open p q r s ∷ ls) e u h b at = rest_after-line (Open p q r s) ls e u (λ x. cc) at (λ k is. begin-before ls k u h b is)
+begin-before (FrameLine p q r s ∷ ls) e u h b at = rest_after-line (FrameLine p q r s) ls e u (λ x. cc) at (λ k is. begin-before ls k u h b is)
+begin-before (Send p q ∷ ls) e u h b at = rest_after-line (Send p q) ls e u (λ x. cc) at (λ k is. begin-before ls k u h b is)
+begin-before (Close p q ∷ ls) e u h b at = rest_after-line (Close p q) ls e u (λ x. cc) at (λ k is. begin-before ls k u h b is)
 
 some-before : (lines : List TranscriptLine) (e : ℕ) (u : UpdateRec) → is_legal lines ≡ true → is_begin u.kind ≡ false → slice_get lines e ≡ Some (Update u) → 1 ≤ (state_at lines e).updates
 some-before lines e u legal later at =

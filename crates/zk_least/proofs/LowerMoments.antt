@@ -12,7 +12,7 @@ use Rattle.zk_transcript.specs.Answers.{Told, xid_of}
 use Rattle.zk_transcript.specs.History.{state_at, session_at}
 use Rattle.zk_transcript.specs.Legal.{is_legal}
 use Rattle.zk_transcript.specs.Walks.{Walker, Answer, Due, move, due_notices, fired_above, own_update, later_of, told_as_of, reply_step, after_update, is_fresh}
-use Rattle.zk_least.specs.LeastWalk.{behind, given, is_allowed}
+use Rattle.zk_least.specs.LeastWalk.{rest_after, given, is_allowed}
 use Rattle.zk_least.proofs.Rising.{started}
 use Rattle.zk_least.proofs.SameZxid.{IsLag, between, between-is, no-updates, moments-lag}
 use Rattle.zk_least.proofs.Firing.{fired-same, since-same}
@@ -21,9 +21,9 @@ use Rattle.zk_least.proofs.Answering.{made, answer-move}
 use Rattle.zk_least.proofs.SameAnswer.{told_to, told-tree}
 use Rattle.zk_least.proofs.Complete.{given-some, some-is}
 
-behind-lower : (ds : List Due) (i j : ℕ) (bytes : List ℕ) (ps rest : List Due) → j ≤ i → behind (ds ++ (i, bytes) ∷ []) ps ≡ Some rest → behind (ds ++ (j, bytes) ∷ []) ps ≡ Some rest
-behind-lower [] i j bytes [] rest le h = absurd (cc)
-behind-lower [] i j bytes (p ∷ ps) rest le h = by (nat_le i p.0) (nat_le j p.0) (bytes_eq bytes p.1) refl refl h
+rest_after-lower : (ds : List Due) (i j : ℕ) (bytes : List ℕ) (ps rest : List Due) → j ≤ i → rest_after (ds ++ (i, bytes) ∷ []) ps ≡ Some rest → rest_after (ds ++ (j, bytes) ∷ []) ps ≡ Some rest
+rest_after-lower [] i j bytes [] rest le h = absurd (cc)
+rest_after-lower [] i j bytes (p ∷ ps) rest le h = by (nat_le i p.0) (nat_le j p.0) (bytes_eq bytes p.1) refl refl h
   where
     by : (a b e : Bool) → nat_le i p.0 ≡ a → nat_le j p.0 ≡ b → (if a && e then Some ps else None) ≡ Some rest → (if b && e then Some ps else None) ≡ Some rest
     by true true e f g t = t
@@ -32,11 +32,11 @@ behind-lower [] i j bytes (p ∷ ps) rest le h = by (nat_le i p.0) (nat_le j p.0
       where
         bad : nat_le i p.0 ≡ true → nat_le j p.0 ≡ false → ⊥
         bad f g = grind (arith, nat_tests)
-behind-lower (d ∷ ds) i j bytes [] rest le h = absurd (cc)
-behind-lower (d ∷ ds) i j bytes (p ∷ ps) rest le h = by (nat_le d.0 p.0 && bytes_eq d.1 p.1) (behind-lower ds i j bytes ps rest le) h
+rest_after-lower (d ∷ ds) i j bytes [] rest le h = absurd (cc)
+rest_after-lower (d ∷ ds) i j bytes (p ∷ ps) rest le h = by (nat_le d.0 p.0 && bytes_eq d.1 p.1) (rest_after-lower ds i j bytes ps rest le) h
   where
-    by : (b : Bool) → (behind (ds ++ (i, bytes) ∷ []) ps ≡ Some rest → behind (ds ++ (j, bytes) ∷ []) ps ≡ Some rest)
-        → (if b then behind (ds ++ (i, bytes) ∷ []) ps else None) ≡ Some rest → (if b then behind (ds ++ (j, bytes) ∷ []) ps else None) ≡ Some rest
+    by : (b : Bool) → (rest_after (ds ++ (i, bytes) ∷ []) ps ≡ Some rest → rest_after (ds ++ (j, bytes) ∷ []) ps ≡ Some rest)
+        → (if b then rest_after (ds ++ (i, bytes) ∷ []) ps else None) ≡ Some rest → (if b then rest_after (ds ++ (j, bytes) ∷ []) ps else None) ≡ Some rest
     by true ih t = ih t
     by false ih t = absurd (cc)
 
@@ -92,13 +92,13 @@ lower-moment lines c id w ps k m legal up own le after_last fresh same says h =
     let v = reply_step (take k lines) w mk.place xid fk.1 mk.what in
     let moved : move lines c id w (Answer k) ≡ Some v =
     answer-move lines c id w k mk.place bytes mk.what mk.live (omega (arith, le, mk.within)) mk.frame (and_from (nat_le w.moment (length (take k lines))) (int_le w.zxid zk) early low) mk.header told in
-    let there_m : behind (reply_step (take m lines) w mk.place xid fm.1 mk.what).1 ps ≡ Some y.0.1 = ap (λ (p : Walker × List Due). behind p.1 ps) mk.gives ∙ u.3 in
+    let there_m : rest_after (reply_step (take m lines) w mk.place xid fm.1 mk.what).1 ps ≡ Some y.0.1 = ap (λ (p : Walker × List Due). rest_after p.1 ps) mk.gives ∙ u.3 in
     let d = due_notices (later_of (after_update zk (take k lines)) (mk.place + 1)) mk.what.1.notices in
-    let there : behind v.1 ps ≡ Some y.0.1 =
-    behind-lower (fk.1 ++ d) (later_of (length (take m lines)) (mk.place + 1)) (later_of (length (take k lines)) (mk.place + 1)) (reply_packet xid zk mk.what.1.reply) ps y.0.1
+    let there : rest_after v.1 ps ≡ Some y.0.1 =
+    rest_after-lower (fk.1 ++ d) (later_of (length (take m lines)) (mk.place + 1)) (later_of (length (take k lines)) (mk.place + 1)) (reply_packet xid zk mk.what.1.reply) ps y.0.1
     (later-lower (length (take k lines)) (length (take m lines)) (mk.place + 1) (omega (arith, lk, length-take-le m lines mk.within, le)))
-    (ap (λ z. behind (fk.1 ++ d ++ ((later_of (length (take m lines)) (mk.place + 1), reply_packet xid z mk.what.1.reply) ∷ [])) ps) (sym same)
-    ∙ ap (λ n. behind (fk.1 ++ due_notices (later_of n (mk.place + 1)) mk.what.1.notices ++ ((later_of (length (take m lines)) (mk.place + 1), reply_packet xid zm mk.what.1.reply) ∷ [])) ps) (sym since)
-    ∙ ap (λ (p : Watches × List Due). behind (p.1 ++ due_notices (later_of (after_update zm (take m lines)) (mk.place + 1)) mk.what.1.notices ++ ((later_of (length (take m lines)) (mk.place + 1), reply_packet xid zm mk.what.1.reply) ∷ [])) ps) (sym fired)
+    (ap (λ z. rest_after (fk.1 ++ d ++ ((later_of (length (take m lines)) (mk.place + 1), reply_packet xid z mk.what.1.reply) ∷ [])) ps) (sym same)
+    ∙ ap (λ n. rest_after (fk.1 ++ due_notices (later_of n (mk.place + 1)) mk.what.1.notices ++ ((later_of (length (take m lines)) (mk.place + 1), reply_packet xid zm mk.what.1.reply) ∷ [])) ps) (sym since)
+    ∙ ap (λ (p : Watches × List Due). rest_after (p.1 ++ due_notices (later_of (after_update zm (take m lines)) (mk.place + 1)) mk.what.1.notices ++ ((later_of (length (take m lines)) (mk.place + 1), reply_packet xid zm mk.what.1.reply) ∷ [])) ps) (sym fired)
     ∙ there_m) in
     and_from (is_fresh lines c w.next (Answer k)) (is_some (given ps (move lines c id w (Answer k)))) fresh (ap is_some (given-some ps (move lines c id w (Answer k)) v y.0.1 moved there))

@@ -15,7 +15,7 @@ use Rattle.zk_transcript.specs.History.{State, session_at, state_at, first_place
 use Rattle.zk_transcript.specs.Legal.{is_legal}
 use Rattle.zk_transcript.specs.Walks.{Walker, Due, placed_frame, own_update, fired_above, later_of, seen_told, told_as_of, after_place, after_update, is_past}
 use Rattle.zk_least.specs.LeastWalk.{zxid_in, next_reply, is_allowed, first_passing, least_moment, HasZxids}
-use Rattle.zk_least.specs.LeastMoments.{code_in, lapse_shown, first_moment, moment_behind_lapse, moments_to_try, moments_for, first_of, LeastMomentLaw}
+use Rattle.zk_least.specs.LeastMoments.{code_in, lapse_shown, first_moment, moment_after_lapse, moments_to_try, moments_for, first_of, LeastMomentLaw}
 use Rattle.zk_least.proofs.Rising.{state_at-line}
 use Rattle.zk_least.proofs.LastUpdates.{IsPastUpdate, past-update, has-zxid}
 use Rattle.zk_least.proofs.Sessions.{IsGone, says-as, lapse-gone}
@@ -57,12 +57,12 @@ first-of-one test a n low one = by (test a) refl
 first-of-two : (test : ℕ → Bool) (a b n : ℕ) → ((k : ℕ) → test k ≡ true → (a ≤ k) × (k ≤ n)) → ((k : ℕ) → test k ≡ true → (test a ≡ true) ⊎ ((test b ≡ true) × (b ≤ k))) → first_passing test 0 n ≡ first_of test (a ∷ b ∷ [])
 first-of-two test a b n low two = by (test a) refl
   where
-    behind_first : test a ≡ false → (k : ℕ) → test k ≡ true → (test b ≡ true) × (b ≤ k)
-    behind_first e k t = elim (two k t) [ inl at ↦ absurd (let bad : false ≡ true = sym e ∙ at in cc) | inr q ↦ q ]
+    first_before : test a ≡ false → (k : ℕ) → test k ≡ true → (test b ≡ true) × (b ≤ k)
+    first_before e k t = elim (two k t) [ inl at ↦ absurd (let bad : false ≡ true = sym e ∙ at in cc) | inr q ↦ q ]
 
     second : (d : Bool) → test b ≡ d → test a ≡ false → first_passing test 0 n ≡ (if d then Some b else None)
-    second true f e = least-is test b n f (low b f).1 (λ k t le. (behind_first e k t).1)
-    second false f e = none-passing test 0 n (λ k t. let bad : false ≡ true = sym f ∙ (behind_first e k t).0 in cc)
+    second true f e = least-is test b n f (low b f).1 (λ k t le. (first_before e k t).1)
+    second false f e = none-passing test 0 n (λ k t. let bad : false ≡ true = sym f ∙ (first_before e k t).0 in cc)
 
     by : (d : Bool) → test a ≡ d → first_passing test 0 n ≡ (if d then Some a else first_of test (b ∷ []))
     by true e = least-is test a n e (low a e).1 (λ k t le. (low k t).0)
@@ -109,8 +109,8 @@ own-lapse : (id r : ℤ) → lapse_shown id (Lapse r id) ≡ Some id
 own-lapse id r = ap (λ b. when b id) ((Decides-int_eq id id).1 refl)
 
 -- right after its lapse a session is gone
-gone-behind : (lines : List TranscriptLine) (e : ℕ) (id r : ℤ) → slice_get lines e ≡ Some (Lapse r id) → IsGone (session_at id (state_at lines (e + 1)))
-gone-behind lines e id r at = subst (λ (s : State). IsGone (session_at id s)) (sym (state_at-line lines e (Lapse r id) at)) (lapse-gone (state_at lines e) id (session_at id (state_at lines e)) refl)
+gone-rest_after : (lines : List TranscriptLine) (e : ℕ) (id r : ℤ) → slice_get lines e ≡ Some (Lapse r id) → IsGone (session_at id (state_at lines (e + 1)))
+gone-rest_after lines e id r at = subst (λ (s : State). IsGone (session_at id s)) (sym (state_at-line lines e (Lapse r id) at)) (lapse-gone (state_at lines e) id (session_at id (state_at lines e)) refl)
 
 -- no lapse stands between two moments, where none stands from an earlier moment up to a place after them
 still-between : (lines : List TranscriptLine) (n a b top : ℕ) (id : ℤ) → n ≤ a → b ≤ n + top → ((j : ℕ) (l : TranscriptLine) → j < top → slice_get (drop n lines) j ≡ Some l → lapse_shown id l ≡ None) → NoLapses id (between a b lines)
@@ -160,7 +160,7 @@ module _ (lines : List TranscriptLine) (c : ℕ) (id : ℤ) (w : Walker) (ps : L
         allowed = made;
         zxid = at;
         past_update = past-update lines k (zxid_in bytes) legal (allowed-up lines c id w ps k (zxid_in bytes) up made at) at;
-        from = later-most (later_of w.moment (frame.0 + 1)) (after_update (zxid_in bytes) lines) k (later-most w.moment (frame.0 + 1) k a.not_back (omega (arith, lt, same (placed_frame c w.next lines) frame a.frame framed a.framed))) a.behind_update;
+        from = later-most (later_of w.moment (frame.0 + 1)) (after_update (zxid_in bytes) lines) k (later-most w.moment (frame.0 + 1) k a.not_back (omega (arith, lt, same (placed_frame c w.next lines) frame a.frame framed a.framed))) a.update_before;
         within = a.within;
       }
     where
@@ -193,9 +193,9 @@ module _ (lines : List TranscriptLine) (c : ℕ) (id : ℤ) (w : Walker) (ps : L
       ]
 
   -- where the first lapse after the update has this place, the moment right after it is the only other one that may be the least
-  behind_lapse : (k : ℕ) → is_allowed lines c id w ps k ≡ true → (x : ℕ × ℤ) → IsFirstAt (lapse_shown id) (after_update (zxid_in bytes) lines) (drop (after_update (zxid_in bytes) lines) lines) x
+  lapse_before : (k : ℕ) → is_allowed lines c id w ps k ≡ true → (x : ℕ × ℤ) → IsFirstAt (lapse_shown id) (after_update (zxid_in bytes) lines) (drop (after_update (zxid_in bytes) lines) lines) x
       → (is_allowed lines c id w ps (first_moment lines w frame.0 (zxid_in bytes)) ≡ true) ⊎ ((is_allowed lines c id w ps (later_of (first_moment lines w frame.0 (zxid_in bytes)) (x.0 + 1)) ≡ true) × (later_of (first_moment lines w frame.0 (zxid_in bytes)) (x.0 + 1) ≤ k))
-  behind_lapse k h x f = by (nat_le k (n + f.place)) refl
+  lapse_before k h x f = by (nat_le k (n + f.place)) refl
     where
       n : ℕ
       n = after_update (zxid_in bytes) lines
@@ -232,7 +232,7 @@ module _ (lines : List TranscriptLine) (c : ℕ) (id : ℤ) (w : Walker) (ps : L
           let right = later-right m (x.0 + 1) in
           let e : ℕ = (n + f.place) + 1 in
           let up_to : e ≤ s = omega (arith, at, right) in
-          let gone = gone-behind lines (n + f.place) id lapse.0 at_lapse in
+          let gone = gone-rest_after lines (n + f.place) id lapse.0 at_lapse in
           let here = has-zxid lines e k (zxid_in bytes) legal t.zxid t.past_update (omega arith) le in
           let there = has-zxid lines s k (zxid_in bytes) legal t.zxid t.past_update (omega (arith, from_update, left)) small in
           let a = gone-session lines e s id legal up_to here.some (there.zxid ∙ sym here.zxid) gone in
@@ -244,7 +244,7 @@ module _ (lines : List TranscriptLine) (c : ℕ) (id : ℤ) (w : Walker) (ps : L
       by false d = inr (past (grind (arith, nat_tests)))
 
   lapse-two : (k : ℕ) → is_allowed lines c id w ps k ≡ true
-      → (is_allowed lines c id w ps (first_moment lines w frame.0 (zxid_in bytes)) ≡ true) ⊎ ((is_allowed lines c id w ps (moment_behind_lapse lines id w frame.0 (zxid_in bytes)) ≡ true) × (moment_behind_lapse lines id w frame.0 (zxid_in bytes) ≤ k))
+      → (is_allowed lines c id w ps (first_moment lines w frame.0 (zxid_in bytes)) ≡ true) ⊎ ((is_allowed lines c id w ps (moment_after_lapse lines id w frame.0 (zxid_in bytes)) ≡ true) × (moment_after_lapse lines id w frame.0 (zxid_in bytes) ≤ k))
   lapse-two k h = by (first_place (lapse_shown id) n (drop n lines)) refl
     where
       n : ℕ
@@ -263,7 +263,7 @@ module _ (lines : List TranscriptLine) (c : ℕ) (id : ℤ) (w : Walker) (ps : L
 
       by : (o : Option (ℕ × ℤ)) → first_place (lapse_shown id) n (drop n lines) ≡ o → (is_allowed lines c id w ps m ≡ true) ⊎ ((is_allowed lines c id w ps (later_of m (after_place o)) ≡ true) × (later_of m (after_place o) ≤ k))
       by None e = inl (never e)
-      by (Some x) e = behind_lapse k h x (first_place-at (lapse_shown id) n (drop n lines) x e)
+      by (Some x) e = lapse_before k h x (first_place-at (lapse_shown id) n (drop n lines) x e)
 
   pub least-of-two : least_moment lines c id w ps ≡ first_of (is_allowed lines c id w ps) (moments_to_try lines id w frame.0 bytes None)
   least-of-two = by (int_eq (code_in bytes) session_expired) refl
@@ -274,8 +274,8 @@ module _ (lines : List TranscriptLine) (c : ℕ) (id : ℤ) (w : Walker) (ps : L
       low : (k : ℕ) → is_allowed lines c id w ps k ≡ true → (m ≤ k) × (k ≤ length lines)
       low k h = let t = tried k h in (t.from, t.within)
 
-      by : (d : Bool) → int_eq (code_in bytes) session_expired ≡ d → least_moment lines c id w ps ≡ first_of (is_allowed lines c id w ps) (m ∷ (if d then moment_behind_lapse lines id w frame.0 (zxid_in bytes) ∷ [] else []))
-      by true e = first-of-two (is_allowed lines c id w ps) m (moment_behind_lapse lines id w frame.0 (zxid_in bytes)) (length lines) low lapse-two
+      by : (d : Bool) → int_eq (code_in bytes) session_expired ≡ d → least_moment lines c id w ps ≡ first_of (is_allowed lines c id w ps) (m ∷ (if d then moment_after_lapse lines id w frame.0 (zxid_in bytes) ∷ [] else []))
+      by true e = first-of-two (is_allowed lines c id w ps) m (moment_after_lapse lines id w frame.0 (zxid_in bytes)) (length lines) low lapse-two
       by false e = first-of-one (is_allowed lines c id w ps) m (length lines) low (λ k h. elim (first-unless k h) [
         | inl a ↦ a
         | inr q ↦ absurd (let bad : false ≡ true = sym e ∙ (Decides-int_eq (code_in bytes) session_expired).1 q in cc)

@@ -75,9 +75,9 @@ pub before-first : (lines : List TranscriptLine) (p : ℤ) (e : ℕ) (z : ℤ) (
 before-first lines p e z w a = none-fires (take e lines) p w (λ j l h. let q = get-take e j lines l h in not-above p l (λ u s. a.before j u q.0 (q.1 ∙ ap Some s)))
 
 -- before a moment after the first update above, its notices come first, and then the rest
-pub behind-first : (lines : List TranscriptLine) (m : ℕ) (p : ℤ) (e : ℕ) (z : ℤ) (w : Watches) → is_legal lines ≡ true → IsAbove p lines e z → e < m
+pub rest_after-first : (lines : List TranscriptLine) (m : ℕ) (p : ℤ) (e : ℕ) (z : ℤ) (w : Watches) → is_legal lines ≡ true → IsAbove p lines e z → e < m
     → fired_above (take m lines) p w ≡ ((fired_above (take m lines) z (fired_at lines e w).0).0, (fired_at lines e w).1 ++ (fired_above (take m lines) z (fired_at lines e w).0).1)
-behind-first lines m p e z w legal a lt =
+rest_after-first lines m p e z w legal a lt =
     let past = take m lines in
     first-fires past p z e w (first-above lines m p e z legal a lt)
     ∙ ap (λ (h : Watches × List Due). ((fired_above past z h.0).0, h.1 ++ (fired_above past z h.0).1)) (fired-within lines m e w lt)

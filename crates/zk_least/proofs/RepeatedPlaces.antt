@@ -15,8 +15,8 @@ use Rattle.zk_transcript.specs.History.{first_place, when}
 use Rattle.zk_transcript.specs.Legal.{is_legal}
 use Rattle.zk_transcript.specs.Walks.{Walker, Tell, Plain, Answer, Due, move, placed_frame, fired_at, fired_above, later_of, next_update, above_shown, update_shown, told_update, then_due}
 use Rattle.zk_transcript.proofs.Zxids.{zxids-rise}
-use Rattle.zk_least.specs.LeastWalk.{zxid_in, next_reply, behind, given, repeats, plain_choice, choice_for, least_choice, least_moment, HasZxids}
-use Rattle.zk_least.specs.LeastSteps.{is_least, is_least_behind, least_step}
+use Rattle.zk_least.specs.LeastWalk.{zxid_in, next_reply, rest_after, given, repeats, plain_choice, choice_for, least_choice, least_moment, HasZxids}
+use Rattle.zk_least.specs.LeastSteps.{is_least, is_least_after, least_step}
 use Rattle.zk_least.specs.LeastQueues.{told_through, told_up_to, then_plainly, PlainReplyLaw}
 use Rattle.zk_least.proofs.Rising.{IsLong, at-line, state-long}
 use Rattle.zk_least.proofs.FirstPlaces.{first_place-at, first_place-none}
@@ -24,9 +24,9 @@ use Rattle.zk_least.proofs.Headers.{reply-zxid, not-notice}
 use Rattle.zk_least.proofs.Sound.{given-is}
 use Rattle.zk_least.proofs.Answering.{due-notices, reply-next}
 use Rattle.zk_least.proofs.Exchange.{IsAbove, next-above, told-by}
-use Rattle.zk_least.proofs.Ahead.{plainly-by, next-behind}
+use Rattle.zk_least.proofs.Ahead.{plainly-by, next-rest_after}
 use Rattle.zk_least.proofs.ChoiceCounts.{above, told-less, least-step-law}
-use Rattle.zk_least.proofs.Queues.{unarmed-fires, before-first, behind-first, at-first}
+use Rattle.zk_least.proofs.Queues.{unarmed-fires, before-first, rest_after-first, at-first}
 
 -- ---- the update of a zxid, and the first above the walker's
 
@@ -79,31 +79,31 @@ placed-above lines p e y z u legal a o up = by (nat_lt u.0 e) (nat_lt e u.0) ref
 
 -- ---- packets
 
-behind-then : (ds es ps qs : List Due) → behind ds ps ≡ Some qs → behind (ds ++ es) ps ≡ behind es qs
-behind-then [] es ps qs h = (let e : ps ≡ qs = cc in ap (behind es) e)
-behind-then (d ∷ ds) es [] qs h = absurd (cc)
-behind-then (d ∷ ds) es (p ∷ ps) qs h = by (nat_le d.0 p.0 && bytes_eq d.1 p.1) (behind-then ds es ps qs) h
+rest_after-then : (ds es ps qs : List Due) → rest_after ds ps ≡ Some qs → rest_after (ds ++ es) ps ≡ rest_after es qs
+rest_after-then [] es ps qs h = (let e : ps ≡ qs = cc in ap (rest_after es) e)
+rest_after-then (d ∷ ds) es [] qs h = absurd (cc)
+rest_after-then (d ∷ ds) es (p ∷ ps) qs h = by (nat_le d.0 p.0 && bytes_eq d.1 p.1) (rest_after-then ds es ps qs) h
   where
-    by : (b : Bool) → (behind ds ps ≡ Some qs → behind (ds ++ es) ps ≡ behind es qs) → (if b then behind ds ps else None) ≡ Some qs → (if b then behind (ds ++ es) ps else None) ≡ behind es qs
+    by : (b : Bool) → (rest_after ds ps ≡ Some qs → rest_after (ds ++ es) ps ≡ rest_after es qs) → (if b then rest_after ds ps else None) ≡ Some qs → (if b then rest_after (ds ++ es) ps else None) ≡ rest_after es qs
     by true ih t = ih t
     by false ih t = absurd (cc)
 
-behind-none : (ds es ps : List Due) → behind ds ps ≡ None → behind (ds ++ es) ps ≡ None
-behind-none [] es ps h = absurd (cc)
-behind-none (d ∷ ds) es [] h = refl
-behind-none (d ∷ ds) es (p ∷ ps) h = by (nat_le d.0 p.0 && bytes_eq d.1 p.1) (behind-none ds es ps) h
+rest_after-none : (ds es ps : List Due) → rest_after ds ps ≡ None → rest_after (ds ++ es) ps ≡ None
+rest_after-none [] es ps h = absurd (cc)
+rest_after-none (d ∷ ds) es [] h = refl
+rest_after-none (d ∷ ds) es (p ∷ ps) h = by (nat_le d.0 p.0 && bytes_eq d.1 p.1) (rest_after-none ds es ps) h
   where
-    by : (b : Bool) → (behind ds ps ≡ None → behind (ds ++ es) ps ≡ None) → (if b then behind ds ps else None) ≡ None → (if b then behind (ds ++ es) ps else None) ≡ None
+    by : (b : Bool) → (rest_after ds ps ≡ None → rest_after (ds ++ es) ps ≡ None) → (if b then rest_after ds ps else None) ≡ None → (if b then rest_after (ds ++ es) ps else None) ≡ None
     by true ih t = ih t
     by false ih t = refl
 
-given-then : (ds ps qs : List Due) (o : Option (Walker × List Due)) → behind ds ps ≡ Some qs → given ps (then_due ds o) ≡ given qs o
+given-then : (ds ps qs : List Due) (o : Option (Walker × List Due)) → rest_after ds ps ≡ Some qs → given ps (then_due ds o) ≡ given qs o
 given-then ds ps qs None h = refl
-given-then ds ps qs (Some y) h = ap (option_map (λ rest. (y.0, rest))) (behind-then ds y.1 ps qs h)
+given-then ds ps qs (Some y) h = ap (option_map (λ rest. (y.0, rest))) (rest_after-then ds y.1 ps qs h)
 
-given-none : (ds ps : List Due) (o : Option (Walker × List Due)) → behind ds ps ≡ None → given ps (then_due ds o) ≡ None
+given-none : (ds ps : List Due) (o : Option (Walker × List Due)) → rest_after ds ps ≡ None → given ps (then_due ds o) ≡ None
 given-none ds ps None h = refl
-given-none ds ps (Some y) h = ap (option_map (λ rest. (y.0, rest))) (behind-none ds y.1 ps h)
+given-none ds ps (Some y) h = ap (option_map (λ rest. (y.0, rest))) (rest_after-none ds y.1 ps h)
 
 -- ---- the walker right after the first update above its zxid
 
@@ -143,8 +143,8 @@ through-later lines w e y u legal a lt =
     let f = fired_at lines e w.watches in
     let old = fired_above (take u.0 lines) y f.0 in
     ap (λ b. if b then None else Some (record w { zxid = u.1; since = u.0 + 1; watches = (fired_above (take (u.0 + 1) lines) w.zxid w.watches).0 }, (fired_above (take (u.0 + 1) lines) w.zxid w.watches).1))
-    (ap (λ (x : Watches × List Due). is_unarmed x.0) (behind-first lines u.0 w.zxid e y w.watches legal a lt))
-    ∙ ap (λ (x : Watches × List Due). if is_unarmed old.0 then None else Some (record w { zxid = u.1; since = u.0 + 1; watches = x.0 }, x.1)) (behind-first lines (u.0 + 1) w.zxid e y w.watches legal a (omega (arith, lt)))
+    (ap (λ (x : Watches × List Due). is_unarmed x.0) (rest_after-first lines u.0 w.zxid e y w.watches legal a lt))
+    ∙ ap (λ (x : Watches × List Due). if is_unarmed old.0 then None else Some (record w { zxid = u.1; since = u.0 + 1; watches = x.0 }, x.1)) (rest_after-first lines (u.0 + 1) w.zxid e y w.watches legal a (omega (arith, lt)))
     ∙ both (is_unarmed old.0) (record w { zxid = u.1; since = u.0 + 1; watches = (fired_above (take (u.0 + 1) lines) y f.0).0 }) f.1 (fired_above (take (u.0 + 1) lines) y f.0).1
   where
     both : (b : Bool) (v : Walker) (ds es : List Due) → ◌≡◌ {A = Option (Walker × List Due)} (if b then None else Some (v, ds ++ es)) (then_due ds (if b then None else Some (v, es)))
@@ -235,7 +235,7 @@ no-plain lines c id w qs bytes long next apart = by (given qs (move lines c id w
         let x = read_request q.bytes in
         let packet = reply_packet (xid_of x) w.zxid q.said.reply in
         let shown : next_reply qs ≡ Some packet =
-        reply-next [] (later_of w.since (q.place + 1), packet) qs y.1 refl (not-notice (xid_of x) w.zxid q.said.reply long) (ap (λ (p : Walker × List Due). behind p.1 qs) q.gives ∙ u.3) in
+        reply-next [] (later_of w.since (q.place + 1), packet) qs y.1 refl (not-notice (xid_of x) w.zxid q.said.reply long) (ap (λ (p : Walker × List Due). rest_after p.1 qs) q.gives ∙ u.3) in
         absurd (apart (ap zxid_in (one bytes packet (sym next ∙ shown)) ∙ reply-zxid (xid_of x) w.zxid q.said.reply long))
 
 -- ---- the law
@@ -250,7 +250,7 @@ plain-step lines c id w ps bytes next rep =
 module _ (lines : List TranscriptLine) (c : ℕ) (id : ℤ) (bytes : List ℕ) (legal : is_legal lines ≡ true) (least : HasZxids lines) where
   -- what is to be shown of a walker and the packets ahead
   abbrev Goes : Walker → List Due → Type 0
-  Goes w ps = is_least lines c id w ps ≡ is_least_behind lines c id (then_plainly lines c id (given ps (told_up_to lines w (zxid_in bytes))))
+  Goes w ps = is_least lines c id w ps ≡ is_least_after lines c id (then_plainly lines c id (given ps (told_up_to lines w (zxid_in bytes))))
 
   abbrev Later : Walker → Type 0
   Later w = (v : Walker) (qs : List Due) → above v.zxid lines < above w.zxid lines → next_reply qs ≡ Some bytes → repeats (placed_frame c v.next lines) bytes ≡ true → Goes v qs
@@ -259,8 +259,8 @@ module _ (lines : List TranscriptLine) (c : ℕ) (id : ℤ) (bytes : List ℕ) (
   first-long w e y a = subst IsLong ((at-line lines e a.update legal a.there).zxid ∙ a.same) (state-long lines (e + 1) legal least)
 
   told-more : (w : Walker) (ps : List Due) (e : ℕ) (y : ℤ) → next_reply ps ≡ Some bytes → repeats (placed_frame c w.next lines) bytes ≡ true → w.zxid <ℤ zxid_in bytes → is_unarmed w.watches ≡ false → next_update w.zxid lines ≡ Some (e, y) → Later w
-      → is_least_behind lines c id (given ps (Some (told_first lines w e y, (fired_at lines e w.watches).1))) ≡ is_least_behind lines c id (then_plainly lines c id (given ps (told_through lines w (first_place (update_shown (zxid_in bytes)) 0 lines))))
-  told-more w ps e y next rep up armed n later = by (behind f ps) refl (int_lt z y) refl
+      → is_least_after lines c id (given ps (Some (told_first lines w e y, (fired_at lines e w.watches).1))) ≡ is_least_after lines c id (then_plainly lines c id (given ps (told_through lines w (first_place (update_shown (zxid_in bytes)) 0 lines))))
+  told-more w ps e y next rep up armed n later = by (rest_after f ps) refl (int_lt z y) refl
     where
       z : ℤ
       z = zxid_in bytes
@@ -277,51 +277,51 @@ module _ (lines : List TranscriptLine) (c : ℕ) (id : ℤ) (bytes : List ℕ) (
       less : above v.zxid lines < above w.zxid lines
       less = told-less lines w (v, f) (told-by lines c id w (v, f) (tell-next lines c id w e y armed n))
 
-      rest : (qs : List Due) → behind f ps ≡ Some qs → is_least lines c id v qs ≡ is_least_behind lines c id (then_plainly lines c id (given qs (told_up_to lines v z)))
-      rest qs h = later v qs less (sym (next-behind f ps qs (due-notices (e + 1) _) h) ∙ next) rep
+      rest : (qs : List Due) → rest_after f ps ≡ Some qs → is_least lines c id v qs ≡ is_least_after lines c id (then_plainly lines c id (given qs (told_up_to lines v z)))
+      rest qs h = later v qs less (sym (next-rest_after f ps qs (due-notices (e + 1) _) h) ∙ next) rep
 
-      by : (o : Option (List Due)) → behind f ps ≡ o → (b : Bool) → int_lt z y ≡ b
-          → is_least_behind lines c id (option_map (λ qs. (v, qs)) o) ≡ is_least_behind lines c id (then_plainly lines c id (given ps (told_through lines w (first_place (update_shown z) 0 lines))))
-      by None h true g = ap (λ x. is_least_behind lines c id (then_plainly lines c id (given ps x))) (sym (through-none lines w e y z legal a up g))
+      by : (o : Option (List Due)) → rest_after f ps ≡ o → (b : Bool) → int_lt z y ≡ b
+          → is_least_after lines c id (option_map (λ qs. (v, qs)) o) ≡ is_least_after lines c id (then_plainly lines c id (given ps (told_through lines w (first_place (update_shown z) 0 lines))))
+      by None h true g = ap (λ x. is_least_after lines c id (then_plainly lines c id (given ps x))) (sym (through-none lines w e y z legal a up g))
       by None h false g =
-          ap (λ x. is_least_behind lines c id (then_plainly lines c id x)) (sym (given-none f ps (told_up_to lines v z) h))
-          ∙ ap (λ x. is_least_behind lines c id (then_plainly lines c id (given ps x))) (sym (through-rest lines w e y z legal a armed up g))
+          ap (λ x. is_least_after lines c id (then_plainly lines c id x)) (sym (given-none f ps (told_up_to lines v z) h))
+          ∙ ap (λ x. is_least_after lines c id (then_plainly lines c id (given ps x))) (sym (through-rest lines w e y z legal a armed up g))
       by (Some qs) h false g =
           rest qs h
-          ∙ ap (λ x. is_least_behind lines c id (then_plainly lines c id x)) (sym (given-then f ps qs (told_up_to lines v z) h))
-          ∙ ap (λ x. is_least_behind lines c id (then_plainly lines c id (given ps x))) (sym (through-rest lines w e y z legal a armed up g))
+          ∙ ap (λ x. is_least_after lines c id (then_plainly lines c id x)) (sym (given-then f ps qs (told_up_to lines v z) h))
+          ∙ ap (λ x. is_least_after lines c id (then_plainly lines c id (given ps x))) (sym (through-rest lines w e y z legal a armed up g))
       by (Some qs) h true g =
           let low : z <ℤ y = grind (arith, nat_tests, ints) in
           let here : int_lt y z ≡ false = grind (arith, nat_tests, ints) in
           rest qs h
-          ∙ ap (λ b. is_least_behind lines c id (then_plainly lines c id (given qs (if b then told_through lines v (first_place (update_shown z) 0 lines) else Some (v, []))))) here
-          ∙ ap (is_least_behind lines c id) (no-plain lines c id v qs bytes (first-long w e y a) (sym (next-behind f ps qs (due-notices (e + 1) _) h) ∙ next) (λ s. omega (arith, ints, s, low)))
-          ∙ ap (λ x. is_least_behind lines c id (then_plainly lines c id (given ps x))) (sym (through-none lines w e y z legal a up g))
+          ∙ ap (λ b. is_least_after lines c id (then_plainly lines c id (given qs (if b then told_through lines v (first_place (update_shown z) 0 lines) else Some (v, []))))) here
+          ∙ ap (is_least_after lines c id) (no-plain lines c id v qs bytes (first-long w e y a) (sym (next-rest_after f ps qs (due-notices (e + 1) _) h) ∙ next) (λ s. omega (arith, ints, s, low)))
+          ∙ ap (λ x. is_least_after lines c id (then_plainly lines c id (given ps x))) (sym (through-none lines w e y z legal a up g))
 
   told-case : (w : Walker) (ps : List Due) → next_reply ps ≡ Some bytes → repeats (placed_frame c w.next lines) bytes ≡ true → w.zxid <ℤ zxid_in bytes → Later w
-      → is_least_behind lines c id (given ps (move lines c id w Tell)) ≡ is_least_behind lines c id (then_plainly lines c id (given ps (told_through lines w (first_place (update_shown (zxid_in bytes)) 0 lines))))
+      → is_least_after lines c id (given ps (move lines c id w Tell)) ≡ is_least_after lines c id (then_plainly lines c id (given ps (told_through lines w (first_place (update_shown (zxid_in bytes)) 0 lines))))
   told-case w ps next rep up later = by (is_unarmed w.watches) refl (next_update w.zxid lines) refl
     where
       o : Option (ℕ × ℤ)
       o = first_place (update_shown (zxid_in bytes)) 0 lines
 
-      nothing : move lines c id w Tell ≡ None → told_through lines w o ≡ None → is_least_behind lines c id (given ps (move lines c id w Tell)) ≡ is_least_behind lines c id (then_plainly lines c id (given ps (told_through lines w o)))
-      nothing p q = ap (λ x. is_least_behind lines c id (given ps x)) p ∙ ap (λ x. is_least_behind lines c id (then_plainly lines c id (given ps x))) (sym q)
+      nothing : move lines c id w Tell ≡ None → told_through lines w o ≡ None → is_least_after lines c id (given ps (move lines c id w Tell)) ≡ is_least_after lines c id (then_plainly lines c id (given ps (told_through lines w o)))
+      nothing p q = ap (λ x. is_least_after lines c id (given ps x)) p ∙ ap (λ x. is_least_after lines c id (then_plainly lines c id (given ps x))) (sym q)
 
       by : (b : Bool) → is_unarmed w.watches ≡ b → (n : Option (ℕ × ℤ)) → next_update w.zxid lines ≡ n
-          → is_least_behind lines c id (given ps (move lines c id w Tell)) ≡ is_least_behind lines c id (then_plainly lines c id (given ps (told_through lines w o)))
+          → is_least_after lines c id (given ps (move lines c id w Tell)) ≡ is_least_after lines c id (then_plainly lines c id (given ps (told_through lines w o)))
       by true h n g = nothing (tell-unarmed lines c id w h) (through-unarmed lines w o h)
       by false h None g = nothing (tell-last lines c id w g) (through-last lines w (zxid_in bytes) g up)
-      by false h (Some x) g = ap (λ y. is_least_behind lines c id (given ps y)) (tell-next lines c id w x.0 x.1 h g) ∙ told-more w ps x.0 x.1 next rep up h g later
+      by false h (Some x) g = ap (λ y. is_least_after lines c id (given ps y)) (tell-next lines c id w x.0 x.1 h g) ∙ told-more w ps x.0 x.1 next rep up h g later
 
   goes : (w : Walker) (ps : List Due) → next_reply ps ≡ Some bytes → repeats (placed_frame c w.next lines) bytes ≡ true → Later w → Goes w ps
   goes w [] next rep later = absurd (cc)
   goes w (p ∷ ps) next rep later =
-      (least-step-law lines c id w).more p ps ∙ ap (is_least_behind lines c id) (plain-step lines c id w (p ∷ ps) bytes next rep) ∙ by (int_lt w.zxid (zxid_in bytes)) refl
+      (least-step-law lines c id w).more p ps ∙ ap (is_least_after lines c id) (plain-step lines c id w (p ∷ ps) bytes next rep) ∙ by (int_lt w.zxid (zxid_in bytes)) refl
     where
       by : (b : Bool) → int_lt w.zxid (zxid_in bytes) ≡ b
-          → is_least_behind lines c id (given (p ∷ ps) (move lines c id w (if b then Tell else Plain)))
-          ≡ is_least_behind lines c id (then_plainly lines c id (given (p ∷ ps) (if b then told_through lines w (first_place (update_shown (zxid_in bytes)) 0 lines) else Some (w, []))))
+          → is_least_after lines c id (given (p ∷ ps) (move lines c id w (if b then Tell else Plain)))
+          ≡ is_least_after lines c id (then_plainly lines c id (given (p ∷ ps) (if b then told_through lines w (first_place (update_shown (zxid_in bytes)) 0 lines) else Some (w, []))))
       by true h = told-case w (p ∷ ps) next rep (grind (arith, nat_tests, ints)) later
       by false h = refl
 

@@ -19,7 +19,7 @@ use Rattle.zk_transcript.specs.History.{State, Session, state_at, asked_in, sess
 use Rattle.zk_transcript.specs.Legal.{is_legal}
 use Rattle.zk_transcript.specs.Answers.{Told, only, plain_reply, xid_of, tree_reply, session_refusal, limit_in}
 use Rattle.zk_transcript.specs.Walks.{Walker, Answer, Due, move, due_notices, fired_above, placed_frame, own_update, later_of, with_end, looked, seen_told, told_by_state, told_as_of, closes_session, told_response, response_at, reply_step, may_answer_at, after_update}
-use Rattle.zk_least.specs.LeastWalk.{zxid_in, next_reply, behind, HasZxids}
+use Rattle.zk_least.specs.LeastWalk.{zxid_in, next_reply, rest_after, HasZxids}
 use Rattle.zk_least.specs.LeastMoments.{code_in}
 use Rattle.zk_least.proofs.Rising.{started, state-long}
 use Rattle.zk_least.proofs.Sessions.{SaysAs, says-as}
@@ -159,20 +159,20 @@ told-same lines c id xid z x w k m None u v a b lag f g e =
 
 -- ---- two answers to one frame
 
-behind-last : (ds : List Due) (j k : ℕ) (bytes : List ℕ) (ps q r : List Due) → behind (ds ++ (j, bytes) ∷ []) ps ≡ Some q → behind (ds ++ (k, bytes) ∷ []) ps ≡ Some r → q ≡ r
-behind-last [] j k bytes [] q r f g = absurd (cc)
-behind-last [] j k bytes (p ∷ ps) q r f g = go (nat_le j p.0) (nat_le k p.0) (bytes_eq bytes p.1) f g
+rest_after-last : (ds : List Due) (j k : ℕ) (bytes : List ℕ) (ps q r : List Due) → rest_after (ds ++ (j, bytes) ∷ []) ps ≡ Some q → rest_after (ds ++ (k, bytes) ∷ []) ps ≡ Some r → q ≡ r
+rest_after-last [] j k bytes [] q r f g = absurd (cc)
+rest_after-last [] j k bytes (p ∷ ps) q r f g = go (nat_le j p.0) (nat_le k p.0) (bytes_eq bytes p.1) f g
   where
     go : (a b e : Bool) → (if a && e then Some ps else None) ≡ Some q → (if b && e then Some ps else None) ≡ Some r → q ≡ r
     go true true true f g = cc
     go true true false f g = absurd (cc)
     go false b e f g = absurd (cc)
     go true false e f g = absurd (cc)
-behind-last (x ∷ xs) j k bytes [] q r f g = absurd (cc)
-behind-last (x ∷ xs) j k bytes (p ∷ ps) q r f g = go (nat_le x.0 p.0 && bytes_eq x.1 p.1) (behind-last xs j k bytes ps q r) f g
+rest_after-last (x ∷ xs) j k bytes [] q r f g = absurd (cc)
+rest_after-last (x ∷ xs) j k bytes (p ∷ ps) q r f g = go (nat_le x.0 p.0 && bytes_eq x.1 p.1) (rest_after-last xs j k bytes ps q r) f g
   where
-    go : (b : Bool) → (behind (xs ++ (j, bytes) ∷ []) ps ≡ Some q → behind (xs ++ (k, bytes) ∷ []) ps ≡ Some r → q ≡ r)
-        → (if b then behind (xs ++ (j, bytes) ∷ []) ps else None) ≡ Some q → (if b then behind (xs ++ (k, bytes) ∷ []) ps else None) ≡ Some r → q ≡ r
+    go : (b : Bool) → (rest_after (xs ++ (j, bytes) ∷ []) ps ≡ Some q → rest_after (xs ++ (k, bytes) ∷ []) ps ≡ Some r → q ≡ r)
+        → (if b then rest_after (xs ++ (j, bytes) ∷ []) ps else None) ≡ Some q → (if b then rest_after (xs ++ (k, bytes) ∷ []) ps else None) ≡ Some r → q ≡ r
     go true ih f g = ih f g
     go false ih f g = absurd (cc)
 
@@ -189,8 +189,8 @@ core-same : (lines : List TranscriptLine) (c : ℕ) (id : ℤ) (w : Walker) (k m
     → k ≤ m → m ≤ length lines → may_answer_at (take k lines) w ≡ true
     → told_as_of (take k lines) c id (read_request bytes) (fired_above (take k lines) w.zxid w.watches).0 (own_update c w.next lines) ≡ Some u
     → told_as_of (take m lines) c id (read_request bytes) (fired_above (take m lines) w.zxid w.watches).0 (own_update c w.next lines) ≡ Some v
-    → behind (reply_step (take k lines) w place (xid_of (read_request bytes)) (fired_above (take k lines) w.zxid w.watches).1 u).1 ps ≡ Some q
-    → behind (reply_step (take m lines) w place (xid_of (read_request bytes)) (fired_above (take m lines) w.zxid w.watches).1 v).1 ps ≡ Some r
+    → rest_after (reply_step (take k lines) w place (xid_of (read_request bytes)) (fired_above (take k lines) w.zxid w.watches).1 u).1 ps ≡ Some q
+    → rest_after (reply_step (take m lines) w place (xid_of (read_request bytes)) (fired_above (take m lines) w.zxid w.watches).1 v).1 ps ≡ Some r
     → IsSameAnswer (reply_step (take k lines) w place (xid_of (read_request bytes)) (fired_above (take k lines) w.zxid w.watches).1 u)
     (reply_step (take m lines) w place (xid_of (read_request bytes)) (fired_above (take m lines) w.zxid w.watches).1 v) q r
 core-same lines c id w k m place bytes u v ps q r legal least up le within op f g a b =
@@ -227,12 +227,12 @@ core-same lines c id w k m place bytes u v ps q r legal least up le within op f 
         over = ap (λ (t : Bool × Told). t.0) one;
         moment = omega (arith, le, length-take-le k lines (omega (arith, le, within)), length-take-le m lines within);
       };
-      rest = behind-last (fk.1 ++ due_notices (later_of (after_update zk (take k lines)) (place + 1)) u.1.notices) (later_of (length (take k lines)) (place + 1)) (later_of (length (take m lines)) (place + 1)) (reply_packet xid zk u.1.reply) ps q r
+      rest = rest_after-last (fk.1 ++ due_notices (later_of (after_update zk (take k lines)) (place + 1)) u.1.notices) (later_of (length (take k lines)) (place + 1)) (later_of (length (take m lines)) (place + 1)) (reply_packet xid zk u.1.reply) ps q r
           a
-          (ap (λ (p : Watches × List Due). behind (p.1 ++ due_notices (later_of (after_update zk (take k lines)) (place + 1)) u.1.notices ++ ((later_of (length (take m lines)) (place + 1), reply_packet xid zk u.1.reply) ∷ [])) ps) (sym fired)
-          ∙ ap (λ n. behind (fm.1 ++ due_notices (later_of n (place + 1)) u.1.notices ++ ((later_of (length (take m lines)) (place + 1), reply_packet xid zk u.1.reply) ∷ [])) ps) (sym since)
-          ∙ ap (λ (t : Bool × Told). behind (fm.1 ++ due_notices (later_of (after_update zm (take m lines)) (place + 1)) t.1.notices ++ ((later_of (length (take m lines)) (place + 1), reply_packet xid zk t.1.reply) ∷ [])) ps) one
-          ∙ ap (λ z. behind (fm.1 ++ due_notices (later_of (after_update zm (take m lines)) (place + 1)) v.1.notices ++ ((later_of (length (take m lines)) (place + 1), reply_packet xid z v.1.reply) ∷ [])) ps) (sym same)
+          (ap (λ (p : Watches × List Due). rest_after (p.1 ++ due_notices (later_of (after_update zk (take k lines)) (place + 1)) u.1.notices ++ ((later_of (length (take m lines)) (place + 1), reply_packet xid zk u.1.reply) ∷ [])) ps) (sym fired)
+          ∙ ap (λ n. rest_after (fm.1 ++ due_notices (later_of n (place + 1)) u.1.notices ++ ((later_of (length (take m lines)) (place + 1), reply_packet xid zk u.1.reply) ∷ [])) ps) (sym since)
+          ∙ ap (λ (t : Bool × Told). rest_after (fm.1 ++ due_notices (later_of (after_update zm (take m lines)) (place + 1)) t.1.notices ++ ((later_of (length (take m lines)) (place + 1), reply_packet xid zk t.1.reply) ∷ [])) ps) one
+          ∙ ap (λ z. rest_after (fm.1 ++ due_notices (later_of (after_update zm (take m lines)) (place + 1)) v.1.notices ++ ((later_of (length (take m lines)) (place + 1), reply_packet xid z v.1.reply) ∷ [])) ps) (sym same)
           ∙ b);
     }
 
@@ -244,7 +244,7 @@ placed-same o j k a b f g =
 
 pub same-answer : (lines : List TranscriptLine) (c : ℕ) (id : ℤ) (w : Walker) (k m : ℕ) (y t : Walker × List Due) (ps q r : List Due)
     → is_legal lines ≡ true → HasZxids lines → pos 0 <ℤ w.zxid → k ≤ m
-    → move lines c id w (Answer k) ≡ Some y → move lines c id w (Answer m) ≡ Some t → behind y.1 ps ≡ Some q → behind t.1 ps ≡ Some r → IsSameAnswer y t q r
+    → move lines c id w (Answer k) ≡ Some y → move lines c id w (Answer m) ≡ Some t → rest_after y.1 ps ≡ Some q → rest_after t.1 ps ≡ Some r → IsSameAnswer y t q r
 same-answer lines c id w k m y t ps q r legal least up le f g a b =
     let mk = made lines c id w k y f in
     let mm = made lines c id w m t g in
@@ -255,5 +255,5 @@ same-answer lines c id w k m y t ps q r legal least up le f g a b =
     ap (λ n. reply_step (take m lines) w n (xid_of (read_request mk.bytes)) (fired_above (take m lines) w.zxid w.watches).1 mm.what) e.0
     ∙ ap (λ bs. reply_step (take m lines) w mm.place (xid_of (read_request bs)) (fired_above (take m lines) w.zxid w.watches).1 mm.what) e.1 ∙ mm.gives in
     let s = core-same lines c id w k m mk.place mk.bytes mk.what mm.what ps q r legal least up le mm.within mk.may_answer mk.told told
-    (ap (λ (p : Walker × List Due). behind p.1 ps) mk.gives ∙ a) (ap (λ (p : Walker × List Due). behind p.1 ps) gives ∙ b) in
+    (ap (λ (p : Walker × List Due). rest_after p.1 ps) mk.gives ∙ a) (ap (λ (p : Walker × List Due). rest_after p.1 ps) gives ∙ b) in
     subst (λ (p : Walker × List Due). IsSameAnswer y p q r) gives (subst (λ (p : Walker × List Due). IsSameAnswer p (reply_step (take m lines) w mk.place (xid_of (read_request mk.bytes)) (fired_above (take m lines) w.zxid w.watches).1 mm.what) q r) mk.gives s)

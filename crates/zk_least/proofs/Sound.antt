@@ -3,18 +3,18 @@ use Rattle.std.proofs.Common.{◌≡◌, ℕ, zero, suc, ◌+◌, List, [], ◌�
 use Rattle.std.specs.Prelude.{Option, Some, None, option_map, is_some, nat_le, ◌&&◌, if◌then◌else◌, IsTrue, bytes_eq}
 use Rattle.zk_transcript.specs.declared.transcript.TranscriptLine.{TranscriptLine}
 use Rattle.zk_transcript.specs.Walks.{Walker, Choice, Tell, Plain, Answer, Due, move, walk, then_due, are_sent, is_walked, at_start, placed_frame, next_index, all_choices, is_fresh, are_fresh, IsFreshWalk}
-use Rattle.zk_least.specs.LeastWalk.{behind, given, is_allowed, first_passing, least_moment, plain_choice, repeats, choice_for, least_choice, next_reply, least_from, least_walk, zxid_in}
+use Rattle.zk_least.specs.LeastWalk.{rest_after, given, is_allowed, first_passing, least_moment, plain_choice, repeats, choice_for, least_choice, next_reply, least_from, least_walk, zxid_in}
 use Rattle.std.proofs.lemmas.Bool.{and_from, and_parts}
 use Rattle.zk_transcript.proofs.Longer.{move-index}
 
 -- ---- packets that are due, and those after them
 
-pub behind-sent : (ds es ps rest : List Due) → behind ds ps ≡ Some rest → are_sent es rest ≡ true → are_sent (ds ++ es) ps ≡ true
-behind-sent [] es ps rest h s = let e : ps ≡ rest = cc in subst (λ l. are_sent es l ≡ true) (sym e) s
-behind-sent (d ∷ ds) es [] rest h s = absurd (cc)
-behind-sent (d ∷ ds) es (p ∷ ps) rest h s = go (nat_le d.0 p.0 && bytes_eq d.1 p.1) (λ e. behind-sent ds es ps rest e s) h
+pub rest_after-sent : (ds es ps rest : List Due) → rest_after ds ps ≡ Some rest → are_sent es rest ≡ true → are_sent (ds ++ es) ps ≡ true
+rest_after-sent [] es ps rest h s = let e : ps ≡ rest = cc in subst (λ l. are_sent es l ≡ true) (sym e) s
+rest_after-sent (d ∷ ds) es [] rest h s = absurd (cc)
+rest_after-sent (d ∷ ds) es (p ∷ ps) rest h s = go (nat_le d.0 p.0 && bytes_eq d.1 p.1) (λ e. rest_after-sent ds es ps rest e s) h
   where
-    go : (b : Bool) → (behind ds ps ≡ Some rest → are_sent (ds ++ es) ps ≡ true) → (if b then behind ds ps else None) ≡ Some rest → (b && are_sent (ds ++ es) ps) ≡ true
+    go : (b : Bool) → (rest_after ds ps ≡ Some rest → are_sent (ds ++ es) ps ≡ true) → (if b then rest_after ds ps else None) ≡ Some rest → (b && are_sent (ds ++ es) ps) ≡ true
     go true ih e = ih e
     go false ih e = absurd (cc)
 
@@ -64,17 +64,17 @@ pub record IsGood (lines : List TranscriptLine) (c : ℕ) (id : ℤ) (w : Walker
   pub lawful : is_walked (walk lines c id w xs) ps ≡ true
   pub fresh : are_fresh lines c w.next xs ≡ true
 
-pub given-is : (ps : List Due) (o : Option (Walker × List Due)) (y : Walker × List Due) → given ps o ≡ Some y → (u : Walker × List Due) × (o ≡ Some u) × (u.0 ≡ y.0) × (behind u.1 ps ≡ Some y.1)
+pub given-is : (ps : List Due) (o : Option (Walker × List Due)) (y : Walker × List Due) → given ps o ≡ Some y → (u : Walker × List Due) × (o ≡ Some u) × (u.0 ≡ y.0) × (rest_after u.1 ps ≡ Some y.1)
 given-is ps None y h = absurd (cc)
-given-is ps (Some u) y h = go (behind u.1 ps) refl h
+given-is ps (Some u) y h = go (rest_after u.1 ps) refl h
   where
-    go : (o : Option (List Due)) → behind u.1 ps ≡ o → option_map (λ rest. (u.0, rest)) o ≡ Some y → (v : Walker × List Due) × (Some u ≡ Some v) × (v.0 ≡ y.0) × (behind v.1 ps ≡ Some y.1)
+    go : (o : Option (List Due)) → rest_after u.1 ps ≡ o → option_map (λ rest. (u.0, rest)) o ≡ Some y → (v : Walker × List Due) × (Some u ≡ Some v) × (v.0 ≡ y.0) × (rest_after v.1 ps ≡ Some y.1)
     go None e t = absurd (cc)
     go (Some rest) e t = let s : (u.0, rest) ≡ y = cc in (u, refl, ap (λ (p : Walker × List Due). p.0) s, e ∙ ap (λ (p : Walker × List Due). Some p.1) s)
 
-walked-more : (first : List Due) (o : Option (Walker × List Due)) (ps rest : List Due) → behind first ps ≡ Some rest → is_walked o rest ≡ true → is_walked (then_due first o) ps ≡ true
+walked-more : (first : List Due) (o : Option (Walker × List Due)) (ps rest : List Due) → rest_after first ps ≡ Some rest → is_walked o rest ≡ true → is_walked (then_due first o) ps ≡ true
 walked-more first None ps rest h s = absurd (cc)
-walked-more first (Some r) ps rest h s = behind-sent first r.1 ps rest h s
+walked-more first (Some r) ps rest h s = rest_after-sent first r.1 ps rest h s
 
 good-empty : (lines : List TranscriptLine) (c : ℕ) (id : ℤ) (w : Walker) (xs : List Choice) → [] ≡ xs → IsGood lines c id w [] xs
 unfolding walk all_choices

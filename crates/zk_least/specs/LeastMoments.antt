@@ -27,15 +27,15 @@ abbrev pub first_moment : List TranscriptLine → Walker → ℕ → ℤ → ℕ
 first_moment lines w place zxid = later_of (later_of w.moment (place + 1)) (after_update zxid lines)
 
 -- the first moment that is besides after the session's first lapse since the update of the reply's zxid, if there is one
-abbrev pub moment_behind_lapse : List TranscriptLine → ℤ → Walker → ℕ → ℤ → ℕ
-moment_behind_lapse lines id w place zxid = later_of (first_moment lines w place zxid) (lapsed_from id (after_update zxid lines) lines)
+abbrev pub moment_after_lapse : List TranscriptLine → ℤ → Walker → ℕ → ℤ → ℕ
+moment_after_lapse lines id w place zxid = later_of (first_moment lines w place zxid) (lapsed_from id (after_update zxid lines) lines)
 
 -- the moments to try for a reply to the frame at a place: u is the request's own update
 abbrev pub moments_to_try : List TranscriptLine → ℤ → Walker → ℕ → List ℕ → Option (ℕ × UpdateRec) → List ℕ
 moments_to_try lines id w place bytes (Some u) = (u.0 + 1) ∷ []
 moments_to_try lines id w place bytes None =
     first_moment lines w place (zxid_in bytes)
-    ∷ (if int_eq (code_in bytes) session_expired then moment_behind_lapse lines id w place (zxid_in bytes) ∷ [] else [])
+    ∷ (if int_eq (code_in bytes) session_expired then moment_after_lapse lines id w place (zxid_in bytes) ∷ [] else [])
 
 abbrev pub moments_for : List TranscriptLine → ℕ → ℤ → Walker → List ℕ → Option (ℕ × List ℕ) → List ℕ
 moments_for lines c id w bytes None = []
@@ -61,7 +61,7 @@ pub record IsAllowedMoment (lines : List TranscriptLine) (c : ℕ) (w : Walker) 
   pub framed : placed_frame c w.next lines ≡ Some frame
   pub fresh : frame.0 < m
   pub zxid : (state_at lines m).zxid ≡ zxid_in bytes
-  pub behind_update : after_update (zxid_in bytes) lines ≤ m
+  pub update_before : after_update (zxid_in bytes) lines ≤ m
   pub before_next : (x : ℕ × ℤ) → next_update (zxid_in bytes) lines ≡ Some x → m ≤ x.0
   pub own : (u : ℕ × UpdateRec) → own_update c w.next lines ≡ Some u → m ≡ u.0 + 1
 

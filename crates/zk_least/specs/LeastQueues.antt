@@ -9,7 +9,7 @@ use Rattle.zk_transcript.specs.History.{state_at, first_place}
 use Rattle.zk_transcript.specs.Legal.{is_legal}
 use Rattle.zk_transcript.specs.Walks.{Walker, Plain, Due, move, placed_frame, is_above, then_fired, fired_above, update_shown, after_update}
 use Rattle.zk_least.specs.LeastWalk.{zxid_in, next_reply, given, repeats, HasZxids}
-use Rattle.zk_least.specs.LeastSteps.{is_least, is_least_behind}
+use Rattle.zk_least.specs.LeastSteps.{is_least, is_least_after}
 
 -- the line of an update above the walker's zxid adds to the queue what the update fires; any other line adds nothing
 abbrev pub QueueLaw : Type 0
@@ -46,7 +46,7 @@ then_plainly lines c id (Some y) = given y.1 (move lines c id y.0 Plain)
 abbrev pub PlainReplyLaw : Type 0
 PlainReplyLaw = (lines : List TranscriptLine) (c : ℕ) (id : ℤ) (w : Walker) (ps : List Due) (bytes : List ℕ)
     → IsTrue (is_legal lines) → HasZxids lines → next_reply ps ≡ Some bytes → IsTrue (repeats (placed_frame c w.next lines) bytes)
-    → is_least lines c id w ps ≡ is_least_behind lines c id (then_plainly lines c id (given ps (told_up_to lines w (zxid_in bytes))))
+    → is_least lines c id w ps ≡ is_least_after lines c id (then_plainly lines c id (given ps (told_up_to lines w (zxid_in bytes))))
 
 -- ---- after the last reply
 

@@ -4,7 +4,7 @@ use Rattle.zk_transcript.specs.declared.transcript.TranscriptLine.{TranscriptLin
 use Rattle.zk_transcript.specs.Legal.{is_legal}
 use Rattle.zk_transcript.specs.Walks.{Walker, Answer, Due, move, placed_frame, fired_above}
 use Rattle.zk_least.specs.LeastWalk.{zxid_in, next_reply, given, is_allowed, repeats, HasZxids}
-use Rattle.zk_least.specs.LeastSteps.{is_least, is_least_behind}
+use Rattle.zk_least.specs.LeastSteps.{is_least, is_least_after}
 use Rattle.zk_least.specs.LeastMoments.{moments_for, first_of}
 use Rattle.zk_least.specs.LeastQueues.{told_up_to, then_plainly, is_front}
 
@@ -20,7 +20,7 @@ reply_given lines c id w ps bytes false = given_at lines c id w ps (first_of (is
 
 abbrev pub is_least_by_reply : List TranscriptLine → ℕ → ℤ → Walker → List Due → Option (List ℕ) → Bool
 is_least_by_reply lines c id w ps None = is_front ps (fired_above lines w.zxid w.watches).1
-is_least_by_reply lines c id w ps (Some bytes) = is_least_behind lines c id (reply_given lines c id w ps bytes (repeats (placed_frame c w.next lines) bytes))
+is_least_by_reply lines c id w ps (Some bytes) = is_least_after lines c id (reply_given lines c id w ps bytes (repeats (placed_frame c w.next lines) bytes))
 
 abbrev pub LeastRepliesLaw : Type 0
 LeastRepliesLaw = (lines : List TranscriptLine) (c : ℕ) (id : ℤ) (w : Walker) (ps : List Due)

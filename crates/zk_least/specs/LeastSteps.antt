@@ -14,13 +14,13 @@ abbrev pub is_least : List TranscriptLine → ℕ → ℤ → Walker → List Du
 is_least lines c id w ps = is_some (least_from (length lines + length ps) lines c id w ps)
 
 -- the least walk from the walker that was reached, if one was, gives the packets that are left
-abbrev pub is_least_behind : List TranscriptLine → ℕ → ℤ → Option (Walker × List Due) → Bool
-is_least_behind lines c id None = false
-is_least_behind lines c id (Some y) = is_least lines c id y.0 y.1
+abbrev pub is_least_after : List TranscriptLine → ℕ → ℤ → Option (Walker × List Due) → Bool
+is_least_after lines c id None = false
+is_least_after lines c id (Some y) = is_least lines c id y.0 y.1
 
 pub record IsLeastByStep (lines : List TranscriptLine) (c : ℕ) (id : ℤ) (w : Walker) : Type 0 where
   pub over : is_least lines c id w [] ≡ true
-  pub more : (p : Due) (ps : List Due) → is_least lines c id w (p ∷ ps) ≡ is_least_behind lines c id (least_step lines c id w (p ∷ ps))
+  pub more : (p : Due) (ps : List Due) → is_least lines c id w (p ∷ ps) ≡ is_least_after lines c id (least_step lines c id w (p ∷ ps))
 
 abbrev pub LeastStepLaw : Type 0
 LeastStepLaw = (lines : List TranscriptLine) (c : ℕ) (id : ℤ) (w : Walker) → IsLeastByStep lines c id w

@@ -31,17 +31,17 @@ next_reply [] = None
 next_reply (p ∷ ps) = if is_notice p.1 then next_reply ps else Some p.1
 
 -- the packets that are left after those that are due, where these come first and none stands before the first place where it may
-abbrev pub behind : List Due → List Due → Option (List Due)
-behind [] ps = Some ps
-behind (d ∷ ds) [] = None
-behind (d ∷ ds) (p ∷ ps) = if nat_le d.0 p.0 && bytes_eq d.1 p.1 then behind ds ps else None
+abbrev pub rest_after : List Due → List Due → Option (List Due)
+rest_after [] ps = Some ps
+rest_after (d ∷ ds) [] = None
+rest_after (d ∷ ds) (p ∷ ps) = if nat_le d.0 p.0 && bytes_eq d.1 p.1 then rest_after ds ps else None
 
 -- ---- the next choice
 
 -- the walker after a choice and the packets that are left, where the choice gives the next packets
 abbrev pub given : List Due → Option (Walker × List Due) → Option (Walker × List Due)
 given ps None = None
-given ps (Some y) = option_map (λ rest. (y.0, rest)) (behind y.1 ps)
+given ps (Some y) = option_map (λ rest. (y.0, rest)) (rest_after y.1 ps)
 
 -- a moment that is fresh, and at which an answer to the next frame gives the next packets
 abbrev pub is_allowed : List TranscriptLine → ℕ → ℤ → Walker → List Due → ℕ → Bool

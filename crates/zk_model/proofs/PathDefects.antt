@@ -104,17 +104,17 @@ no_dots (name ∷ more) h =
     or_from _ _ (not-true _ (and_parts (is_filled name) (not (is_dots name)) (sym (name-filled name) ∙ both.0)).1) (no_dots more both.1)
 
 -- a name that is empty stands after a last slash
-behind_cons : (b c : ℕ) (cs : Bytes) (is_slash : Bool) → list_all is_filled (later_names (c ∷ cs)) ≡ false
+after_cons : (b c : ℕ) (cs : Bytes) (is_slash : Bool) → list_all is_filled (later_names (c ∷ cs)) ≡ false
     → list_all is_filled (drop 1 (cond {A = List Bytes} is_slash ([] ∷ pieces (c ∷ cs)) (onto_first b (pieces (c ∷ cs))))) ≡ false
-behind_cons b c cs true e = ap (list_all is_filled) (pieces-cons (c ∷ cs)) ∙ and_right (is_filled (first_name (c ∷ cs))) _ e
-behind_cons b c cs false e = ap (list_all is_filled) (later_onto b (pieces (c ∷ cs))) ∙ e
+after_cons b c cs true e = ap (list_all is_filled) (pieces-cons (c ∷ cs)) ∙ and_right (is_filled (first_name (c ∷ cs))) _ e
+after_cons b c cs false e = ap (list_all is_filled) (later_onto b (pieces (c ∷ cs))) ∙ e
 
-behind_slash : (bs : Bytes) (k : ℕ) → suc k ≡ length bs → get_or bs k 0 ≡ slash → list_all is_filled (later_names bs) ≡ false
-behind_slash [] k h last = absurd (omega arith)
-behind_slash (b ∷ []) zero h last = ap (λ t. list_all is_filled (drop 1 (cond {A = List Bytes} t ([] ∷ [] ∷ []) ((b ∷ []) ∷ [])))) (eq-eqb b slash last)
-behind_slash (b ∷ []) (suc k) h last = absurd (omega arith)
-behind_slash (b ∷ c ∷ cs) zero h last = absurd (omega arith)
-behind_slash (b ∷ c ∷ cs) (suc k) h last = behind_cons b c cs (b == slash) (behind_slash (c ∷ cs) k (omega arith) last)
+after_slash : (bs : Bytes) (k : ℕ) → suc k ≡ length bs → get_or bs k 0 ≡ slash → list_all is_filled (later_names bs) ≡ false
+after_slash [] k h last = absurd (omega arith)
+after_slash (b ∷ []) zero h last = ap (λ t. list_all is_filled (drop 1 (cond {A = List Bytes} t ([] ∷ [] ∷ []) ((b ∷ []) ∷ [])))) (eq-eqb b slash last)
+after_slash (b ∷ []) (suc k) h last = absurd (omega arith)
+after_slash (b ∷ c ∷ cs) zero h last = absurd (omega arith)
+after_slash (b ∷ c ∷ cs) (suc k) h last = after_cons b c cs (b == slash) (after_slash (c ∷ cs) k (omega arith) last)
 
 -- ---- characters
 
@@ -278,7 +278,7 @@ ends-invalid p e v =
     let both = and_parts (nat_lt 1 (length p)) _ e in
     let long : 1 < length p = ltb-true _ _ both.0 in
     let last : get_or p (length p - 1) 0 ≡ slash = eqb-true _ _ both.1 in
-    both_ways _ (behind_slash p (length p - 1) (omega arith) last) (all_filled (later_names p) (named-later p long v.named))
+    both_ways _ (after_slash p (length p - 1) (omega arith) last) (all_filled (later_names p) (named-later p long v.named))
 
 long-invalid : (sequential : Bool) (text : Bytes) → max_bytes sequential < length text → is_valid sequential text ≡ false
 long-invalid true text h = and_left _ (is_path (with_one text)) (lt-leb _ _ h)

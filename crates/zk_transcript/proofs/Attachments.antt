@@ -99,11 +99,11 @@ old_or_new lines l c d k z id w own attaches h = by_line (attach_of c lines) ref
 -- ---- the lines after a place
 
 -- none of them is one of these
-abbrev pub NoneBehind : (TranscriptLine → Bool) → ℕ → List TranscriptLine → Type 0
-NoneBehind q place lines = (j : ℕ) (l : TranscriptLine) → place < j → slice_get lines j ≡ Some l → q l ≡ false
+abbrev pub NoneAfter : (TranscriptLine → Bool) → ℕ → List TranscriptLine → Type 0
+NoneAfter q place lines = (j : ℕ) (l : TranscriptLine) → place < j → slice_get lines j ≡ Some l → q l ≡ false
 
-none_behind-push : (q : TranscriptLine → Bool) (place : ℕ) (lines : List TranscriptLine) (l : TranscriptLine) → NoneBehind q place lines → q l ≡ false → NoneBehind q place (lines ++ l ∷ [])
-none_behind-push q place lines l all here j m lt g = by_place (within lines (l ∷ []) j)
+none_after-push : (q : TranscriptLine → Bool) (place : ℕ) (lines : List TranscriptLine) (l : TranscriptLine) → NoneAfter q place lines → q l ≡ false → NoneAfter q place (lines ++ l ∷ [])
+none_after-push q place lines l all here j m lt g = by_place (within lines (l ∷ []) j)
   where
     last : (i : ℕ) → slice_get (l ∷ []) i ≡ Some m → q m ≡ false
     last zero e = let same : l ≡ m = cc in subst (λ (x : TranscriptLine). q x ≡ false) same here
@@ -114,8 +114,8 @@ none_behind-push q place lines l all here j m lt g = by_place (within lines (l �
     by_place (back i e) = last i (sym (ap (slice_get (lines ++ l ∷ [])) e ∙ slice_get-back lines (l ∷ []) i) ∙ g)
 
 -- nothing stands after the last line
-none_behind-last : (q : TranscriptLine → Bool) (lines : List TranscriptLine) (l : TranscriptLine) → NoneBehind q (length lines) (lines ++ l ∷ [])
-none_behind-last q lines l j m lt g = by_place (within lines (l ∷ []) j)
+none_after-last : (q : TranscriptLine → Bool) (lines : List TranscriptLine) (l : TranscriptLine) → NoneAfter q (length lines) (lines ++ l ∷ [])
+none_after-last q lines l j m lt g = by_place (within lines (l ∷ []) j)
   where
     last : (i : ℕ) → j ≡ length lines + i → slice_get (l ∷ []) i ≡ Some m → q m ≡ false
     last zero at e = absurd (omega (arith, at))
@@ -132,8 +132,8 @@ pub record IsListed (lines : List TranscriptLine) (id : ℤ) (x : Session) : Typ
   pub own : attach_of x.connection lines ≡ Some (place, own_line x.attached id)
   pub latest : (c k : ℕ) (z : ℤ) → attach_of c lines ≡ Some (k, own_line z id) → z ≤ℤ x.attached
   pub one : (c k : ℕ) (z : ℤ) → attach_of c lines ≡ Some (k, own_line z id) → x.attached ≡ z → x.connection ≡ c
-  pub unmoved : NoneBehind (changes_session id) place lines
-  pub alive : x.lapsed ≡ false → NoneBehind (lapses_session id) place lines
+  pub unmoved : NoneAfter (changes_session id) place lines
+  pub alive : x.lapsed ≡ false → NoneAfter (lapses_session id) place lines
 
 pub record Lined (lines : List TranscriptLine) (s : State) : Type 0 where
   pub all : EachSession (IsListed lines) s.sessions
@@ -150,8 +150,8 @@ listed-skip lines l id x nobody leaves p = record {
   own = attach_of-skip lines l x.connection (nobody x.connection) ∙ p.own;
   latest = λ c k z h. p.latest c k z (sym (attach_of-skip lines l c (nobody c)) ∙ h);
   one = λ c k z h at. p.one c k z (sym (attach_of-skip lines l c (nobody c)) ∙ h) at;
-  unmoved = none_behind-push (changes_session id) p.place lines l p.unmoved leaves.0;
-  alive = λ lives. none_behind-push (lapses_session id) p.place lines l (p.alive lives) (leaves.1 lives);
+  unmoved = none_after-push (changes_session id) p.place lines l p.unmoved leaves.0;
+  alive = λ lives. none_after-push (lapses_session id) p.place lines l (p.alive lives) (leaves.1 lives);
 }
 
 past-skip : (lines : List TranscriptLine) (l : TranscriptLine) (s : State) (new : ℤ) → ((c : ℕ) → attach_shown c l ≡ None) → s.zxid ≤ℤ new → Lined lines s
@@ -183,8 +183,8 @@ lined-put lines l s new d z id x attaches others free above at_d at_z sessions z
       own = attach_of-push lines (l ∷ []) y.connection (p.place, own_line y.attached other) p.own;
       latest = λ c k w h. ⊎_elim (λ e. p.latest c k w e) (λ e. absurd (far e.2)) (old_or_new lines l c d k z id w other attaches h);
       one = λ c k w h at. ⊎_elim (λ e. p.one c k w e at) (λ e. absurd (far e.2)) (old_or_new lines l c d k z id w other attaches h);
-      unmoved = none_behind-push (changes_session other) p.place lines l p.unmoved (others other far).0;
-      alive = λ lives. none_behind-push (lapses_session other) p.place lines l (p.alive lives) (others other far).1;
+      unmoved = none_after-push (changes_session other) p.place lines l p.unmoved (others other far).0;
+      alive = λ lives. none_after-push (lapses_session other) p.place lines l (p.alive lives) (others other far).1;
     }
 
     own_d : attach_of d (lines ++ l ∷ []) ≡ Some (length lines, own_line z id)
@@ -204,8 +204,8 @@ lined-put lines l s new d z id x attaches others free above at_d at_z sessions z
           (λ e. let old = was.past c k w id e in absurd (omega (arith, ints, at_z, at)))
           (λ e. at_d ∙ sym e.0)
           (old_or_new lines l c d k z id w id attaches h);
-      unmoved = none_behind-last (changes_session id) lines l;
-      alive = λ lives. none_behind-last (lapses_session id) lines l;
+      unmoved = none_after-last (changes_session id) lines l;
+      alive = λ lives. none_after-last (lapses_session id) lines l;
     }
 
 -- ---- by the kinds of lines
@@ -358,14 +358,14 @@ own_line-place lines c id x k a at own p =
 
 -- no line after the own line opened, attached or ended the session
 pub attached-unmoved : (lines : List TranscriptLine) (c : ℕ) (id : ℤ) (x : Session) (k : ℕ) (a : Attachment) → is_legal lines ≡ true → attached_session c (after lines) ≡ Some (id, x) → attach_of c lines ≡ Some (k, a)
-    → NoneBehind (changes_session id) k lines
+    → NoneAfter (changes_session id) k lines
 attached-unmoved lines c id x k a legal at own =
     let p = (legal-lined lines legal).all id x (attached_session-open c (after lines) (id, x) at) in
-    subst (λ (n : ℕ). NoneBehind (changes_session id) n lines) (own_line-place lines c id x k a at own p) p.unmoved
+    subst (λ (n : ℕ). NoneAfter (changes_session id) n lines) (own_line-place lines c id x k a at own p) p.unmoved
 
 -- no line after the own line lapsed the session, where it lives
 pub attached-alive : (lines : List TranscriptLine) (c : ℕ) (id : ℤ) (x : Session) (k : ℕ) (a : Attachment) → is_legal lines ≡ true → attached_session c (after lines) ≡ Some (id, x) → attach_of c lines ≡ Some (k, a)
-    → x.lapsed ≡ false → NoneBehind (lapses_session id) k lines
+    → x.lapsed ≡ false → NoneAfter (lapses_session id) k lines
 attached-alive lines c id x k a legal at own lives =
     let p = (legal-lined lines legal).all id x (attached_session-open c (after lines) (id, x) at) in
-    subst (λ (n : ℕ). NoneBehind (lapses_session id) n lines) (own_line-place lines c id x k a at own p) (p.alive lives)
+    subst (λ (n : ℕ). NoneAfter (lapses_session id) n lines) (own_line-place lines c id x k a at own p) (p.alive lives)

@@ -8,9 +8,9 @@ use Rattle.zk_transcript.specs.declared.transcript.TranscriptLine.TheVariants.{O
 use Rattle.zk_transcript.specs.Legal.{is_legal, may_update}
 use Rattle.zk_transcript.proofs.Histories.{begin_line}
 
-pub begin-behind : (c proxy : ℕ) (id : ℤ) (passwd : List ℕ) (z : ℤ) (now : ℕ) → z ≤ℤ max_long → is_legal (Open c proxy id passwd ∷ begin_line z now ∷ []) ≡ true
+pub begin-after : (c proxy : ℕ) (id : ℤ) (passwd : List ℕ) (z : ℤ) (now : ℕ) → z ≤ℤ max_long → is_legal (Open c proxy id passwd ∷ begin_line z now ∷ []) ≡ true
 unfolding is_legal may_update
-begin-behind c proxy id passwd z now most = let long : int_le z max_long ≡ true = grind (arith, ints) in rw long refl
+begin-after c proxy id passwd z now most = let long : int_le z max_long ≡ true = grind (arith, ints) in rw long refl
 
 pub begin-before : (revision id : ℤ) (lines : List TranscriptLine) → is_legal (Lapse revision id ∷ lines) ≡ false
 unfolding is_legal

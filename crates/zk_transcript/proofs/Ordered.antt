@@ -74,5 +74,5 @@ below-is m i (Some j) e h = let same : j ≡ i = cc in let less : j < m = grind 
 pub indices-rise : (lines : List TranscriptLine) (j k c i m : ℕ) (a b : TranscriptLine) → is_ordered lines ≡ true → j < k → slice_get lines j ≡ Some a → slice_get lines k ≡ Some b
     → index_shown c a ≡ Some i → index_shown c b ≡ Some m → i < m
 indices-rise lines j k c i m a b ordered lt at_j at_k first second =
-    let behind = follows-from (take k lines) c m b second (ordered-at lines k b ordered at_k) in
-    below-is m i (index_shown c a) first (all-at (λ x. is_below m (index_shown c x)) (take k lines) j a behind (slice_get-take lines k j lt ∙ at_j))
+    let after = follows-from (take k lines) c m b second (ordered-at lines k b ordered at_k) in
+    below-is m i (index_shown c a) first (all-at (λ x. is_below m (index_shown c x)) (take k lines) j a after (slice_get-take lines k j lt ∙ at_j))

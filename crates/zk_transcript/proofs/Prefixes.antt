@@ -17,10 +17,10 @@ legal_from-take before s (l ∷ ls) (suc k) h =
     and_from (is_legal_line before s l) (is_legal_from (before ++ l ∷ []) (change before s l) (take k ls)) both.0 (legal_from-take (before ++ l ∷ []) (change before s l) ls k both.1)
 
 -- the place of the update is after a line that is none
-behind : (l : TranscriptLine) (ls : List TranscriptLine) (k j : ℕ) (u : UpdateRec) → j < suc k → slice_get (l ∷ ls) j ≡ Some (Update u) → ((i : ℕ) → i < k → slice_get ls i ≡ Some (Update u) → begins (take k ls) ≡ true)
+at_later : (l : TranscriptLine) (ls : List TranscriptLine) (k j : ℕ) (u : UpdateRec) → j < suc k → slice_get (l ∷ ls) j ≡ Some (Update u) → ((i : ℕ) → i < k → slice_get ls i ≡ Some (Update u) → begins (take k ls) ≡ true)
     → (l ≡ Update u → ⊥) → begins (take k ls) ≡ true
-behind l ls k zero u lt at later apart = absurd (apart (let same : l ≡ Update u = cc in same))
-behind l ls k (suc i) u lt at later apart = later i (omega arith) at
+at_later l ls k zero u lt at later apart = absurd (apart (let same : l ≡ Update u = cc in same))
+at_later l ls k (suc i) u lt at later apart = later i (omega arith) at
 
 -- the front that has an update has Begin
 pub begins-take : (ls : List TranscriptLine) (k j : ℕ) (u : UpdateRec) → j < k → slice_get ls j ≡ Some (Update u) → begins ls ≡ true → begins (take k ls) ≡ true
@@ -28,10 +28,10 @@ begins-take ls zero j u lt at h = absurd (omega arith)
 begins-take [] (suc k) j u lt at h = absurd (cc)
 begins-take (Update v ∷ ls) (suc k) j u lt at h = h
 begins-take (Lapse revision id ∷ ls) (suc k) j u lt at h = absurd (cc)
-begins-take (Open c proxy id passwd ∷ ls) (suc k) j u lt at h = behind (Open c proxy id passwd) ls k j u lt at (λ i below is. begins-take ls k i u below is h) (λ e. cc)
-begins-take (FrameLine c i z bytes ∷ ls) (suc k) j u lt at h = behind (FrameLine c i z bytes) ls k j u lt at (λ i below is. begins-take ls k i u below is h) (λ e. cc)
-begins-take (Send c bytes ∷ ls) (suc k) j u lt at h = behind (Send c bytes) ls k j u lt at (λ i below is. begins-take ls k i u below is h) (λ e. cc)
-begins-take (Close c end ∷ ls) (suc k) j u lt at h = behind (Close c end) ls k j u lt at (λ i below is. begins-take ls k i u below is h) (λ e. cc)
+begins-take (Open c proxy id passwd ∷ ls) (suc k) j u lt at h = at_later (Open c proxy id passwd) ls k j u lt at (λ i below is. begins-take ls k i u below is h) (λ e. cc)
+begins-take (FrameLine c i z bytes ∷ ls) (suc k) j u lt at h = at_later (FrameLine c i z bytes) ls k j u lt at (λ i below is. begins-take ls k i u below is h) (λ e. cc)
+begins-take (Send c bytes ∷ ls) (suc k) j u lt at h = at_later (Send c bytes) ls k j u lt at (λ i below is. begins-take ls k i u below is h) (λ e. cc)
+begins-take (Close c end ∷ ls) (suc k) j u lt at h = at_later (Close c end) ls k j u lt at (λ i below is. begins-take ls k i u below is h) (λ e. cc)
 
 pub is_legal-take : (lines : List TranscriptLine) (k : ℕ) → begins (take k lines) ≡ true → is_legal lines ≡ true → is_legal (take k lines) ≡ true
 unfolding is_legal

@@ -52,7 +52,7 @@ module _ (lines : List TranscriptLine) (c k m : ℕ) (a : Attachment) (legal : i
         by.1 ∙ sym (subst (λ (ls : List TranscriptLine). attach_of c ls ≡ Some (by.0, record { zxid = x.attached; session = id })) (take-append-drop m lines) pushed) ∙ own
 
     pub unmoved-until : (j : ℕ) (l : TranscriptLine) → k < j → j < m → slice_get lines j ≡ Some l → changes_session id l ≡ false
-    unmoved-until j l behind before g = attached-unmoved (take m lines) c id x k a front-legal at own_line-front j l behind (slice_get-take lines m j before ∙ g)
+    unmoved-until j l after before g = attached-unmoved (take m lines) c id x k a front-legal at own_line-front j l after (slice_get-take lines m j before ∙ g)
 
     pub alive-until : x.lapsed ≡ false → (j : ℕ) (l : TranscriptLine) → k < j → j < m → slice_get lines j ≡ Some l → lapses_session id l ≡ false
-    alive-until lives j l behind before g = attached-alive (take m lines) c id x k a front-legal at own_line-front lives j l behind (slice_get-take lines m j before ∙ g)
+    alive-until lives j l after before g = attached-alive (take m lines) c id x k a front-legal at own_line-front lives j l after (slice_get-take lines m j before ∙ g)

@@ -131,11 +131,11 @@ abbrev pub is_begin : UpdateKind → Bool
 is_begin (Begin now) = true
 is_begin _ = false
 
--- Begin is the first of the updates and lapses: it is this line; or this line is neither, and `behind` says it of the later lines
+-- Begin is the first of the updates and lapses: it is this line; or this line is neither, and `after` says it of the later lines
 abbrev pub begins_with : TranscriptLine → Bool → Bool
-begins_with (Update u) behind = is_begin u.kind
-begins_with (Lapse revision id) behind = false
-begins_with _ behind = behind
+begins_with (Update u) after = is_begin u.kind
+begins_with (Lapse revision id) after = false
+begins_with _ after = after
 
 abbrev pub begins : List TranscriptLine → Bool
 begins [] = false

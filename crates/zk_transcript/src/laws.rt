@@ -11,7 +11,7 @@ ghost use Rattle.zk_transcript.specs.History.{Session, IsSound, IsBounded, after
 ghost use Rattle.zk_transcript.specs.Legal.{Attachment, attach_of, index_shown, is_legal, is_ordered, changes_session, lapses_session};
 
 /// Begin may have any zxid up to the greatest of a `long`, and may follow a line that is neither an update nor a lapse.
-pub fn begin_comes_behind_an_open_line()
+pub fn begin_comes_after_an_open_line()
     ensures { (c proxy : ℕ) (id : ℤ) (passwd : List ℕ) (z : ℤ) (now : ℕ) → z ≤ℤ max_long → is_legal (Open c proxy id passwd ∷ Update (record { zxid = z; kind = Begin now }) ∷ []) ≡ true }
 {}
 

@@ -60,7 +60,7 @@ impl Cutter {
         if self.rest.is_empty() {
             self.take_front(piece)
         } else {
-            self.take_behind(piece)
+            self.take_after(piece)
         }
     }
 
@@ -80,11 +80,11 @@ impl Cutter {
             self.place = self.place.saturating_add(cut_off as u64);
             return Ok(frames);
         }
-        self.take_behind(piece)
+        self.take_after(piece)
     }
 
     /// [`Cutter::take`] for any bytes held: the piece is added to them, and the frames are copied from there.
-    fn take_behind(&mut self, piece: &[u8]) -> Result<Vec<Bytes>, CutFault>
+    fn take_after(&mut self, piece: &[u8]) -> Result<Vec<Bytes>, CutFault>
         ensures takes { Takes self.old piece.now result self.new }
         ensures for_good { (n : ℤ) → bad_length_of self.old.rest ≡ Some n → result ≡ Err (faults.BadLength self.old.place n) }
         ensures holds_no_more { (n : ℤ) → bad_length_of self.old.rest ≡ Some n → self.new ≡ self.old }

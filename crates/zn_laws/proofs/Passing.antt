@@ -39,8 +39,8 @@ use Rattle.zn_updates.specs.Layers.{Shows}
 use Rattle.zn_updates.specs.Parts.{part_content}
 use Rattle.zn_updates.proofs.Forms.{delete_refusal}
 use Rattle.zn_multi.specs.Carrying.{AreShort}
-use Rattle.zn_multi.specs.Leading.{behind}
-use Rattle.zn_multi.proofs.Leading.{behind_next, small_part}
+use Rattle.zn_multi.specs.Leading.{with_first}
+use Rattle.zn_multi.proofs.Leading.{with_first_next, small_part}
 use Rattle.zn_multi.proofs.Walking.{counts_at, counts_of, now_of, single_goes, walks_start, Finds, Goes, Walks}
 use Rattle.zn_laws.specs.Carried.{AreCarriedOut}
 use Rattle.zn_laws.proofs.Shown.{counts_shown, node_shown, owned_shown, IsIf}
@@ -233,7 +233,7 @@ path_found : (b : Bool) (path : Bytes) (up : Node) (children : ℕ) → node_pat
 path_found true path up children = refl
 path_found false path up children = refl
 
-alone : (x : Parts) → x ≡ behind [] [] [] x
+alone : (x : Parts) → x ≡ with_first [] [] [] x
 alone (Stopped k code) = ap (λ (n : ℕ). Stopped n code) (omega arith)
 alone (Passed rs t gs ss) = refl
 
@@ -425,7 +425,7 @@ module _ (z : ℤ) (v : View) (s : State) (shown : Shows z v s) (id : ℤ) (y : 
     results : List PartResult
     triggers : List Trigger
     touched : List ℤ
-    runs : (rest : List Part) → parts_of s.tree max_owned id (reverse before ++ rest) z now ≡ behind results triggers touched (parts_of tree max_owned id rest z now)
+    runs : (rest : List Part) → parts_of s.tree max_owned id (reverse before ++ rest) z now ≡ with_first results triggers touched (parts_of tree max_owned id rest z now)
     sound_tree : IsSoundTree s.sessions tree
     walks : Walks s.tree Anyone id changes tree
 
@@ -436,8 +436,8 @@ module _ (z : ℤ) (v : View) (s : State) (shown : Shows z v s) (id : ℤ) (y : 
     triggers = h.triggers ++ done.2;
     touched = h.touched ++ touched_by h.tree id p;
     runs = λ rest. ap (λ (ps : List Part). parts_of s.tree max_owned id ps z now) (order rest) ∙ h.runs (p ∷ rest)
-        ∙ ap (behind h.results h.triggers h.touched) (parts_of-done h.tree done.1 max_owned id p rest z now done.0 done.2 done.3)
-        ∙ behind_next h.results h.triggers h.touched done.0 done.2 (touched_by h.tree id p) (parts_of done.1 max_owned id rest z now);
+        ∙ ap (with_first h.results h.triggers h.touched) (parts_of-done h.tree done.1 max_owned id p rest z now done.0 done.2 done.3)
+        ∙ with_first_next h.results h.triggers h.touched done.0 done.2 (touched_by h.tree id p) (parts_of done.1 max_owned id rest z now);
     sound_tree = subst (Leads (IsSoundTree s.sessions)) done.3 (single-sound s.sessions max_owned id z now (y, opened, refl) h.tree p h.sound_tree (small_part p short));
     walks = subst (λ (c : List TreeChange). Walks s.tree Anyone id c done.1) (sym (some_same m goes.changes goes.is)) goes.walks;
   }

@@ -13,7 +13,7 @@ use Rattle.zn_layout.specs.declared.record.SessionRec.{SessionRec}
 use Rattle.zn_layout.specs.Records.{head_value, session_value, trigger_bytes, IsHeadRec, IsSessionRec}
 use Rattle.zn_layout.specs.Reading.{IsNoValue, IsValueOf, head_bytes, IsHeadWithin, session_bytes, IsSessionWithin}
 use Rattle.zn_layout.specs.ReadingSteps.{IsValidPath, IsValidTrigger, IsCounted, IsNotCounted, TakesItems}
-use Rattle.zn_layout.proofs.Lists.{behind, counts_same, paths_same, triggers_same, rest_same, items_same}
+use Rattle.zn_layout.proofs.Lists.{tails_same, counts_same, paths_same, triggers_same, rest_same, items_same}
 
 -- the items of a record, and its value by them
 pub record IsListRecord {R A : Type 0} (items : R → List A) (value_of : R → Bytes) (IsWithin : R → Type 0) (each : A → Bytes) (IsItem : A → Type 0) : Type 0 where
@@ -28,11 +28,11 @@ module _ {R A : Type 0} (items : R → List A) (value_of : R → Bytes) (IsWithi
   not_one v none r is e = none (count_bytes (length (items r)) ++ flat_map each (items r)) (e ∙ l.is r)
 
   pub uncounted : (v numbers : Bytes) → v ≡ 1 ∷ numbers → IsNotCounted numbers → IsNoValue value_of IsWithin v
-  uncounted v numbers begins none r is e = none (length (items r)) (flat_map each (items r)) (l.count r is) (behind (sym begins ∙ e ∙ l.is r))
+  uncounted v numbers begins none r is e = none (length (items r)) (flat_map each (items r)) (l.count r is) (tails_same (sym begins ∙ e ∙ l.is r))
 
   -- the items after a count, and what is left
   items_are : (v numbers left : Bytes) (n : ℕ) (r : R) → v ≡ 1 ∷ numbers → IsCounted numbers n left → IsWithin r → v ≡ value_of r → (n ≡ length (items r)) × (left ≡ flat_map each (items r))
-  items_are v numbers left n r begins c is e = counts_same n (length (items r)) left (flat_map each (items r)) c.0 (l.count r is) (sym c.1 ∙ behind (sym begins ∙ e ∙ l.is r))
+  items_are v numbers left n r begins c is e = counts_same n (length (items r)) left (flat_map each (items r)) c.0 (l.count r is) (sym c.1 ∙ tails_same (sym begins ∙ e ∙ l.is r))
 
   pub untaken : (v numbers left new : Bytes) (n : ℕ) → v ≡ 1 ∷ numbers → IsCounted numbers n left → TakesItems each IsItem n left new None → IsNoValue value_of IsWithin v
   untaken v numbers left new n begins c none r is e =
@@ -56,7 +56,7 @@ module _ {R A : Type 0} (items : R → List A) (value_of : R → Bytes) (IsWithi
   -- no two records have the same value, by their items
   pub one_list : (r q : R) → IsWithin r → IsWithin q → value_of r ≡ value_of q → items r ≡ items q
   one_list r q f g e =
-      let both = counts_same (length (items r)) (length (items q)) (flat_map each (items r)) (flat_map each (items q)) (l.count r f) (l.count q g) (behind (sym (l.is r) ∙ e ∙ l.is q)) in
+      let both = counts_same (length (items r)) (length (items q)) (flat_map each (items r)) (flat_map each (items q)) (l.count r f) (l.count q g) (tails_same (sym (l.is r) ∙ e ∙ l.is q)) in
       items_same each IsItem l.same (items r) (items q) [] [] (l.valid r f) (l.valid q g) both.0 (ap (λ (b : Bytes). b ++ []) both.1)
 
   pub other : (v numbers left new : Bytes) (n : ℕ) (xs : List A) → v ≡ 1 ∷ numbers → IsCounted numbers n left → TakesItems each IsItem n left new (Some xs) → new ≡ [] → (r : R) → IsWithin r → v ≡ value_of r → xs ≡ items r

@@ -93,14 +93,14 @@ kind_is (Children p) r = refl
 same_kind : (t u : Trigger) (r s : Bytes) → trigger_bytes t ++ r ≡ trigger_bytes u ++ s → kind_of t ≡ kind_of u
 same_kind t u r s e = sym (kind_is t r) ∙ ap (λ (l : Bytes). get_or l 0 0) e ∙ kind_is u s
 
-pub behind : {x y : ℕ} {r s : Bytes} → x ∷ r ≡ y ∷ s → r ≡ s
-behind e = ap (λ (l : Bytes). drop 1 l) e
+pub tails_same : {x y : ℕ} {r s : Bytes} → x ∷ r ≡ y ∷ s → r ≡ s
+tails_same e = ap (λ (l : Bytes). drop 1 l) e
 
 pub triggers_same : (t u : Trigger) (r s : Bytes) → IsValidTrigger t → IsValidTrigger u → trigger_bytes t ++ r ≡ trigger_bytes u ++ s → (t ≡ u) × (r ≡ s)
-triggers_same (Created p) (Created q) r s vt vu e = let both = paths_same p q r s vt vu (behind e) in (ap Created both.0, both.1)
-triggers_same (Deleted p) (Deleted q) r s vt vu e = let both = paths_same p q r s vt vu (behind e) in (ap Deleted both.0, both.1)
-triggers_same (Changed p) (Changed q) r s vt vu e = let both = paths_same p q r s vt vu (behind e) in (ap Changed both.0, both.1)
-triggers_same (Children p) (Children q) r s vt vu e = let both = paths_same p q r s vt vu (behind e) in (ap Children both.0, both.1)
+triggers_same (Created p) (Created q) r s vt vu e = let both = paths_same p q r s vt vu (tails_same e) in (ap Created both.0, both.1)
+triggers_same (Deleted p) (Deleted q) r s vt vu e = let both = paths_same p q r s vt vu (tails_same e) in (ap Deleted both.0, both.1)
+triggers_same (Changed p) (Changed q) r s vt vu e = let both = paths_same p q r s vt vu (tails_same e) in (ap Changed both.0, both.1)
+triggers_same (Children p) (Children q) r s vt vu e = let both = paths_same p q r s vt vu (tails_same e) in (ap Children both.0, both.1)
 triggers_same t u r s vt vu e = absurd (omega (arith, same_kind t u r s e))
 
 -- ---- items one after the other

@@ -36,7 +36,7 @@ pub numbers-read : (v numbers content : Bytes) (n : NodeNumbers) (o : Option Nod
     → MatchOption o (IsNodeRec (node_record n content) → ⊥) (λ m. (m ≡ n) × IsNodeRec (node_record m content)) → IsNumbersOf v o
 numbers-read v numbers content n None begins value fits h = node-read v numbers (node_record n content) None begins value fits h
 numbers-read v numbers content n (Some m) begins value fits h =
-    let behind : drop 37 v ≡ content = ap (drop 37) (begins ∙ value) ∙ drop-node_value (node_record n content) in (
-      subst (λ (l : Bytes). IsNodeRec (node_record m l)) (sym behind) h.1,
-      begins ∙ value ∙ ap (λ (k : NodeNumbers). node_value (node_record k content)) (sym h.0) ∙ ap (λ (l : Bytes). node_value (node_record m l)) (sym behind),
+    let after : drop 37 v ≡ content = ap (drop 37) (begins ∙ value) ∙ drop-node_value (node_record n content) in (
+      subst (λ (l : Bytes). IsNodeRec (node_record m l)) (sym after) h.1,
+      begins ∙ value ∙ ap (λ (k : NodeNumbers). node_value (node_record k content)) (sym h.0) ∙ ap (λ (l : Bytes). node_value (node_record m l)) (sym after),
     )

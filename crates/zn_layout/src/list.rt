@@ -11,7 +11,7 @@ ghost use Rattle.zn_layout.specs.Reading.{head_bytes, IsHeadWithin, session_byte
 ghost use Rattle.zn_layout.specs.ReadingSteps.{IsValidPath, IsValidTrigger, TakesItem, TakesItems, IsOfKind, IsPathOf, IsCounted, IsNotCounted};
 
 use crate::fault::{RecordFault, damaged};
-use crate::read::{behind_first, split_int};
+use crate::read::{after_first, split_int};
 use crate::record::{HeadRec, SessionRec};
 use std::alloc::Global;
 use std::marker::Model;
@@ -38,7 +38,7 @@ pub fn read_head(alloc: Global, key: &[u8], value: &[u8]) -> Result<HeadRec, Rec
 pub fn head_in(alloc: Global, value: &[u8]) -> Result<Option<HeadRec>, Memory>
     ensures { IfOk result (IsReadAs head_bytes IsHeadWithin value.now) }
 {
-    let Some(numbers) = behind_first(value) else {
+    let Some(numbers) = after_first(value) else {
         return Ok(None);
     };
     let Some((count, rest)) = split_count(numbers) else {
@@ -70,7 +70,7 @@ pub fn read_session(alloc: Global, key: &[u8], value: &[u8]) -> Result<SessionRe
 pub fn session_in(alloc: Global, value: &[u8]) -> Result<Option<SessionRec>, Memory>
     ensures { IfOk result (IsReadAs session_bytes IsSessionWithin value.now) }
 {
-    let Some(numbers) = behind_first(value) else {
+    let Some(numbers) = after_first(value) else {
         return Ok(None);
     };
     let Some((count, rest)) = split_count(numbers) else {

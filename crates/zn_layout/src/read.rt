@@ -59,7 +59,7 @@ pub fn read_lease(alloc: Global, key: &[u8], value: &[u8]) -> Result<LeaseRec, R
 fn node_in(alloc: Global, value: &[u8]) -> Result<Option<NodeRec>, Memory>
     ensures { IfOk result (IsReadAs node_value IsNodeRec value.now) }
 {
-    let Some(numbers) = behind_first(value) else {
+    let Some(numbers) = after_first(value) else {
         return Ok(None);
     };
     if numbers.len() < NODE_NUMBERS {
@@ -69,7 +69,7 @@ fn node_in(alloc: Global, value: &[u8]) -> Result<Option<NodeRec>, Memory>
 }
 
 /// What follows the first byte of a record's value; `None` where that byte is not 1.
-pub(crate) fn behind_first(value: &[u8]) -> Option<&[u8]>
+pub(crate) fn after_first(value: &[u8]) -> Option<&[u8]>
     ensures { MatchOption result ((rest : ListOfBytes) → value.now ≡ 1 ∷ rest → ⊥) (λ numbers. value.now ≡ 1 ∷ numbers.now) }
 {
     match value {
@@ -124,7 +124,7 @@ pub(crate) fn are_counts(m: i64, n: i64) -> bool
 pub fn counts_in(value: &[u8]) -> Option<CountRec>
     ensures { IsReadAs counts_value IsCountRec value.now result }
 {
-    let Some(numbers) = behind_first(value) else {
+    let Some(numbers) = after_first(value) else {
         return None;
     };
     if numbers.len() != COUNTS_NUMBERS {
@@ -158,7 +158,7 @@ fn bounded_counts(counts: CountRec) -> Option<CountRec>
 pub fn lease_in(value: &[u8]) -> Option<LeaseRec>
     ensures { IsReadAs lease_value IsLeaseRec value.now result }
 {
-    let Some(numbers) = behind_first(value) else {
+    let Some(numbers) = after_first(value) else {
         return None;
     };
     if numbers.len() != LEASE_NUMBERS {

@@ -7,7 +7,7 @@ ghost use Rattle.zn_layout.specs.Reading.{IsSomeValue, IsNoValue, IsValueOf, nod
 ghost use Rattle.zn_layout.specs.ReadingSteps.{HasNumbers};
 
 use crate::read::{
-    NODE_NUMBERS, are_counts, behind_first, counts_in, lease_in, split_int, split_long,
+    NODE_NUMBERS, are_counts, after_first, counts_in, lease_in, split_int, split_long,
 };
 use zk_model::limit::MAX_FRAME;
 
@@ -55,7 +55,7 @@ pub fn is_lease_record(value: &[u8]) -> bool
 pub fn node_numbers(value: &[u8]) -> Option<NodeNumbers>
     ensures { MatchOption result (IsNoValue node_value IsNodeRec value.now) (λ n. IsValueOf node_value IsNodeRec value.now (node_record n (drop BEFORE_DATA value.now))) }
 {
-    let Some(numbers) = behind_first(value) else {
+    let Some(numbers) = after_first(value) else {
         return None;
     };
     if numbers.len() < NODE_NUMBERS {

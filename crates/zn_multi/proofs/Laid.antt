@@ -41,9 +41,9 @@ one_key k l h = key_bytes-injective k l (same-true (key_bytes k) (key_bytes l) h
 abbrev at_key : Key → Change → Option (Option Put)
 at_key k c = cond (same_key k c.key) (Some c.put) None
 
-none_behind : (x : Option (Option Put)) → or_else x None ≡ x
-none_behind None = refl
-none_behind (Some v) = refl
+or_none : (x : Option (Option Put)) → or_else x None ≡ x
+or_none None = refl
+or_none (Some v) = refl
 
 assoc : (x y w : Option (Option Put)) → or_else (or_else x y) w ≡ or_else x (or_else y w)
 assoc None y w = refl
@@ -65,7 +65,7 @@ last_first k c o false e gone q none =
     ap (λ b. or_else o (cond b (Some c.put) None)) e ∙ ap (λ x. or_else o x) (sym (none refl)) ∙ sym (ap (λ b. or_else (cond b (Some c.put) None) (or_else o q)) e)
 
 pub last-laid : (ws : List Change) (c : Change) (k : Key) → are_distinct ws ≡ true → last (laid ws c) k ≡ or_else (at_key k c) (last ws k)
-last-laid [] c k h = sym (none_behind (at_key k c))
+last-laid [] c k h = sym (or_none (at_key k c))
 last-laid (w ∷ ws) c k h = elim (same (key_bytes w.key) (key_bytes c.key)) as (λ b. same (key_bytes w.key) (key_bytes c.key) ≡ b → last (cond b (c ∷ ws) (w ∷ laid ws c)) k ≡ or_else (at_key k c) (or_else (last ws k) (at_key k w))) [
   | true ↦ λ e.
       let one : w.key ≡ c.key = one_key w.key c.key e in
@@ -140,7 +140,7 @@ seen-laid (w ∷ ws) k h =
           ap (λ (x : Key). Some (found_of x w.put)) one
           ∙ sym (λ i. shown_at k (or_else (unwritten k ws (subst (λ (x : Key). list_any (writes_key x) ws ≡ false) one rest.0) i) (cond (same_back w.key k true e i) (Some w.put) None)))
       | false ↦ λ e.
-          seen-laid ws k rest.1 ∙ sym (ap (λ b. shown_at k (or_else (last ws k) (cond b (Some w.put) None))) (same_back w.key k false e) ∙ ap (shown_at k) (none_behind (last ws k)))
+          seen-laid ws k rest.1 ∙ sym (ap (λ b. shown_at k (or_else (last ws k) (cond b (Some w.put) None))) (same_back w.key k false e) ∙ ap (shown_at k) (or_none (last ws k)))
     ] refl
 
 -- ---- operations, one after the other

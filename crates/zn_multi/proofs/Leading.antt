@@ -52,7 +52,7 @@ use Rattle.zn_updates.specs.Seen.{ShowsData}
 use Rattle.zn_updates.proofs.Forms.{delete_refusal}
 use Rattle.zn_updates.proofs.Showing.{data-shown}
 use Rattle.zn_multi.specs.Carrying.{no_progress, some_owner, AreShort, IsStep, IsTouched, Runs, RunsSeen}
-use Rattle.zn_multi.specs.Leading.{behind, LeadsTo}
+use Rattle.zn_multi.specs.Leading.{with_first, LeadsTo}
 use Rattle.zn_multi.specs.declared.carrying.Carried.TheVariants.{Stopped, Passed}
 use Rattle.zn_multi.specs.declared.carrying.Progress.{Progress}
 use Rattle.zn_multi.proofs.Laid.{kept-all_laid}
@@ -114,9 +114,9 @@ small_part (part.Delete path x) short = tt
 small_part (part.SetData path d x) short = (short, tt)
 small_part (part.Check path x) short = tt
 
-pub behind_next : (rs : List PartResult) (gs : List Trigger) (ss : List ℤ) (r : PartResult) (g : List Trigger) (t : List ℤ) (x : Parts) → behind rs gs ss (then_parts r g t x) ≡ behind (rs ++ r ∷ []) (gs ++ g) (ss ++ t) x
-behind_next rs gs ss r g t (StoppedAt k code) = ap (λ (n : ℕ). StoppedAt n code) (let e = length-append rs (r ∷ []) in omega (arith, e))
-behind_next rs gs ss r g t (PassedAll results u triggers touched) = λ i. PassedAll (sym (append_assoc rs (r ∷ []) results) i) u (sym (append_assoc gs g triggers) i) (sym (append_assoc ss t touched) i)
+pub with_first_next : (rs : List PartResult) (gs : List Trigger) (ss : List ℤ) (r : PartResult) (g : List Trigger) (t : List ℤ) (x : Parts) → with_first rs gs ss (then_parts r g t x) ≡ with_first (rs ++ r ∷ []) (gs ++ g) (ss ++ t) x
+with_first_next rs gs ss r g t (StoppedAt k code) = ap (λ (n : ℕ). StoppedAt n code) (let e = length-append rs (r ∷ []) in omega (arith, e))
+with_first_next rs gs ss r g t (PassedAll results u triggers touched) = λ i. PassedAll (sym (append_assoc rs (r ∷ []) results) i) u (sym (append_assoc gs g triggers) i) (sym (append_assoc ss t touched) i)
 
 refuse_is : (c : Choice) (code : ℤ) → chosen.Refused code ≡ chosen_of c → c ≡ Refuse code
 refuse_is (Refuse other) code e = let same : code ≡ other = cc in ap Refuse (sym same)
@@ -139,7 +139,7 @@ module _ (who : Who) (now : ℕ) (time : now < 2 ^ 62) (v near : View) (narrow :
     stops code is =
         let right = (is.chosen (layered old.over near) (layered_narrower old.over near v narrow) saw).right (with_tree s h.tree) z now time h.sound (over_shown (p ∷ ps) old h) x opened in
         let refused : single h.tree max_owned who.session p z now ≡ Refused code = subst (λ (c : Choice). IsRight z (with_tree s h.tree) c (single h.tree max_owned who.session p z now)) (refuse_is (is.choice now) code is.is) right in
-        h.runs ∙ ap (behind (map (own_result z) old.results) old.triggers old.touched) (stopped_here h.tree who.session z now p ps code refused)
+        h.runs ∙ ap (with_first (map (own_result z) old.results) old.triggers old.touched) (stopped_here h.tree who.session z now p ps code refused)
         ∙ ap (λ (n : ℕ). StoppedAt n code) (let e = length-map old.results (own_result z) in omega (arith, e))
 
     module _ (is : IsStep p who now v old mid) where
@@ -157,9 +157,9 @@ module _ (who : Who) (now : ℕ) (time : now < 2 ^ 62) (v near : View) (narrow :
       leads_on = record {
         tree = outcome.tree;
         runs =
-            h.runs ∙ ap (behind (map (own_result z) old.results) old.triggers old.touched) (parts_of-done h.tree outcome.tree max_owned who.session p ps z now (own_result z is.draft) is.told outcome.done)
-            ∙ behind_next (map (own_result z) old.results) old.triggers old.touched (own_result z is.draft) is.told (touched_by h.tree who.session p) (parts_of outcome.tree max_owned who.session ps z now)
-            ∙ (λ i. behind (sym results_are i) (sym is.triggers i) (sym touched_are i) (parts_of outcome.tree max_owned who.session ps z now));
+            h.runs ∙ ap (with_first (map (own_result z) old.results) old.triggers old.touched) (parts_of-done h.tree outcome.tree max_owned who.session p ps z now (own_result z is.draft) is.told outcome.done)
+            ∙ with_first_next (map (own_result z) old.results) old.triggers old.touched (own_result z is.draft) is.told (touched_by h.tree who.session p) (parts_of outcome.tree max_owned who.session ps z now)
+            ∙ (λ i. with_first (sym results_are i) (sym is.triggers i) (sym touched_are i) (parts_of outcome.tree max_owned who.session ps z now));
         sound = subst (Leads (IsSoundTree s.sessions)) outcome.done (single-sound s.sessions max_owned who.session z now (x, opened, refl) h.tree p h.sound (small_part p short));
         changes = all_laid h.changes is.changes;
         over = is.over ∙ ap (λ (o : View). with_acts o (acts_of is.changes)) h.over ∙ acts-laid h.changes is.changes;
@@ -212,7 +212,7 @@ module _ (who : Who) (now : ℕ) (time : now < 2 ^ 62) (v near : View) (narrow :
   unchanged (SessionKey n) = λ o h. h
   unchanged (LeaseKey n) = λ o h. h
 
-  pub alone : (y : Parts) → y ≡ behind [] [] [] y
+  pub alone : (y : Parts) → y ≡ with_first [] [] [] y
   alone (StoppedAt k code) = ap (λ (n : ℕ). StoppedAt n code) (omega arith)
   alone (PassedAll rs t gs ss) = refl
 

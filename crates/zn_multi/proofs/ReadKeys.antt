@@ -79,9 +79,9 @@ module _ (id : ℤ) (v : View) where
   all_in : (xs : List Key) (k : Key) → In k xs → In k (xs ++ [])
   all_in xs k i = in_left k xs [] i
 
-  empty_behind : (xs : List Key) → xs ≡ xs ++ []
-  empty_behind [] = refl
-  empty_behind (x ∷ xs) = ap (λ (l : List Key). x ∷ l) (empty_behind xs)
+  append_empty : (xs : List Key) → xs ≡ xs ++ []
+  append_empty [] = refl
+  append_empty (x ∷ xs) = ap (λ (l : List Key). x ∷ l) (append_empty xs)
 
   more_of : (before : List Part) (p : Part) (left : Left) → IsLeft id v before left → (own : List Key) (next : Left) → IsFormedRead id v left p own next → IsMore before p own
   more_of before (part.Create path d a f) left is own next h = record {
@@ -96,8 +96,8 @@ module _ (id : ℤ) (v : View) where
     from = λ k i. owner_follows path x v h.owner h.owner_is k i;
     to = λ w follows. owner_to path x v h.owner h.owner_is w follows;
   }
-  more_of before (part.SetData path d x) left is own next h = record { more = []; keys = h.0 ∙ empty_behind (part_keys id (part.SetData path d x)); from = λ k bad. absurd bad; to = λ w bad. absurd bad }
-  more_of before (part.Check path x) left is own next h = record { more = []; keys = h.0 ∙ empty_behind (part_keys id (part.Check path x)); from = λ k bad. absurd bad; to = λ w bad. absurd bad }
+  more_of before (part.SetData path d x) left is own next h = record { more = []; keys = h.0 ∙ append_empty (part_keys id (part.SetData path d x)); from = λ k bad. absurd bad; to = λ w bad. absurd bad }
+  more_of before (part.Check path x) left is own next h = record { more = []; keys = h.0 ∙ append_empty (part_keys id (part.Check path x)); from = λ k bad. absurd bad; to = λ w bad. absurd bad }
 
   pub formed_keys : (p : Part) (left : Left) (own : List Key) (next : Left) → IsFormedRead id v left p own next → (k : Key) → In k (part_keys id p) → In k own
   formed_keys (part.Create path d a f) left own next h k i = subst (In k) (sym h.keys) (in_left k (part_keys id (part.Create path d a f)) (sequence_data (is_sequential f) (node_path (is_sequential f) path h.counts)) i)
@@ -257,38 +257,38 @@ pub refused_read : (id : ℤ) (v : View) (left : Left) (p : Part) (code : ℤ) �
 refused_read id v left p code form = subst (λ (o : Option ℤ). MatchOption o (IsFormedRead id v left p [] None) (λ c. NothingRead [] None)) (sym form) (refl, refl)
 
 -- one list of keys after another
-pub keys_behind : (ks : List Bytes) (a b : List Key) (new : List Bytes) → ks ≡ map key_bytes a → new ≡ ks ++ map key_bytes b → new ≡ map key_bytes (a ++ b)
-keys_behind ks a b new is more = more ∙ ap (λ (l : List Bytes). l ++ map key_bytes b) is ∙ sym (map-append key_bytes a b)
+pub keys_after : (ks : List Bytes) (a b : List Key) (new : List Bytes) → ks ≡ map key_bytes a → new ≡ ks ++ map key_bytes b → new ≡ map key_bytes (a ++ b)
+keys_after ks a b new is more = more ∙ ap (λ (l : List Bytes). l ++ map key_bytes b) is ∙ sym (map-append key_bytes a b)
 
 -- ---- what was read so far, and what the rest reads
 
-append_behind : (a b rest : List Key) → a ++ (b ++ rest) ≡ (a ++ b) ++ rest
-append_behind [] b rest = refl
-append_behind (k ∷ a) b rest = ap (λ (l : List Key). k ∷ l) (append_behind a b rest)
+append_after : (a b rest : List Key) → a ++ (b ++ rest) ≡ (a ++ b) ++ rest
+append_after [] b rest = refl
+append_after (k ∷ a) b rest = ap (λ (l : List Key). k ∷ l) (append_after a b rest)
 
-abbrev pub IsBehind : ℤ → View → List Part → ℕ → Left → List Bytes → Type 0
-IsBehind id v parts i left keys =
+abbrev pub IsReadAfter : ℤ → View → List Part → ℕ → Left → List Bytes → Type 0
+IsReadAfter id v parts i left keys =
     (sofar : List Key)
     × (keys ≡ map key_bytes (start_keys id ++ sofar))
     × ((rest : List Key) → AreReadFrom id v left (drop i parts) rest → AreRead id v parts (sofar ++ rest))
     × IfSome left (λ (changes : List TreeChange). length changes ≤ i)
 
-pub part_behind : (id : ℤ) (v : View) (parts : List Part) (i : ℕ) (p : Part) (left : Left) (keys : List Bytes) (r : PartRead) (new : List Bytes)
+pub part_after : (id : ℤ) (v : View) (parts : List Part) (i : ℕ) (p : Part) (left : Left) (keys : List Bytes) (r : PartRead) (new : List Bytes)
     → drop i parts ≡ p ∷ drop (i + 1) parts
     → IsPartRead id v left p r
     → new ≡ keys ++ r.keys
-    → IsBehind id v parts i left keys
-    → IsBehind id v parts (i + 1) r.left new
-part_behind id v parts i p left keys r new here part more h = (
+    → IsReadAfter id v parts i left keys
+    → IsReadAfter id v parts (i + 1) r.left new
+part_after id v parts i p left keys r new here part more h = (
   h.0 ++ part.own,
-  keys_behind keys (start_keys id ++ h.0) part.own new h.1 (more ∙ ap (λ (l : List Bytes). keys ++ l) part.keys),
-  λ rest reads. subst (AreRead id v parts) (append_behind h.0 part.own rest)
+  keys_after keys (start_keys id ++ h.0) part.own new h.1 (more ∙ ap (λ (l : List Bytes). keys ++ l) part.keys),
+  λ rest reads. subst (AreRead id v parts) (append_after h.0 part.own rest)
       (h.2 (part.own ++ rest) (subst (λ (ps : List Part). AreReadFrom id v left ps (part.own ++ rest)) (sym here) (part.own, r.left, rest, part.read, reads, refl))),
   next_few i id v left p r.left (left_by id v left p part.own r.left part.read) h.3,
 )
 
-pub all_behind : (id : ℤ) (v : View) (parts : List Part) (i : ℕ) (left : Left) (keys : List Bytes) → drop i parts ≡ [] → IsBehind id v parts i left keys → (ks : List Key) × AreRead id v parts ks × (keys ≡ map key_bytes (start_keys id ++ ks))
-all_behind id v parts i left keys none h =
+pub all_after : (id : ℤ) (v : View) (parts : List Part) (i : ℕ) (left : Left) (keys : List Bytes) → drop i parts ≡ [] → IsReadAfter id v parts i left keys → (ks : List Key) × AreRead id v parts ks × (keys ≡ map key_bytes (start_keys id ++ ks))
+all_after id v parts i left keys none h =
     (h.0 ++ [], h.2 [] (subst (λ (ps : List Part). AreReadFrom id v left ps []) (sym none) refl), h.1 ∙ ap (λ (l : List Key). map key_bytes (start_keys id ++ l)) (append_none h.0))
   where
     append_none : (a : List Key) → a ≡ a ++ []

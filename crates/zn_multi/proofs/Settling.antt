@@ -59,7 +59,7 @@ use Rattle.zn_updates.proofs.Telling.{Tells, shows, told}
 use Rattle.zn_multi.specs.Carrying.{no_progress, AreShort, Runs}
 use Rattle.zn_multi.specs.Deciding.{AreOwnedLoads, IsByParts, IsInTurn, IsOwnedLoad, IsPlannedAs, path_bytes, read_keys, refused}
 use Rattle.zn_multi.specs.Laying.{laid_view, written}
-use Rattle.zn_multi.specs.Leading.{LeadsTo, behind}
+use Rattle.zn_multi.specs.Leading.{LeadsTo, with_first}
 use Rattle.zn_multi.specs.Reading.{AreRead}
 use Rattle.zn_multi.specs.declared.carrying.Carried.{Carried}
 use Rattle.zn_multi.specs.declared.carrying.Carried.TheVariants.{Stopped, Passed}
@@ -71,9 +71,9 @@ use Rattle.zn_multi.proofs.Needs.{once_has}
 use Rattle.zn_multi.proofs.Staying.{IsWritten, Stays, run_seen, run_stays, stays_start}
 use Rattle.zn_multi.proofs.Written.{fits-written}
 
-nothing_behind : {A : Type 0} (xs : List A) → xs ++ [] ≡ xs
-nothing_behind [] = refl
-nothing_behind (x ∷ xs) = ap (λ l. x ∷ l) (nothing_behind xs)
+append_empty : {A : Type 0} (xs : List A) → xs ++ [] ≡ xs
+append_empty [] = refl
+append_empty (x ∷ xs) = ap (λ l. x ∷ l) (append_empty xs)
 
 -- ---- the sessions that are counted, each once
 
@@ -155,8 +155,8 @@ module _ (parts : List Part) (who : Who) (v : View) (now : ℕ) (time : now < 2 
 
       passes : parts_of s.tree max_owned id parts z now ≡ PassedAll (map (own_result z) p.results) led.tree p.triggers p.touched
       passes =
-          led.runs ∙ ap (behind (map (own_result z) p.results) p.triggers p.touched) (no_more led.tree max_owned id z now)
-          ∙ (λ i. PassedAll (nothing_behind (map (own_result z) p.results) i) led.tree (nothing_behind p.triggers i) (nothing_behind p.touched i))
+          led.runs ∙ ap (with_first (map (own_result z) p.results) p.triggers p.touched) (no_more led.tree max_owned id z now)
+          ∙ (λ i. PassedAll (append_empty (map (own_result z) p.results) i) led.tree (append_empty p.triggers i) (append_empty p.touched i))
 
       -- what each session owned before is what the view saw
       abbrev IsCounted : ℤ → Type 0
@@ -226,8 +226,8 @@ module _ (parts : List Part) (who : Who) (v : View) (now : ℕ) (time : now < 2 
         here false same e = absurd (cc)
 
         later : (last us k ≡ Some w → (c : Change) × In c us × (c.key ≡ k) × (c.put ≡ w)) → (o : Option (Option Put)) → last us k ≡ o → or_else o (if same_key k u.key then Some u.put else None) ≡ Some w → (c : Change) × In c (u ∷ us) × (c.key ≡ k) × (c.put ≡ w)
-        later behind None f e = here (same_key k u.key) refl e
-        later behind (Some y) f e = let c = behind (f ∙ e) in (c.0, inr c.1, c.2, c.3)
+        later with_first None f e = here (same_key k u.key) refl e
+        later with_first (Some y) f e = let c = with_first (f ∙ e) in (c.0, inr c.1, c.2, c.3)
 
     all_of : (P : Change → Type 0) (us : List Change) (c : Change) → All P us → In c us → P c
     all_of P [] c all bad = absurd bad

@@ -82,9 +82,9 @@ counts_are t p o children e f = λ i. counts_at (e i) (f i)
 counts_same : (t u : Tree) (p : Bytes) → get u p ≡ get t p → num_children u p ≡ num_children t p → counts_of t p ≡ counts_of u p
 counts_same t u p e f = λ i. counts_at (sym e i) (sym f i)
 
-behind_one : {A B : Type 0} (f : A → B → A) (x : A) (xs : List B) (y : B) → fold f x (xs ++ y ∷ []) ≡ f (fold f x xs) y
-behind_one f x [] y = refl
-behind_one f x (b ∷ xs) y = behind_one f (f x b) xs y
+after_one : {A B : Type 0} (f : A → B → A) (x : A) (xs : List B) (y : B) → fold f x (xs ++ y ∷ []) ≡ f (fold f x xs) y
+after_one f x [] y = refl
+after_one f x (b ∷ xs) y = after_one f (f x b) xs y
 
 -- the nodes that a session owns once one is gone
 owned_gone : (t : Tree) (k : Bytes) (v : Node) (id : ℤ) → get t k ≡ Some v → length (owned (remove t k) id) ≡ (if int_eq v.owner id then length (owned t id) - 1 else length (owned t id))
@@ -118,9 +118,9 @@ module _ (first : Tree) (Known : ℤ → Type 0) (id : ℤ) where
       → ((p : Bytes) → node_with p (Some (now_of (get t p))) c ≡ Some (now_of (get u p))) → ((p : Bytes) → counts_with p (Some (counts_of t p)) c ≡ Some (counts_of u p)) → owned_with id (length (owned t id)) c ≡ length (owned u id) → Each IsOwned u
       → Walks (changes ++ c ∷ []) u
   walks_on changes t u c w nodes counts number owners = record {
-    nodes = λ p. behind_one (node_with p) (Some (now_of (get first p))) changes c ∙ ap (λ (n : Option (Option NodeNow)). node_with p n c) (w.nodes p) ∙ nodes p;
-    counts = λ p. behind_one (counts_with p) (Some (counts_of first p)) changes c ∙ ap (λ (n : Option (Option CountRec)). counts_with p n c) (w.counts p) ∙ counts p;
-    number = behind_one (owned_with id) (length (owned first id)) changes c ∙ ap (λ (n : ℕ). owned_with id n c) w.number ∙ number;
+    nodes = λ p. after_one (node_with p) (Some (now_of (get first p))) changes c ∙ ap (λ (n : Option (Option NodeNow)). node_with p n c) (w.nodes p) ∙ nodes p;
+    counts = λ p. after_one (counts_with p) (Some (counts_of first p)) changes c ∙ ap (λ (n : Option (Option CountRec)). counts_with p n c) (w.counts p) ∙ counts p;
+    number = after_one (owned_with id) (length (owned first id)) changes c ∙ ap (λ (n : ℕ). owned_with id n c) w.number ∙ number;
     owned = owners;
   }
 

@@ -149,21 +149,21 @@ last-written v (w ∷ ws) k h = by_key (last-written v ws k (rest_distinct w ws 
     rest : (list_any (writes_key w.key) ws ≡ false) × (are_distinct ws ≡ true)
     rest = rest_distinct w ws h
 
-    none_behind : (x : Option (Option Put)) → or_else x None ≡ x
-    none_behind None = refl
-    none_behind (Some y) = refl
+    or_none : (x : Option (Option Put)) → or_else x None ≡ x
+    or_none None = refl
+    or_none (Some y) = refl
 
     -- another key
     other : last (written v ws) k ≡ if_written v k (last ws k) → same_key k w.key ≡ false → (b : Bool) → last (if b then w ∷ written v ws else written v ws) k ≡ if_written v k (or_else (last ws k) (at_key k w))
     other later e true =
-        ap (λ c. or_else (last (written v ws) k) (cond c (Some w.put) None)) e ∙ none_behind _ ∙ later
-        ∙ sym (ap (λ c. if_written v k (or_else (last ws k) (cond c (Some w.put) None))) e ∙ ap (if_written v k) (none_behind (last ws k)))
+        ap (λ c. or_else (last (written v ws) k) (cond c (Some w.put) None)) e ∙ or_none _ ∙ later
+        ∙ sym (ap (λ c. if_written v k (or_else (last ws k) (cond c (Some w.put) None))) e ∙ ap (if_written v k) (or_none (last ws k)))
     other later e false =
-        later ∙ sym (ap (λ c. if_written v k (or_else (last ws k) (cond c (Some w.put) None))) e ∙ ap (if_written v k) (none_behind (last ws k)))
+        later ∙ sym (ap (λ c. if_written v k (or_else (last ws k) (cond c (Some w.put) None))) e ∙ ap (if_written v k) (or_none (last ws k)))
 
     -- this key, which no later change is of
-    gone_behind : k ≡ w.key → last ws k ≡ None
-    gone_behind e = unwritten k ws (subst (λ (x : Key). list_any (writes_key x) ws ≡ false) (sym e) rest.0)
+    gone_after : k ≡ w.key → last ws k ≡ None
+    gone_after e = unwritten k ws (subst (λ (x : Key). list_any (writes_key x) ws ≡ false) (sym e) rest.0)
 
     gone_written : k ≡ w.key → last (written v ws) k ≡ None
     gone_written e = unwritten k (written v ws) (any-written v k ws (subst (λ (x : Key). list_any (writes_key x) ws ≡ false) (sym e) rest.0))
@@ -180,7 +180,7 @@ last-written v (w ∷ ws) k h = by_key (last-written v ws k (rest_distinct w ws 
         let same : k ≡ w.key = same_key-true k w.key e in
         ap (λ (x : Key). last (if not (is_gone w.put && is_absent (seen v (key_bytes x))) then w ∷ written v ws else written v ws) k) (sym same)
         ∙ one w.put (is_absent (seen v (key_bytes k))) refl (gone_written same) e refl
-        ∙ sym (ap (if_written v k) (λ i. or_else (gone_behind same i) (cond (e i) (Some w.put) None)))
+        ∙ sym (ap (if_written v k) (λ i. or_else (gone_after same i) (cond (e i) (Some w.put) None)))
 
 -- ---- and so they fit the same step
 

@@ -17,15 +17,15 @@ use Rattle.zn_multi.specs.Laying.{laid_view}
 use Rattle.zn_multi.specs.declared.carrying.Progress.{Progress}
 
 -- what all parts come to, by the results, the triggers and the sessions of the earlier ones and by what the later ones come to
-abbrev pub behind : List PartResult → List Trigger → List ℤ → Parts → Parts
-behind rs gs ss (Stopped place code) = Stopped (length rs + place) code
-behind rs gs ss (Passed results t triggers touched) = Passed (rs ++ results) t (gs ++ triggers) (ss ++ touched)
+abbrev pub with_first : List PartResult → List Trigger → List ℤ → Parts → Parts
+with_first rs gs ss (Stopped place code) = Stopped (length rs + place) code
+with_first rs gs ss (Passed results t triggers touched) = Passed (rs ++ results) t (gs ++ triggers) (ss ++ touched)
 
 -- The parts before the rest lead to a sound tree, with their results at this zxid, and the rest goes on from there. What was laid
 -- are changes of keys, but for the head, that lead from the state to the one with that tree, each key once.
 pub record LeadsTo (id : ℤ) (now : ℕ) (v : View) (parts rest : List Part) (p : Progress) (s : State) (z : ℤ) : Type 0 where
   pub tree : Tree
-  pub runs : parts_of s.tree max_owned id parts z now ≡ behind (map (own_result z) p.results) p.triggers p.touched (parts_of tree max_owned id rest z now)
+  pub runs : parts_of s.tree max_owned id parts z now ≡ with_first (map (own_result z) p.results) p.triggers p.touched (parts_of tree max_owned id rest z now)
   pub sound : IsSound (with_tree s tree)
   pub changes : List Change
   pub over : p.over ≡ laid_view changes

@@ -1,7 +1,7 @@
 //! Several requests as one transaction (`multi` of the ZooKeeper API), decided on a view.
 //!
 //! [`needs_multi`] names what a multi still has to look up: a sequence node once the parts before it are carried out, and none
-//! behind a part that is refused. [`decide_multi`] decides a multi on a view that lacks nothing. Its parts are chosen one after
+//! after a part that is refused. [`decide_multi`] decides a multi on a view that lacks nothing. Its parts are chosen one after
 //! the other, as single requests are (`zn_updates`), each on the view over which the keys are laid that the earlier parts wrote.
 //! So each part sees the earlier ones, and each key is written once, with its last record; a key that was absent and is absent
 //! again is not written. A multi with a refused part changes nothing, and its reply says which part. A multi has at most 24

@@ -33,8 +33,8 @@ rest_place p q qs k at = record {
   stops = λ lt. at.stops (omega (arith, lt));
 }
 
-behind : (p q : Bytes) (qs : List Bytes) → order p q ≡ Greater → placed p (q ∷ qs) ≡ q ∷ placed p qs
-behind p q qs e = ap (λ (o : Ordering). by_order o (p ∷ q ∷ qs) (q ∷ qs) (q ∷ placed p qs)) e
+placed_after : (p q : Bytes) (qs : List Bytes) → order p q ≡ Greater → placed p (q ∷ qs) ≡ q ∷ placed p qs
+placed_after p q qs e = ap (λ (o : Ordering). by_order o (p ∷ q ∷ qs) (q ∷ qs) (q ∷ placed p qs)) e
 
 not_before : (o : Ordering) → is_lt o ≡ false → ordering_reverse o ≢ Greater
 not_before Less h e = cc
@@ -50,7 +50,7 @@ placed-there p (q ∷ qs) zero at lt same = subst (λ (x : Bytes). placed p (x �
     equal_self Equal h = refl
     equal_self Greater h = absurd (cc)
 placed-there p (q ∷ qs) (suc k) at lt same =
-    behind p q qs (later p q (at.before zero (omega arith))) ∙ ap (λ (l : List Bytes). q ∷ l) (placed-there p qs k (rest_place p q qs k at) (omega (arith, lt)) same)
+    placed_after p q qs (later p q (at.before zero (omega arith))) ∙ ap (λ (l : List Bytes). q ∷ l) (placed-there p qs k (rest_place p q qs k at) (omega (arith, lt)) same)
 
 pub placed-new : (p : Bytes) (ps : List Bytes) (k : ℕ) → IsPlaceOf p ps k → (k < length ps → get_or ps k p ≢ p) → placed p ps ≡ insert ps k p
 placed-new p [] zero at new = refl
@@ -62,4 +62,4 @@ placed-new p (q ∷ qs) zero at new =
       | Greater ↦ λ e. absurd (not_before (order q p) (at.stops (omega arith)) (sym (back p q) ∙ e))
     ] refl
 placed-new p (q ∷ qs) (suc k) at new =
-    behind p q qs (later p q (at.before zero (omega arith))) ∙ ap (λ (l : List Bytes). q ∷ l) (placed-new p qs k (rest_place p q qs k at) (λ lt. new (omega (arith, lt))))
+    placed_after p q qs (later p q (at.before zero (omega arith))) ∙ ap (λ (l : List Bytes). q ∷ l) (placed-new p qs k (rest_place p q qs k at) (λ lt. new (omega (arith, lt))))

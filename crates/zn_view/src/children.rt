@@ -7,7 +7,7 @@ ghost use Rattle.zk_model.specs.Paths.{root};
 ghost use Rattle.zx_base.specs.Maps.{Bytes as ByteList, same};
 ghost use Rattle.zn_layout.specs.Keys.{digit as decimal_digit};
 ghost use Rattle.zn_layout.specs.Listing.{base, child_front};
-ghost use Rattle.zn_view.specs.Asks.{children_start as first_child, children_end as behind_children, is_child_of, path_in, paths_in};
+ghost use Rattle.zn_view.specs.Asks.{children_start as first_child, children_end as after_children, is_child_of, path_in, paths_in};
 
 use ev_types::Kv;
 use std::alloc::Global;
@@ -17,7 +17,7 @@ use zx_base::{Bytes, Memory, Seq};
 const SLASH: u8 = b'/';
 
 /// The byte that follows the slash in the order of bytes.
-const BEHIND_SLASH: u8 = b'0';
+const AFTER_SLASH: u8 = b'0';
 
 /// How many bytes a data key has before its path.
 const BEFORE_PATH: usize = 9;
@@ -33,9 +33,9 @@ pub fn children_start(alloc: Global, path: &Path) -> Result<Bytes, Memory>
 /// The end of the range of the data keys of a node's children, which is not in it: of `/a` it is `zk/d/0002/a0`.
 #[tactic(auto, unfolding(crate::specs::Asks::children_end))]
 pub fn children_end(alloc: Global, path: &Path) -> Result<Bytes, Memory>
-    ensures { IfOk result (λ k. k ≡ behind_children path.now) }
+    ensures { IfOk result (λ k. k ≡ after_children path.now) }
 {
-    bound(alloc, path, BEHIND_SLASH)
+    bound(alloc, path, AFTER_SLASH)
 }
 
 fn bound(alloc: Global, path: &Path, last: u8) -> Result<Bytes, Memory>
@@ -93,7 +93,7 @@ fn push_child(
     start: &[u8],
     end: &[u8],
 ) -> Result<(), Memory>
-    ensures { (p : ByteList) → start.now ≡ first_child p → end.now ≡ behind_children p → OnOk result ((rest : List KeyValue) → paths.new ++ paths_in p rest ≡ paths.old ++ paths_in p (kv.now ∷ rest)) }
+    ensures { (p : ByteList) → start.now ≡ first_child p → end.now ≡ after_children p → OnOk result ((rest : List KeyValue) → paths.new ++ paths_in p rest ≡ paths.old ++ paths_in p (kv.now ∷ rest)) }
 {
     let key = kv.key.as_slice();
     if !is_between(key, start, end) {

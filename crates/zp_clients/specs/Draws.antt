@@ -14,19 +14,19 @@ abbrev pub below : ℕ → Lcg → ℕ
 below n g = (pcg32 g).0 % n
 
 -- the generator after one word
-abbrev pub behind : Lcg → Lcg
-behind g = (pcg32 g).1
+abbrev pub after : Lcg → Lcg
+after g = (pcg32 g).1
 
 -- a step draws three words: one for the connection, of which there are so many, one for its kind and one for its path
 abbrev pub drawn : ℕ → Lcg → Draw
 drawn connections g = record {
   connection = 1 + below connections g;
-  kind = below 10 (behind g);
-  path = below 20 (behind (behind g));
+  kind = below 10 (after g);
+  path = below 20 (after (after g));
 }
 
-abbrev pub behind_draw : Lcg → Lcg
-behind_draw g = behind (behind (behind g))
+abbrev pub after_draw : Lcg → Lcg
+after_draw g = after (after (after g))
 
 -- the draw names one of so many connections, and a path
 pub record IsInRange (x : Draw) (connections : ℕ) : Type 0 where

@@ -74,9 +74,9 @@ abbrev pub xid_of : Wish → ℕ → ℤ
 xid_of wish.Ping last = minus 2
 xid_of _ last = pos (next_xid last)
 
-abbrev pub last_behind : Wish → ℕ → ℕ
-last_behind wish.Ping last = last
-last_behind _ last = next_xid last
+abbrev pub last_after : Wish → ℕ → ℕ
+last_after wish.Ping last = last
+last_after _ last = next_xid last
 
 abbrev pub packet_of : Wish → ℕ → ℕ → List ℕ
 packet_of w p last = request_packet (xid_of w last) (request_of w p)

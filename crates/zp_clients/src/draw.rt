@@ -1,7 +1,7 @@
 //! What is drawn from the generator.
 
 ghost use Rattle.std.specs.Prelude.{◌≡◌, ◌<◌, ◌≤◌};
-ghost use Rattle.zp_clients.specs.Draws.{IsInRange, below, behind, behind_draw, drawn, seeded};
+ghost use Rattle.zp_clients.specs.Draws.{IsInRange, below, after, after_draw, drawn, seeded};
 
 use rand_core::SeedableRng;
 use rand_core::utils::NextWord;
@@ -35,7 +35,7 @@ pub fn seeded(number: u64) -> Pcg32
 fn below(words: &mut Pcg32, count: u32) -> u32
     requires { 0 < count }
     ensures value { result ≡ below count words.old }
-    ensures next { words.new ≡ behind words.old }
+    ensures next { words.new ≡ after words.old }
     ensures small { result < count }
 {
     words.next_word() % count
@@ -47,7 +47,7 @@ pub fn drawn(words: &mut Pcg32, connections: u32) -> Draw
     requires some { 0 < connections }
     requires few { connections ≤ 256 }
     ensures value { result ≡ drawn connections words.old }
-    ensures next { words.new ≡ behind_draw words.old }
+    ensures next { words.new ≡ after_draw words.old }
     ensures range { IsInRange result connections }
 {
     let connection = 1 + below(words, connections);

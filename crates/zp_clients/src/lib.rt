@@ -27,4 +27,4 @@ pub use connect::connect_packet;
 pub use draw::{Draw, drawn, seeded};
 pub use sent::awaits_reply;
 pub use summary::{Summary, push_summary, summary_of};
-pub use wish::{Wish, last_behind, packet_of, wish_of};
+pub use wish::{Wish, last_after, packet_of, wish_of};

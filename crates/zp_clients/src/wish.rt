@@ -2,7 +2,7 @@
 
 ghost use Rattle.std.specs.Prelude.{◌≡◌, ◌<◌, ◌++◌, ◌∷◌, [], codes, pos, true, IfOk};
 ghost use Rattle.zk_model.specs.Access.{open_entry};
-ghost use Rattle.zp_clients.specs.Wishes.{is_ping, last_behind, next_xid, packet_of, path_of, request_of, wish_of, xid_of};
+ghost use Rattle.zp_clients.specs.Wishes.{is_ping, last_after, next_xid, packet_of, path_of, request_of, wish_of, xid_of};
 
 use std::alloc::Global;
 use zk_model::{Acl, Request};
@@ -74,8 +74,8 @@ fn next_xid(last: u32) -> u32
 }
 
 /// The xid of a connection's last request after this one. Pings are not counted.
-pub fn last_behind(wish: Wish, last: u32) -> u32
-    ensures { result ≡ last_behind wish last }
+pub fn last_after(wish: Wish, last: u32) -> u32
+    ensures { result ≡ last_after wish last }
 {
     match wish {
         Wish::Ping => last,

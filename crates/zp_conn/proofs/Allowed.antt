@@ -92,7 +92,7 @@ answered_allowed c q (next.Input (input.ClientEnd p)) e h = absurd h
 
 pub fed_allowed : (c : Core) (cursor : ℤ) (n : Next) → awaits_entry (wants_of c) ≡ true → asked_of c.who c.stage ≡ None → cursor ≡ c.cursor → IsFedIn cursor n → IsAllowed c n
 fed_allowed c cursor (next.Input (input.Entry x)) a none e h = λ opened. record { awaited = a; number = h ∙ ap (λ z. z +ℤ pos 1) e }
-fed_allowed c cursor (next.Input (input.Lagged was floor)) a none e h = λ opened. record { awaited = a; behind = h.0 ∙ e; above = h.1 }
+fed_allowed c cursor (next.Input (input.Lagged was floor)) a none e h = λ opened. record { awaited = a; own = h.0 ∙ e; above = h.1 }
 fed_allowed c cursor (next.Input input.FeedClosed) a none e h = λ opened. none
 fed_allowed c cursor next.Idle a none e h = tt
 fed_allowed c cursor (next.Ended why) a none e h = tt

@@ -44,7 +44,7 @@ use Rattle.zp_laws.proofs.Going.{close-sends}
 use Rattle.zp_laws.proofs.Keeping.{PlansBeside, first-or-anew, leaves-beside}
 use Rattle.zp_laws.proofs.Strides.{sends-append}
 use Rattle.zp_laws.specs.Walking.{sends}
-use Rattle.zp_run.proofs.Showing.{closed-behind}
+use Rattle.zp_run.proofs.Showing.{closed-after}
 use Rattle.zp_run.specs.Runs.{closed_for, frame_in}
 use Rattle.zp_step.proofs.Shutting.{steps-open}
 use Rattle.zp_step.specs.Connects.{Connects, Opens, attached_core, begun, connected}
@@ -53,7 +53,7 @@ use Rattle.zp_step.specs.Keepalives.{Looked, StillMine, TakesUp, checks, keeps_a
 use Rattle.zp_step.specs.Kept.{keeps}
 use Rattle.zp_step.specs.Looking.{IfRecords, Looks, change_by, decided, expired, moved, pending}
 use Rattle.zp_step.specs.Plans.{Committed, finishes}
-use Rattle.zp_step.specs.Replies.{Is, close_behind, closed_by, is_due, replied, send_notices, stage_behind, waits}
+use Rattle.zp_step.specs.Replies.{Is, close_after, closed_by, is_due, replied, send_notices, stage_after, waits}
 use Rattle.zp_step.specs.Stages.{Core, Pending, Stage, Unconnected, Connecting, Ready, KeepingAlive, Checking, Reading, Committing, Waiting, Shut, is_shut, seen_by, wanted_in}
 use Rattle.zp_step.specs.Steps.{Answers, Comes, Goes, Handles, MayTake, Steps, StepsOpen, awaits_entry, counted, queued, rests, takes}
 use Rattle.zp_step.specs.Taking.{Takes, TakesReadable, end_of_plain, plainly}
@@ -163,11 +163,11 @@ module _ (fs : List (List ℕ)) where
   open-row ps d out w o none h = record { rested = w; stands = h; answers = λ why e. absurd (none_some (sym none ∙ e)); any = open-answered cause.Memory fs (ps ++ sends out) refl d.stage o h }
 
   -- packets first
-  row-behind : (ps : List (List ℕ)) (c' : Core) (first later : List Action) → only_sends first ≡ true → Row fs (ps ++ sends first) c' later → Row fs ps c' (first ++ later)
-  row-behind ps c' first later only d = record {
+  row-after : (ps : List (List ℕ)) (c' : Core) (first later : List Action) → only_sends first ≡ true → Row fs (ps ++ sends first) c' later → Row fs ps c' (first ++ later)
+  row-after ps c' first later only d = record {
     rested = d.rested;
     stands = subst (HasAnswered c'.stage fs) same d.stands;
-    answers = λ why e. subst (AreAnswered why fs) same (d.answers why (sym (closed-behind first later only) ∙ e));
+    answers = λ why e. subst (AreAnswered why fs) same (d.answers why (sym (closed-after first later only) ∙ e));
     any = subst (AreAnswered cause.Memory fs) same d.any;
   }
     where
@@ -189,8 +189,8 @@ module _ (fs : List (List ℕ)) where
     asks-row : (d c' : Core) (q : Ask) (out : List Action) → d.waiting ≡ [] → is_shut d.stage ≡ false → HasAnswered d.stage fs ps → Is (d, action.Ask q ∷ []) c' out → Row fs ps c' out
     asks-row d c' q out w o h i = row-is ps (d, action.Ask q ∷ []) c' out i (open-row ps d (action.Ask q ∷ []) w o refl (subst (HasAnswered d.stage fs) unsent h))
 
-    -- a reply, and the end behind it
-    reply-row : (d : Core) (packet : List ℕ) (o : Option Cause) → d.waiting ≡ [] → d.stage ≡ stage_behind o → IsServed [] fs (ps ++ packet ∷ []) → Row fs ps d (action.Send packet ∷ close_behind o)
+    -- a reply, and the end after it
+    reply-row : (d : Core) (packet : List ℕ) (o : Option Cause) → d.waiting ≡ [] → d.stage ≡ stage_after o → IsServed [] fs (ps ++ packet ∷ []) → Row fs ps d (action.Send packet ∷ close_after o)
     reply-row d packet None w st s = open-row ps d (action.Send packet ∷ []) w (ap is_shut st) refl (subst (λ t. HasAnswered t fs (ps ++ packet ∷ [])) (sym st) s)
     reply-row d packet (Some end) w st s = record {
       rested = w;
@@ -205,7 +205,7 @@ module _ (fs : List (List ℕ)) where
 
   replied-row : (ps : List (List ℕ)) (c c' : Core) (p : Pending) (out : List Action) → c.waiting ≡ [] → IsAtWork p.xid fs ps → Is (replied c p) c' out → Row fs ps c' out
   replied-row ps c c' p out w (f, xid, s) i = row-is ps (replied c p) c' out i
-      (row-behind ps (replied c p).0 first (action.Send packet ∷ close_behind p.ends) (notices-only (seen_by p.change c.watches).notices)
+      (row-after ps (replied c p).0 first (action.Send packet ∷ close_after p.ends) (notices-only (seen_by p.change c.watches).notices)
       (reply-row (ps ++ sends first) (replied c p).0 packet p.ends w refl (subst (IsServed [] fs) (sym (append_assoc ps (sends first) (packet ∷ []))) (served-reply f fs ps (sends first) packet s (sent-notices (seen_by p.change c.watches).notices) (p.zxid, p.answer, ap (λ x. reply_packet x p.zxid p.answer) (sym xid))))))
     where
       packet : List ℕ
@@ -332,7 +332,7 @@ module _ (fs : List (List ℕ)) where
     entry-row c c' e out (Waiting p) is a w k i =
         let d = (entered c e).0 in
         let first = (entered c e).1 in
-        row-is ps (then_reply (entered c e) (Waiting p)) c' out i (row-behind ps (waits d p).0 first (waits d p).1 (notices-only (fire_all c.watches e.triggers).1)
+        row-is ps (then_reply (entered c e) (Waiting p)) c' out i (row-after ps (waits d p).0 first (waits d p).1 (notices-only (fire_all c.watches e.triggers).1)
         (waits-row (ps ++ sends first) d (waits d p).0 p (waits d p).1 w (k.0, k.1, served-notices (k.0 ∷ []) fs ps (sends first) k.2 (sent-notices (fire_all c.watches e.triggers).1)) (refl, refl)))
     entry-row c c' e out Ready is a w k i =
         row-is ps (entered c e) c' out i (open-row ps (entered c e).0 (entered c e).1 w (ap is_shut is) (closes-none (entered c e).1 (notices-only (fire_all c.watches e.triggers).1))

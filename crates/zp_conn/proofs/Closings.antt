@@ -20,7 +20,7 @@ use Rattle.zp_run.specs.Runs.{Step, asks_of, entry_in, frame_in, frames_of, said
 use Rattle.zp_conn.specs.Answered.{AreAnswered}
 use Rattle.zp_conn.specs.Inboxes.{Holds, InboxState, IsBadAt}
 use Rattle.zp_conn.specs.Handing.{IsSpoken}
-use Rattle.zp_conn.specs.Serving.{AreFirstFrames, IsEndedFor, Told, is_behind_frames, outcomes_of}
+use Rattle.zp_conn.specs.Serving.{AreFirstFrames, IsEndedFor, Told, is_after_frames, outcomes_of}
 use Rattle.zp_conn.specs.Speaking.{joined}
 use Rattle.zp_conn.specs.Turning.{IsHeldFor, IsShownBy, Stood, listed}
 use Rattle.zp_conn.specs.declared.inputs.Next.TheVariants as next
@@ -84,7 +84,7 @@ same-last xs ys x y e = sym (last-pushed x xs x) ∙ ap (last_step x) e ∙ last
 closing-in : (fresh : Fresh) (steps : List Step) (s : Step) (core : Core) (why : Cause) → IsClosedIn fresh (steps ++ s ∷ []) core why → Closing why s.input
 closing-in fresh steps s core why h = subst (Closing why) (ap (λ (t : Step). t.input) (sym (same-last steps h.before s h.last h.split))) (closing-of _ h.mid (h.last).input core.who (h.last).out why h.shown)
 
-held-none : (why : Cause) (x : Input) (frames : List (List ℕ)) (read : List ℕ) (i : InboxState) → is_behind_frames why ≡ false → frame_in x ≡ None → Holds read frames i → AreFirstFrames why read (frames ++ listed (frame_in x))
+held-none : (why : Cause) (x : Input) (frames : List (List ℕ)) (read : List ℕ) (i : InboxState) → is_after_frames why ≡ false → frame_in x ≡ None → Holds read frames i → AreFirstFrames why read (frames ++ listed (frame_in x))
 held-none why x frames read i b none h = subst (λ l. AreFirstFrames why read l) (sym (ap (λ o. frames ++ listed o) none ∙ append-nil frames)) (held-front why frames read i h b)
 
 held-bad : (why : Cause) (frames : List (List ℕ)) (read : List ℕ) (p : ℕ) (l : ℤ) → IsBadAt read frames p l → AreFirstFrames why read (frames ++ [])
@@ -93,7 +93,7 @@ held-bad why frames read p l h = record { front = read; is_front = ([], append-n
 held-end : (why : Cause) (frames : List (List ℕ)) (read : List ℕ) (i : InboxState) → Holds read frames i → i.frames ≡ [] → AreFirstFrames why read (frames ++ [])
 held-end why frames read i h none = record { front = read; is_front = ([], append-nil read); fully = inl refl; all = frames ++ i.frames; rest = (h.stands).rest; framed = (h.stands).framed; first = (i.frames, ap (λ l. l ++ i.frames) (append-nil frames)); whole = λ e. ap (λ l. frames ++ l) (sym none) }
 
-pub held-any : (why : Cause) (x : Input) (frames : List (List ℕ)) (read : List ℕ) (i : InboxState) → is_behind_frames why ≡ false → IsHeldFor (next.Input x) frames read i → AreFirstFrames why read (frames ++ listed (frame_in x))
+pub held-any : (why : Cause) (x : Input) (frames : List (List ℕ)) (read : List ℕ) (i : InboxState) → is_after_frames why ≡ false → IsHeldFor (next.Input x) frames read i → AreFirstFrames why read (frames ++ listed (frame_in x))
 held-any why (input.Frame b) frames read i e h = held-front why (frames ++ b ∷ []) read i h e
 held-any why (input.Answer a) frames read i e h = held-none why (input.Answer a) frames read i e refl h
 held-any why input.Failed frames read i e h = held-none why input.Failed frames read i e refl h

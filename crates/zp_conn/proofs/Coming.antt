@@ -31,8 +31,8 @@ rest-within stream frames rest f = (let same : length stream ≡ length f.0 + le
 place-on : (p p' read piece rest whole left all : ℕ) → p ≡ counted_up (read - rest) → rest ≤ read → whole ≡ rest + piece → left ≤ whole → p' ≡ min (p + (whole - left)) (2 ^ 64 - 1) → all ≡ read + piece → p' ≡ counted_up (all - left)
 place-on p p' read piece rest whole left all h small e l k a = omega (arith, h, small, e, l, k, a)
 
-place-same : (p read piece rest all behind : ℕ) → p ≡ counted_up (read - rest) → all ≡ read + piece → behind ≡ rest + piece → p ≡ counted_up (all - behind)
-place-same p read piece rest all behind h a b = omega (arith, h, a, b)
+place-same : (p read piece rest all after : ℕ) → p ≡ counted_up (read - rest) → all ≡ read + piece → after ≡ rest + piece → p ≡ counted_up (all - after)
+place-same p read piece rest all after h a b = omega (arith, h, a, b)
 
 -- ---- the next frame
 
@@ -88,32 +88,32 @@ module _ (read piece : List ℕ) (handed : List (List ℕ)) (old new : InboxStat
 
   -- a length out of range is met
   module _ (place : ℕ) (n : ℤ) (r : Refuses old.stream piece place n new.stream) where
-    bad-behind : bad_length (rest ++ piece) ≡ Some n
-    bad-behind = still-bad rest (old.stream).rest piece n (h.stands).held r.bad
+    bad-after : bad_length (rest ++ piece) ≡ Some n
+    bad-after = still-bad rest (old.stream).rest piece n (h.stands).held r.bad
 
-    framed-behind : Framed (read ++ piece) (handed ++ old.frames) (rest ++ piece)
-    framed-behind = subst (λ l. Framed (read ++ piece) l (rest ++ piece)) (append-nil (handed ++ old.frames)) (framed_join read piece (handed ++ old.frames) [] rest (rest ++ piece) (h.stands).framed ([], refl, refl, bad_rest (rest ++ piece) n bad-behind))
+    framed-after : Framed (read ++ piece) (handed ++ old.frames) (rest ++ piece)
+    framed-after = subst (λ l. Framed (read ++ piece) l (rest ++ piece)) (append-nil (handed ++ old.frames)) (framed_join read piece (handed ++ old.frames) [] rest (rest ++ piece) (h.stands).framed ([], refl, refl, bad_rest (rest ++ piece) n bad-after))
 
-    placed-behind : (old.stream).place ≡ counted_up (length (read ++ piece) - length (rest ++ piece))
-    placed-behind = place-same (old.stream).place (length read) (length piece) (length rest) (length (read ++ piece)) (length (rest ++ piece)) h.placed (length-append read piece) (length-append rest piece)
+    placed-after : (old.stream).place ≡ counted_up (length (read ++ piece) - length (rest ++ piece))
+    placed-after = place-same (old.stream).place (length read) (length piece) (length rest) (length (read ++ piece)) (length (rest ++ piece)) h.placed (length-append read piece) (length-append rest piece)
 
     pub cut_kept : new.frames ≡ old.frames → new.count ≡ counted_up (old.count + length piece) → Holds (read ++ piece) handed new
     cut_kept frames count = record {
       stands = record {
         rest = rest ++ piece;
-        framed = subst (λ l. Framed (read ++ piece) (handed ++ l) (rest ++ piece)) (sym frames) framed-behind;
-        held = inr (n, bad-behind, r.stays);
+        framed = subst (λ l. Framed (read ++ piece) (handed ++ l) (rest ++ piece)) (sym frames) framed-after;
+        held = inr (n, bad-after, r.stays);
       };
-      placed = r.stands ∙ placed-behind;
+      placed = r.stands ∙ placed-after;
       counted = count-on read piece old.count new.count h.counted count;
     }
 
     pub cut_bad : old.frames ≡ [] → IsBadAt (read ++ piece) handed place n
     cut_bad none = record {
       rest = rest ++ piece;
-      framed = subst (λ l. Framed (read ++ piece) l (rest ++ piece)) (ap (λ l. handed ++ l) none ∙ append-nil handed) framed-behind;
-      bad = bad-behind;
-      at = r.at ∙ placed-behind;
+      framed = subst (λ l. Framed (read ++ piece) l (rest ++ piece)) (ap (λ l. handed ++ l) none ∙ append-nil handed) framed-after;
+      bad = bad-after;
+      at = r.at ∙ placed-after;
     }
 
 -- ---- a read

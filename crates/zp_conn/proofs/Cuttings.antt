@@ -29,7 +29,7 @@ use Rattle.zp_conn.proofs.Turning.{all-heard, filter_map-push, held-front, rose}
 use Rattle.zp_conn.specs.Answered.{AreAnswered}
 use Rattle.zp_conn.specs.Handing.{Hands, IsSpoken}
 use Rattle.zp_conn.specs.Inboxes.{InboxState}
-use Rattle.zp_conn.specs.Serving.{AreFirstFrames, IsUnstepped, SinkTold, Told, is_behind_frames, outcomes_of}
+use Rattle.zp_conn.specs.Serving.{AreFirstFrames, IsUnstepped, SinkTold, Told, is_after_frames, outcomes_of}
 use Rattle.zp_conn.specs.Speaking.{HasSaid, IsCut, joined}
 use Rattle.zp_conn.specs.Turning.{Stood, answers_in, listed}
 use Rattle.zp_conn.specs.Writing.{Flushes}
@@ -120,7 +120,7 @@ one-answer : (o : Option (Option Answer)) → 0 + length (map Some (listed o)) �
 one-answer None = omega arith
 one-answer (Some a) = omega arith
 
-fewer-frames : (why : Cause) (read : List ℕ) (frames more : List (List ℕ)) → is_behind_frames why ≡ false → AreFirstFrames why read (frames ++ more) → AreFirstFrames why read frames
+fewer-frames : (why : Cause) (read : List ℕ) (frames more : List (List ℕ)) → is_after_frames why ≡ false → AreFirstFrames why read (frames ++ more) → AreFirstFrames why read frames
 fewer-frames why read frames more b h = record { front = h.front; is_front = h.is_front; fully = h.fully; all = h.all; rest = h.rest; framed = h.framed; first = (more ++ (h.first).0, sym (append_assoc frames more (h.first).0) ∙ (h.first).1); whole = λ e. (let n : false ≡ true = sym b ∙ e in absurd (cc)) }
 
 abbrev IsTail : List Noted → Type 0

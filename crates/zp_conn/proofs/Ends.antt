@@ -23,7 +23,7 @@ use Rattle.zp_conn.proofs.Turning.{rose}
 use Rattle.zp_conn.specs.Answered.{AreAnswered, is_answered}
 use Rattle.zp_conn.specs.Driving.{Drives}
 use Rattle.zp_conn.specs.Inboxes.{InboxState}
-use Rattle.zp_conn.specs.Serving.{AreCallsOf, AreFirstFrames, AreNotesOf, IsEndedFor, IsWrittenOf, Rose, Serves, SinkTold, Told, is_behind_frames, is_whole, with_calls}
+use Rattle.zp_conn.specs.Serving.{AreCallsOf, AreFirstFrames, AreNotesOf, IsEndedFor, IsWrittenOf, Rose, Serves, SinkTold, Told, is_after_frames, is_whole, with_calls}
 use Rattle.zp_conn.specs.Speaking.{joined}
 use Rattle.zp_conn.specs.Turning.{Ends, IsShownBy, IsUnheard, Stood, cut_short, ended_by}
 use Rattle.zp_conn.specs.Writing.{Flushes, Wrote}

@@ -60,7 +60,7 @@ note-notes (Some ns) m = refl
 pub notes-on : (n n' n'' n0 : Option (List Noted)) (xs : List Noted) (m : Noted) (ms : List Noted) → n ≡ with_notes n0 xs → n' ≡ with_note n m → n'' ≡ with_notes n' ms → n'' ≡ with_notes n0 (xs ++ m ∷ ms)
 notes-on n n' n'' n0 xs m ms e f g = g ∙ ap (λ k. with_notes k ms) (f ∙ note-notes n m) ∙ notes-both n (m ∷ []) ms ∙ ap (λ k. with_notes k (m ∷ ms)) e ∙ notes-both n0 xs (m ∷ ms)
 
--- what was written, and what is held then with more behind it
+-- what was written, and what is held then with more after it
 pub held-more : (written o o' all more : List ℕ) → written ++ o ≡ all → o' ≡ o ++ more → written ++ o' ≡ all ++ more
 held-more written o o' all more e h = ap (λ l. written ++ l) h ∙ sym (append_assoc written o more) ∙ ap (λ l. l ++ more) e
 

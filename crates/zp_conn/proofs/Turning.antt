@@ -31,7 +31,7 @@ use Rattle.zp_step.specs.Steps.{awaits_entry}
 use Rattle.zp_run.specs.Runs.{answers_of, entries_of, frames_of}
 use Rattle.zp_conn.specs.Inboxes.{faults_after, Comes, Holds, InboxState, IsEndedAfter}
 use Rattle.zp_conn.specs.Inputs.{IsAllowed, IsAnswered, IsFedIn, IsInTime}
-use Rattle.zp_conn.specs.Serving.{AreFirstFrames, FeedTold, LinkTold, Rose, SourceTold, Told, is_behind_frames, outcome_of, outcomes_of, with_calls}
+use Rattle.zp_conn.specs.Serving.{AreFirstFrames, FeedTold, LinkTold, Rose, SourceTold, Told, is_after_frames, outcome_of, outcomes_of, with_calls}
 use Rattle.zp_conn.specs.Turning.{Asks, Closes, Feeds, Fetches, calls, closes, feeds, looks, IsHeldFor, IsOutFor, IsShownBy, IsUnheard, Looks, Stood, answered_by, answers_in, closing_by, closings_in, come_by, entries_in, fed_by, lags_in, listed}
 use Rattle.zp_conn.specs.declared.inbox.Came.{Came}
 use Rattle.zp_conn.specs.declared.inbox.Came.TheVariants as came
@@ -65,7 +65,7 @@ up a b c h k = omega (arith, h, k)
 
 -- ---- the inbox at the ends
 
-pub held-front : (why : Cause) (frames : List (List ℕ)) (read : List ℕ) (i : InboxState) → Holds read frames i → is_behind_frames why ≡ false → AreFirstFrames why read frames
+pub held-front : (why : Cause) (frames : List (List ℕ)) (read : List ℕ) (i : InboxState) → Holds read frames i → is_after_frames why ≡ false → AreFirstFrames why read frames
 held-front why frames read i h b = record {
   front = read;
   is_front = ([], append-nil read);

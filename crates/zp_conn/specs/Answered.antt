@@ -37,7 +37,7 @@ AreAnswers (connect ∷ fs) (p ∷ ps) = IsConnectAnswer p × AreReplies fs ps
 
 -- ---- at the end
 
--- The connection ends behind an answer, or where it waited for a frame: no frame that was handed in is left then.
+-- The connection ends after an answer, or where it waited for a frame: no frame that was handed in is left then.
 abbrev pub is_answered : Cause → Bool
 is_answered cause.Closed = true
 is_answered (cause.Expired revision) = true
@@ -74,7 +74,7 @@ pub record IsServed (left frames packets : List (List ℕ)) : Type 0 where
 abbrev pub IsAtWork : ℤ → List (List ℕ) → List (List ℕ) → Type 0
 IsAtWork xid fs ps = (f : List ℕ) × (xid_of (read_request f) ≡ xid) × IsServed (f ∷ []) fs ps
 
--- a connection in this stage, in which no frame waits behind the one at work, was handed in these frames and sent these packets
+-- a connection in this stage, in which no frame waits after the one at work, was handed in these frames and sent these packets
 abbrev pub HasAnswered : Stage → List (List ℕ) → List (List ℕ) → Type 0
 HasAnswered (Unconnected fresh) fs ps = (fs ≡ []) × (ps ≡ [])
 HasAnswered (Connecting connect) fs ps = (f : List ℕ) × (fs ≡ f ∷ []) × (ps ≡ [])

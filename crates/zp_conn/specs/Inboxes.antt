@@ -24,7 +24,7 @@ pub record Holds (read : List ℕ) (given : List (List ℕ)) (i : InboxState) : 
   pub placed : (i.stream).place ≡ counted_up (length read - length stands.rest)
   pub counted : i.count ≡ counted_up (length read)
 
--- behind all whole frames of these bytes, which were handed in, stands a length out of range, after so many bytes
+-- after all whole frames of these bytes, which were handed in, stands a length out of range, after so many bytes
 pub record IsBadAt (read : List ℕ) (given : List (List ℕ)) (place : ℕ) (n : ℤ) : Type 0 where
   pub rest : List ℕ
   pub framed : Framed read given rest
@@ -47,7 +47,7 @@ abbrev pub Pops : Option (List ℕ) → InboxState → InboxState → Type 0
 Pops None old new = (old.frames ≡ []) × (new ≡ old)
 Pops (Some f) old new = (old.frames ≡ f ∷ new.frames) × (new.stream ≡ old.stream) × (new.count ≡ old.count)
 
--- this piece is cut, and its frames wait behind those that are there
+-- this piece is cut, and its frames wait after those that are there
 abbrev pub Cuts : Result (Unit {0}) CutFault → List ℕ → InboxState → InboxState → Type 0
 Cuts (Ok _) piece old new = ((v : Vec (List ℕ)) × CutterTakes old.stream piece (Ok v) new.stream × (new.frames ≡ old.frames ++ v.items)) × (new.count ≡ counted_up (old.count + length piece))
 Cuts (Err (faults.BadLength place n)) piece old new = CutterTakes old.stream piece (Err (faults.BadLength place n)) new.stream × (new.frames ≡ old.frames) × (new.count ≡ counted_up (old.count + length piece))

@@ -27,10 +27,10 @@ use Rattle.zp_conn.specs.Driving.{Drives}
 -- ---- the client's bytes
 
 -- the run closed at the stream's end, or at a length out of range, which come after all whole frames
-abbrev pub is_behind_frames : Cause → Bool
-is_behind_frames (cause.ClientEnd place) = true
-is_behind_frames (cause.BadLength place n) = true
-is_behind_frames _ = false
+abbrev pub is_after_frames : Cause → Bool
+is_after_frames (cause.ClientEnd place) = true
+is_after_frames (cause.BadLength place n) = true
+is_after_frames _ = false
 
 -- the frames that were handed in are the first of the stream's; where memory was refused, the last bytes that were read may not
 -- be cut any more
@@ -42,7 +42,7 @@ pub record AreFirstFrames (why : Cause) (read : List ℕ) (frames : List (List �
   pub rest : List ℕ
   pub framed : Framed front all rest
   pub first : IsPrefix frames all
-  pub whole : is_behind_frames why ≡ true → frames ≡ all
+  pub whole : is_after_frames why ≡ true → frames ≡ all
 
 -- ---- what was written and noted
 
@@ -133,7 +133,7 @@ pub record Told : Type 0 where
   pub feed : FeedTold
   pub notes : Option (List Noted)
 
--- a length out of range stands at this place in the client's bytes, behind all whole frames
+-- a length out of range stands at this place in the client's bytes, after all whole frames
 pub record IsBadLengthIn (read : List ℕ) (place : ℕ) (n : ℤ) : Type 0 where
   pub all : List (List ℕ)
   pub rest : List ℕ

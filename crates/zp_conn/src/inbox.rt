@@ -111,7 +111,7 @@ impl Inbox {
         if let Some(frame) = self.pop() {
             return Came::Frame(frame);
         }
-        // A length out of range may stand behind the frames that came before.
+        // A length out of range may stand after the frames that came before.
         match self.cut(&[]) {
             Ok(()) => {}
             Err(fault) => return outcome_of(Err(fault)),

@@ -5,7 +5,7 @@
 //!
 //! A frame is handed in only where the core wants one. Where it wants a frame or an entry, the feed is looked at first. Where it
 //! wants a frame alone and a read gives nothing, it looks whether the feed has ended, so that an idle client is closed too. A
-//! length out of range and the client's end are handed in behind all whole frames. While a reply waits for its entry, the client's
+//! length out of range and the client's end are handed in after all whole frames. While a reply waits for its entry, the client's
 //! stream is read on, up to [`MOST_AHEAD`](inbox::MOST_AHEAD) bytes, so that a read that waits can wait for the client or for a
 //! bell; past that, and after the client's end, the turn yields.
 //!

@@ -50,7 +50,7 @@ use Rattle.zp_core.proofs.Beside.{PlansBeside, first-or-anew, leaves-beside}
 use Rattle.zp_step.specs.Keepalives.{Checked, KeptAlive, Looked, StillMine, TakesUp, checks, keeps_alive}
 use Rattle.zp_step.specs.Looking.{IfRecords, Looks, asks_for, change_by, decided, expired, max_ranges, moved, pending}
 use Rattle.zp_step.specs.Plans.{CommitAnswered, ReadOn, finishes}
-use Rattle.zp_step.specs.Replies.{Is, closed_by, is_due, replied, stage_behind, waits}
+use Rattle.zp_step.specs.Replies.{Is, closed_by, is_due, replied, stage_after, waits}
 use Rattle.zp_step.specs.Stages.{Core, Pending, Stage, Unconnected, Connecting, Ready, KeepingAlive, Checking, Reading, Committing, Waiting, Shut, asked_of, counted_up, is_shut, seen_by}
 use Rattle.zp_step.specs.Steps.{Answers, Comes, Handles, IsFit, counted, queued}
 use Rattle.zp_step.specs.Taking.{Takes, TakesReadable, end_of_plain, plainly}
@@ -91,12 +91,12 @@ either true P Q R h f g = f h
 either false P Q R h f g = g h
 
 module _ (c : Core) (real : IsReal c.who.session) (frames : All IsFrame c.waiting) where
-  behind-held : (ends : Option Cause) (zxid cursor : ℤ) (w : Watches) (next : ℕ) → IsHeld (record c { stage = stage_behind ends; zxid = zxid; cursor = cursor; watches = w; next = next })
-  behind-held None zxid cursor w next = record { frames = frames; stage = real }
-  behind-held (Some why) zxid cursor w next = tt
+  after-held : (ends : Option Cause) (zxid cursor : ℤ) (w : Watches) (next : ℕ) → IsHeld (record c { stage = stage_after ends; zxid = zxid; cursor = cursor; watches = w; next = next })
+  after-held None zxid cursor w next = record { frames = frames; stage = real }
+  after-held (Some why) zxid cursor w next = tt
 
   sent-held : (b : Bool) (p : Pending) → IsHeld (if b then replied c p else (record c { stage = Waiting p }, [])).0
-  sent-held true p = behind-held p.ends p.zxid p.number (seen_by p.change c.watches).watches (counted_up (c.next + 1))
+  sent-held true p = after-held p.ends p.zxid p.number (seen_by p.change c.watches).watches (counted_up (c.next + 1))
   sent-held false p = record { frames = frames; stage = real }
 
   pub waits-held : (p : Pending) → IsHeld (waits c p).0
@@ -116,7 +116,7 @@ module _ (c : Core) (real : IsReal c.who.session) (frames : All IsFrame c.waitin
 
     readable-held : (x : Frame) (o : Option Told) → ((xid : ℤ) (r : Request) → x ≡ Asks xid r → IsRequest r) → TakesReadable c now c' out x o → IsHeld c'
     readable-held x (Some t) known h =
-        is-held (plainly c (xid_of x) t.reply) c' out h (behind-held c real frames (end_of_plain (is_auth_refusal t.reply)) c.zxid c.cursor c.watches (counted_up (c.next + 1)))
+        is-held (plainly c (xid_of x) t.reply) c' out h (after-held c real frames (end_of_plain (is_auth_refusal t.reply)) c.zxid c.cursor c.watches (counted_up (c.next + 1)))
     readable-held (Asks xid r) None known h = go (first-or-anew c c' xid r now out (update_path r) h)
       where
         go : PlansBeside c xid r now c' out ⊎ Looks c xid r empty_view now c' out → IsHeld c'

@@ -91,9 +91,9 @@ lacking-unrevised v n false x h = h
 
 -- ---- wants of which each stands once
 
-apart-behind : (xs ys : List Want) → AllPairs (λ (w u : Want). w ≢ u) (xs ++ ys) → AllPairs (λ (w u : Want). w ≢ u) ys
-apart-behind [] ys h = h
-apart-behind (x ∷ xs) ys h = apart-behind xs ys (λ i j d lt within. h (suc i) (suc j) d (omega (arith, lt)) (omega (arith, within)))
+apart-after : (xs ys : List Want) → AllPairs (λ (w u : Want). w ≢ u) (xs ++ ys) → AllPairs (λ (w u : Want). w ≢ u) ys
+apart-after [] ys h = h
+apart-after (x ∷ xs) ys h = apart-after xs ys (λ i j d lt within. h (suc i) (suc j) d (omega (arith, lt)) (omega (arith, within)))
 
 apart-first : (x : Want) (xs : List Want) → AllPairs (λ (w u : Want). w ≢ u) (x ∷ xs) → Contains xs x → ⊥
 apart-first x xs h (k, lt, e) = h zero (suc k) x (omega arith) (omega (arith, lt)) (sym e)
@@ -103,9 +103,9 @@ apart-asked [] ys x h left (k, lt, e) = absurd (omega (arith, lt))
 apart-asked (w ∷ xs) ys x h left (zero, lt, e) = apart-first w (xs ++ ys) h (subst (λ (y : Want). Contains (xs ++ ys) y) (sym e) (Contains-append_right xs ys x left))
 apart-asked (w ∷ xs) ys x h left (suc k, lt, e) = apart-asked xs ys x (λ i j d le within. h (suc i) (suc j) d (omega (arith, le)) (omega (arith, within))) left (k, omega (arith, lt), e)
 
-none-behind : (xs ys : List Want) → xs ++ ys ≡ [] → ys ≡ []
-none-behind [] ys e = e
-none-behind (x ∷ xs) ys e = absurd (cc)
+none-after : (xs ys : List Want) → xs ++ ys ≡ [] → ys ≡ []
+none-after [] ys e = e
+none-after (x ∷ xs) ys e = absurd (cc)
 
 -- ---- a setWatches reads the same whatever was seen
 
@@ -121,8 +121,8 @@ still-lacking r who other v asked left n parts is same each needs = record {
   only = λ w c. only w c (needs.only w (Contains-append_right asked left w c));
   enough = λ none plain w read lacks. empty-contains left w none (all plain w read lacks);
   all = all;
-  once = apart-behind asked left needs.once;
-  none = λ t plain. none-behind asked left (needs.none t plain);
+  once = apart-after asked left needs.once;
+  none = λ t plain. none-after asked left (needs.none t plain);
 }
   where
     only : (w : Want) → Contains left w → IsRead r who v w × IsLacking v w → IsRead r other (with_parts (at_revision v n) asked parts) w × IsLacking (with_parts (at_revision v n) asked parts) w

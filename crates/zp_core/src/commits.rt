@@ -5,7 +5,7 @@ ghost use Rattle.zn_view.specs.Adding.{AreNumbers};
 ghost use Rattle.zn_view.specs.Seen.{IsCount};
 ghost use Rattle.zn_view.specs.Asks.{transaction};
 ghost use Rattle.zs_session.specs.Answering.{IsAnswerTo};
-ghost use Rattle.zp_step.specs.Plans.{CommitAnswered, Committed, WasMade, end_behind as end_of, finishes};
+ghost use Rattle.zp_step.specs.Plans.{CommitAnswered, Committed, WasMade, end_after as end_of, finishes};
 ghost use Rattle.zp_core.specs.Held.{IsRequest};
 ghost use Rattle.zp_core.specs.Meanings.{Leads, pending_of, ready};
 
@@ -25,7 +25,7 @@ use zs_session::{StepFault, look as look_at, number_in};
 use zx_base::Memory;
 
 /// After a closeSession the connection is closed.
-fn end_behind(request: &Request) -> Option<Cause>
+fn end_after(request: &Request) -> Option<Cause>
     ensures { result ≡ end_of request.now }
 {
     match request {
@@ -45,7 +45,7 @@ fn finished(
 {
     let number = number_in(parts);
     let xid = commit.task.xid;
-    let ends = end_behind(&commit.task.request);
+    let ends = end_after(&commit.task.request);
     let answer = finish(alloc, Box::into_inner(commit).plan, revision)?;
     Ok(Pending {
         number,

@@ -8,7 +8,7 @@ ghost use Rattle.zp_step.specs.Replies.{Is};
 ghost use Rattle.zp_core.specs.Meanings.{Leads, core_of, ready, stage_of};
 
 use crate::client::Client;
-use crate::moves::{Move, behind};
+use crate::moves::{Move, with_first};
 use crate::packets::send_notices;
 use crate::replies::reply_in_turn;
 use crate::stage::Stage;
@@ -62,7 +62,7 @@ pub(crate) fn tell(
     match stage {
         Stage::Waiting(pending) => {
             let then = reply_in_turn(alloc, client, Box::into_inner(pending))?;
-            behind(actions, then)
+            with_first(actions, then)
         }
         stage => Ok(Move { stage, actions }),
     }

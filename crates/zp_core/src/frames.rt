@@ -12,7 +12,7 @@ ghost use Rattle.zp_core.specs.Meanings.{Leads, ready};
 
 use crate::at_once::{begun, look_first};
 use crate::client::Client;
-use crate::moves::{Move, end_behind, only};
+use crate::moves::{Move, end_after, only};
 use crate::packets::send_reply;
 use std::alloc::Global;
 use zk_model::code::{AUTH_FAILED, MARSHALLING_ERROR, UNIMPLEMENTED};
@@ -43,7 +43,7 @@ fn answer_plainly(
 {
     let actions = only(alloc, send_reply(alloc, xid, client.zxid, reply)?)?;
     client.next = client.next.saturating_add(1);
-    end_behind(actions, end_of(reply))
+    end_after(actions, end_of(reply))
 }
 
 fn take_request(

@@ -2,7 +2,7 @@
 
 ghost use Rattle.std.specs.Prelude.{◌≡◌, ◌∷◌, [], ◌++◌, IfOk, OnOk};
 ghost use Rattle.zp_step.specs.declared.action.Action.TheVariants as action;
-ghost use Rattle.zp_step.specs.Replies.{close_behind, stage_behind};
+ghost use Rattle.zp_step.specs.Replies.{close_after, stage_after};
 ghost use Rattle.zp_core.specs.Meanings.{stage_of, Shuts};
 
 use crate::stage::Stage;
@@ -48,9 +48,9 @@ pub(crate) fn close(alloc: Global, why: Cause) -> Result<Move, Memory>
 }
 
 /// After these actions the connection is ready, or is closed for a cause.
-pub(crate) fn end_behind(mut actions: Seq<Action>, ends: Option<Cause>) -> Result<Move, Memory>
-    ensures stage { IfOk result (λ m. stage_of m.stage ≡ stage_behind ends) }
-    ensures actions { IfOk result (λ m. m.actions ≡ actions ++ close_behind ends) }
+pub(crate) fn end_after(mut actions: Seq<Action>, ends: Option<Cause>) -> Result<Move, Memory>
+    ensures stage { IfOk result (λ m. stage_of m.stage ≡ stage_after ends) }
+    ensures actions { IfOk result (λ m. m.actions ≡ actions ++ close_after ends) }
 {
     match ends {
         None => Ok(Move {
@@ -77,7 +77,7 @@ pub(crate) fn append(actions: &mut Vec<Action>, more: Seq<Action>) -> Result<(),
 }
 
 /// These actions, and then those of a move.
-pub(crate) fn behind(actions: Seq<Action>, then: Move) -> Result<Move, Memory>
+pub(crate) fn with_first(actions: Seq<Action>, then: Move) -> Result<Move, Memory>
     ensures { IfOk result (λ m. m ≡ record { stage = then.stage; actions = actions ++ then.actions }) }
 {
     let mut all = actions.into_vec();

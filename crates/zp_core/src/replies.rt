@@ -7,7 +7,7 @@ ghost use Rattle.zp_step.specs.Stages.{seen_by};
 ghost use Rattle.zp_core.specs.Meanings.{Leads, change_of, pending_of, ready};
 
 use crate::client::Client;
-use crate::moves::{Move, end_behind, rest};
+use crate::moves::{Move, end_after, rest};
 use crate::packets::{send_notices, send_reply};
 use crate::stage::{Pending, Stage, WatchChange};
 use std::alloc::Global;
@@ -54,7 +54,7 @@ fn reply(alloc: Global, client: &mut Client, pending: Pending) -> Result<Move, M
     client.zxid = pending.zxid;
     client.cursor = pending.number;
     client.next = client.next.saturating_add(1);
-    end_behind(actions, pending.ends)
+    end_after(actions, pending.ends)
 }
 
 /// Sends a reply if it is due; otherwise it waits.

@@ -50,7 +50,7 @@ use Rattle.zn_view.specs.declared.plan.Plan.{Plan}
 use Rattle.zn_view.proofs.Showing.{carried-out}
 use Rattle.zn_view.proofs.Tested.{session-lives}
 use Rattle.zp_step.specs.Kept.{head_shown}
-use Rattle.zp_step.specs.Plans.{end_behind, finishes}
+use Rattle.zp_step.specs.Plans.{end_after, finishes}
 use Rattle.zp_step.specs.Stages.{Core}
 use Rattle.zp_laws.specs.Frames.{IsFrameAt}
 use Rattle.zp_laws.specs.Inputs.{IsOfEarlier, IsOwnLine, Precedes, StoodAt, kind_for}
@@ -110,7 +110,7 @@ commit-is before s z c i now id x q a r =
 -- ---- what the line did
 
 abbrev IsOther : Request → ℤ → ℕ → ℕ → ℕ → State → ℤ → Type 0
-IsOther q id c i now s z = (kind_for q id c i now ≡ kinds.Asked c i now) × (done_by s z id q now ≡ commit s.tree (limit_at id s) id q z now) × (end_behind q ≡ None)
+IsOther q id c i now s z = (kind_for q id c i now ≡ kinds.Asked c i now) × (done_by s z id q now ≡ commit s.tree (limit_at id s) id q z now) × (end_after q ≡ None)
 
 close-or-other : (s : State) (z id : ℤ) (c i now : ℕ) (q : Request) → (q ≡ req.Close) ⊎ IsOther q id c i now s z
 close-or-other s z id c i now req.Close = inl refl
@@ -125,9 +125,9 @@ record Responds (lines : List TranscriptLine) (k : ℕ) (z : ℤ) (kind : Update
 
 responds : (lines : List TranscriptLine) (k conn i now : ℕ) (z id : ℤ) (q : Request) (x : Session) (y : Commit) (r : Reply)
     → session_at id (state_at lines k) ≡ Some x → attached_session conn (state_at lines k) ≡ Some (id, x) → request conn i (take k lines) ≡ Some q → done_by (state_at lines k) z id q now ≡ Some y → r ≡ reply.Good y.response
-    → Responds lines k z (kind_for q id conn i now) r (is_some (end_behind q))
+    → Responds lines k z (kind_for q id conn i now) r (is_some (end_after q))
 responds lines k conn i now z id q x y r there a f d e = elim (close-or-other (state_at lines k) z id conn i now q) [
-  | inl close ↦ subst (λ p. Responds lines k z (kind_for p id conn i now) r (is_some (end_behind p))) (sym close)
+  | inl close ↦ subst (λ p. Responds lines k z (kind_for p id conn i now) r (is_some (end_after p))) (sym close)
       (record { response = body.Empty; at_line = refl; same = e ∙ ap reply.Good (closed_body (subst (λ p. done_by (state_at lines k) z id p now ≡ Some y) close d)); closing = refl })
   | inr other ↦ record {
     response = y.response;
@@ -182,7 +182,7 @@ pub record WasDone (store : Store) (lines : List TranscriptLine) (conn : ℕ) (c
 
 module _ (store : Store) (lines : List TranscriptLine) (conn : ℕ) (c : Core) (w : Walker) (bytes : List ℕ) (v : View) (p : Plan) (m : ℕ) (xid : ℤ) (q : Request) (before then_store : Store) (r : ℤ) (parts : List ActAns) (looked : ℕ)
     (k : WasDone store lines conn c w bytes v p m xid q before then_store r parts looked) where
-  draft-responds : Responds lines (k.own).place r (kind_for q c.who.session conn c.next m) (finished r p.draft) (is_some (end_behind q))
+  draft-responds : Responds lines (k.own).place r (kind_for q c.who.session conn c.next m) (finished r p.draft) (is_some (end_after q))
   draft-responds =
       let o = k.own in
       let h = k.legal in
@@ -197,8 +197,8 @@ module _ (store : Store) (lines : List TranscriptLine) (conn : ℕ) (c : Core) (
       let l = at-line lines o.place o.update h o.there in
       let up = rises-there s (state_at lines (o.place + 1)) (rising lines o.place (o.place + 1) h (omega arith) (omega (arith, past.some))) l.updates in
       let rises : s.zxid <ℤ r = omega (arith, ints, up, l.zxid, o.zxid) in
-      let behind : (state_at lines looked).zxid ≡ r = ap (λ n. (state_at lines n).zxid) o.right ∙ l.zxid ∙ o.zxid in
-      let most : r ≤ℤ last_revision = subst (λ (z : ℤ). z ≤ℤ last_revision) behind (zxid-most (present then_store) (state_at lines looked) (k.shown).stands) in
+      let later : (state_at lines looked).zxid ≡ r = ap (λ n. (state_at lines n).zxid) o.right ∙ l.zxid ∙ o.zxid in
+      let most : r ≤ℤ last_revision = subst (λ (z : ℤ). z ≤ℤ last_revision) later (zxid-most (present then_store) (state_at lines looked) (k.shown).stands) in
       let y = (((k.bound).good).commits).answers (present before) s r fine.sound o.stood may rises most in
       let guard = guard-holds (present before) p.guards (lease_guard c.who) d.holds (((k.bound).good).asked).lease in
       let x = held (present before) s c.who.session c.who.mine o.stood k.least k.rises guard in
@@ -257,6 +257,6 @@ module _ (store : Store) (lines : List TranscriptLine) (conn : ℕ) (c : Core) (
         number = sym number;
         told = λ ws.
             ap (told_as_of (take looked lines) conn c.who.session (read_request bytes) ws) (ap (λ n. own_update conn n lines) mt.next ∙ o.line)
-            ∙ own-told (take looked lines) conn c.who.session (read_request bytes) ws o.place o.update b.response (is_some (end_behind q)) len response (ap closes_session o.kind ∙ b.closing)
-            ∙ ap (λ y. Some (is_some (end_behind q), only ws y)) (sym b.same);
+            ∙ own-told (take looked lines) conn c.who.session (read_request bytes) ws o.place o.update b.response (is_some (end_after q)) len response (ap closes_session o.kind ∙ b.closing)
+            ∙ ap (λ y. Some (is_some (end_after q), only ws y)) (sym b.same);
       }

@@ -39,7 +39,7 @@ use Rattle.zp_step.specs.Kept.{keeps}
 use Rattle.zn_view.specs.Keeping.{update_path}
 use Rattle.zp_step.specs.Looking.{IfRecords, Looks, asks_for, change_by, decided, expired, max_ranges, moved, pending}
 use Rattle.zp_step.specs.Plans.{Committed, ReadOn, finishes}
-use Rattle.zp_step.specs.Replies.{Is, closed_by, is_due, replied, stage_behind, waits}
+use Rattle.zp_step.specs.Replies.{Is, closed_by, is_due, replied, stage_after, waits}
 use Rattle.zp_step.specs.Stages.{Core, Pending, Stage, Unconnected, Connecting, Ready, KeepingAlive, Checking, Reading, Committing, Waiting, Shut, counted_up, is_shut, max_count}
 use Rattle.zp_step.specs.Steps.{Answers, Comes, Goes, Handles, Steps, StepsOpen, counted, queued, rests, takes}
 use Rattle.zp_step.specs.Taking.{Takes, TakesReadable, end_of_plain, plainly}
@@ -76,7 +76,7 @@ work c = c.next + 1 + length c.waiting
 
 module _ (n : ℕ) (small : n ≤ max_count) where
   -- one frame more is answered
-  answered : (c d : Core) (o : Option Cause) → work c ≡ n → d.stage ≡ stage_behind o → d.next ≡ counted_up (c.next + 1) → d.waiting ≡ c.waiting → Keeps true n d
+  answered : (c d : Core) (o : Option Cause) → work c ≡ n → d.stage ≡ stage_after o → d.next ≡ counted_up (c.next + 1) → d.waiting ≡ c.waiting → Keeps true n d
   answered c d (Some why) w st next same = inl (ap is_shut st)
   answered c d None w st next same =
       let up : d.next ≡ c.next + 1 = next ∙ counted-small (c.next + 1) (omega (arith, w, small)) in

@@ -42,7 +42,7 @@ use Rattle.zp_step.specs.Kept.{keeps}
 use Rattle.zn_view.specs.Keeping.{update_path}
 use Rattle.zp_step.specs.Looking.{IfRecords, Looks, change_by, decided, expired, max_ranges, moved, pending}
 use Rattle.zp_step.specs.Plans.{Committed, ReadOn, finishes}
-use Rattle.zp_step.specs.Replies.{Is, close_behind, closed_by, is_due, replied, send_notices, stage_behind, waits}
+use Rattle.zp_step.specs.Replies.{Is, close_after, closed_by, is_due, replied, send_notices, stage_after, waits}
 use Rattle.zp_step.specs.Stages.{Core, Pending, Stage, Unconnected, Connecting, Ready, KeepingAlive, Checking, Reading, Committing, Waiting, Shut, asked_of, is_shut, seen_by}
 use Rattle.zp_step.specs.Steps.{Answers, Comes, Goes, Handles, Steps, StepsOpen, counted, queued, rests, takes}
 use Rattle.zp_step.specs.Taking.{Takes, TakesReadable, end_of_plain, plainly}
@@ -72,16 +72,16 @@ only_sends (action.Send bytes ∷ more) = only_sends more
 only_sends (action.Ask a ∷ more) = false
 only_sends (action.Close why ∷ more) = false
 
-pub record Behind (first later : List Action) : Type 0 where
+pub record AfterSends (first later : List Action) : Type 0 where
   pub well : ends_well (first ++ later) ≡ ends_well later
   pub closes : closes (first ++ later) ≡ closes later
   pub asks : asked_by (first ++ later) ≡ asked_by later
 
-pub behind : (first later : List Action) → only_sends first ≡ true → Behind first later
-behind [] later h = record { well = refl; closes = refl; asks = refl }
-behind (action.Send bytes ∷ more) later h = let b = behind more later h in record { well = b.well; closes = b.closes; asks = b.asks }
-behind (action.Ask a ∷ more) later h = absurd (cc)
-behind (action.Close why ∷ more) later h = absurd (cc)
+pub after_sends : (first later : List Action) → only_sends first ≡ true → AfterSends first later
+after_sends [] later h = record { well = refl; closes = refl; asks = refl }
+after_sends (action.Send bytes ∷ more) later h = let b = after_sends more later h in record { well = b.well; closes = b.closes; asks = b.asks }
+after_sends (action.Ask a ∷ more) later h = absurd (cc)
+after_sends (action.Close why ∷ more) later h = absurd (cc)
 
 sends-only : (out : List Action) → asked_by out ≡ None → closes out ≡ false → only_sends out ≡ true
 sends-only [] a b = refl
@@ -99,9 +99,9 @@ pub notices-only : (ns : List Notice) → only_sends (send_notices ns) ≡ true
 notices-only [] = refl
 notices-only (n ∷ ns) = notices-only ns
 
-ends-behind : (c' : Core) (first later : List Action) → only_sends first ≡ true → Ends c' later → Ends c' (first ++ later)
-ends-behind c' first later h e =
-    let b = behind first later h in
+ends-after : (c' : Core) (first later : List Action) → only_sends first ≡ true → Ends c' later → Ends c' (first ++ later)
+ends-after c' first later h e =
+    let b = after_sends first later h in
     record { well = b.well ∙ e.well; closes = b.closes ∙ e.closes; asks = elim e.asks [ inl s ↦ inl s | inr a ↦ inr (a ∙ sym b.asks) ] }
 
 -- ---- ends, and replies
@@ -112,13 +112,13 @@ closed-ends c c' why out i = ends-is c' (closed_by c why) out i (record { well =
 asks-ends : (d c' : Core) (q : Ask) (out : List Action) → is_shut d.stage ≡ false → asked_of d.who d.stage ≡ Some q → Is (d, action.Ask q ∷ []) c' out → Ends c' out
 asks-ends d c' q out open_now h i = ends-is c' (d, action.Ask q ∷ []) out i (record { well = refl; closes = sym open_now; asks = inr h })
 
-reply-ends : (d : Core) (bytes : List ℕ) (o : Option Cause) → d.stage ≡ stage_behind o → Ends d (action.Send bytes ∷ close_behind o)
+reply-ends : (d : Core) (bytes : List ℕ) (o : Option Cause) → d.stage ≡ stage_after o → Ends d (action.Send bytes ∷ close_after o)
 reply-ends d bytes None e = record { well = refl; closes = sym (ap is_shut e); asks = inr (ap (asked_of d.who) e) }
 reply-ends d bytes (Some why) e = record { well = refl; closes = sym (ap is_shut e); asks = inl (ap is_shut e) }
 
 replied-ends : (c c' : Core) (p : Pending) (out : List Action) → Is (replied c p) c' out → Ends c' out
 replied-ends c c' p out i = ends-is c' (replied c p) out i
-    (ends-behind (replied c p).0 (send_notices (seen_by p.change c.watches).notices) (action.Send (reply_packet p.xid p.zxid p.answer) ∷ close_behind p.ends) (notices-only (seen_by p.change c.watches).notices)
+    (ends-after (replied c p).0 (send_notices (seen_by p.change c.watches).notices) (action.Send (reply_packet p.xid p.zxid p.answer) ∷ close_after p.ends) (notices-only (seen_by p.change c.watches).notices)
     (reply-ends (replied c p).0 (reply_packet p.xid p.zxid p.answer) p.ends refl))
 
 waits-ends : (c c' : Core) (p : Pending) (out : List Action) → Is (waits c p) c' out → Ends c' out
@@ -186,7 +186,7 @@ goes-ends now c c' out (takes d frame more first later r w t g o) = inr (r, subs
 
     go : ((c' ≡ d) × (later ≡ [])) ⊎ ((d.stage ≡ Ready) × Ends c' later) → Ends c' (first ++ later)
     go (inl s) = subst (λ x. Ends x (first ++ later)) (sym s.0) (subst (λ l. Ends d l) (sym (ap (λ l. first ++ l) s.1 ∙ append-nil first)) e)
-    go (inr s) = ends-behind c' first later (ready-sends d first s.0 e) s.1
+    go (inr s) = ends-after c' first later (ready-sends d first s.0 e) s.1
 
 -- ---- answers
 
@@ -281,7 +281,7 @@ module _ (c c' : Core) (x : Input) (e : Entry) (out : List Action) (left : takes
   entry-ends : (st : Stage) → Is (then_reply (entered c e) st) c' out → HandledEnds c c' x out
   entry-ends (Waiting p) i =
       let d = (entered c e).0 in
-      inl (ends-is c' (then_reply (entered c e) (Waiting p)) out i (ends-behind (waits d p).0 (entered c e).1 (waits d p).1 (notices-only (fire_all c.watches e.triggers).1) (waits-ends d (waits d p).0 p (waits d p).1 (refl, refl))))
+      inl (ends-is c' (then_reply (entered c e) (Waiting p)) out i (ends-after (waits d p).0 (entered c e).1 (waits d p).1 (notices-only (fire_all c.watches e.triggers).1) (waits-ends d (waits d p).0 p (waits d p).1 (refl, refl))))
   entry-ends (Unconnected fresh) i = as-it-was i
   entry-ends (Connecting connect) i = as-it-was i
   entry-ends Ready i = as-it-was i
@@ -305,14 +305,14 @@ ends-well : (c c' : Core) (x : Input) (out : List Action) → Ends c' out → En
 ends-well c c' x out e = record { well = e.well; closes = e.closes; asks = elim e.asks [ inl s ↦ inl s | inr a ↦ inr (inl a) ] }
 
 only-well : (out : List Action) → only_sends out ≡ true → (ends_well out ≡ true) × (closes out ≡ false)
-only-well out h = let b = behind out [] h in (ap ends_well (sym (append-nil out)) ∙ b.well, ap closes (sym (append-nil out)) ∙ b.closes)
+only-well out h = let b = after_sends out [] h in (ap ends_well (sym (append-nil out)) ∙ b.well, ap closes (sym (append-nil out)) ∙ b.closes)
 
 pub steps_end_well : (c c' : Core) (x : Input) (now : ℕ) (out : List Action) → is_shut c.stage ≡ false → Steps c x now c' out → EndsWell c c' x out
 steps_end_well c c' x now out open_now h = go (steps-open c c' x now out open_now h)
   where
     joined : (mid : Core) (first later : List Action) → HandledEnds c mid x first → ((c' ≡ mid) × (later ≡ [])) ⊎ ((mid.stage ≡ Ready) × Ends c' later) → EndsWell c c' x (first ++ later)
     joined mid first later (inl e) (inl s) = ends-well c c' x (first ++ later) (subst (λ d. Ends d (first ++ later)) (sym s.0) (subst (λ l. Ends mid l) (sym (ap (λ l. first ++ l) s.1 ∙ append-nil first)) e))
-    joined mid first later (inl e) (inr s) = ends-well c c' x (first ++ later) (ends-behind c' first later (ready-sends mid first s.0 e) s.1)
+    joined mid first later (inl e) (inr s) = ends-well c c' x (first ++ later) (ends-after c' first later (ready-sends mid first s.0 e) s.1)
     joined mid first later (inr e) (inl s) =
         let same : first ++ later ≡ first = ap (λ l. first ++ l) s.1 ∙ append-nil first in
         let w = only-well first e.1 in
@@ -322,7 +322,7 @@ steps_end_well c c' x now out open_now h = go (steps-open c c' x now out open_no
           closes = ap closes same ∙ w.1 ∙ sym (ap is_shut st ∙ open_now);
           asks = inr (inr ((e.0).0, st, ap asked_by same ∙ (e.0).2));
         }
-    joined mid first later (inr e) (inr s) = ends-well c c' x (first ++ later) (ends-behind c' first later e.1 s.1)
+    joined mid first later (inr e) (inr s) = ends-well c c' x (first ++ later) (ends-after c' first later e.1 s.1)
 
     go : StepsOpen c x now c' out → EndsWell c c' x out
     go s = subst (λ l. EndsWell c c' x l) (sym s.joined) (joined s.mid s.first s.later (handled-ends c s.mid x now s.first s.handled) (goes-ends now s.mid c' s.later s.goes))

@@ -27,7 +27,7 @@ use Rattle.zn_view.specs.declared.want.Want.{Want}
 use Rattle.zs_session.specs.Alive.{is_alive_due}
 use Rattle.zp_step.specs.Keepalives.{TakesUp, keeps_alive}
 use Rattle.zp_step.specs.Looking.{Looks, asks_for, decided, max_ranges}
-use Rattle.zp_step.specs.Replies.{Is, close_behind, stage_behind}
+use Rattle.zp_step.specs.Replies.{Is, close_after, stage_after}
 use Rattle.zp_step.specs.Stages.{Committing, Core, KeptViews, Ready, Reading, counted_up}
 use Rattle.zp_step.specs.Steps.{Goes, rests, takes}
 use Rattle.zp_step.specs.Taking.{LooksFirst, LooksOn, PlansAtOnce, Takes, TakesReadable, end_of_plain, plainly}
@@ -39,7 +39,7 @@ use Rattle.zp_laws.specs.Walking.{IsAheadIn, Walks, sends}
 use Rattle.zp_laws.proofs.Cases.{either}
 use Rattle.zp_laws.proofs.Counting.{counted-small}
 use Rattle.zp_laws.proofs.Keeping.{views-of, views-used}
-use Rattle.zp_laws.proofs.Strides.{UpTo, held-behind, placed, strides-none, strides-one, turn-next, walks-append, walks-is}
+use Rattle.zp_laws.proofs.Strides.{UpTo, held-after, placed, strides-none, strides-one, turn-next, walks-append, walks-is}
 use Rattle.zp_laws.proofs.WalkMoves.{plain-move}
 
 -- the next frame is at work, and those that wait come after it
@@ -53,8 +53,8 @@ pub record Works (store : Store) (lines : List TranscriptLine) (conn : ℕ) (c :
   pub ahead : is_ahead lines conn c.next ≡ true
 
 -- the index after that of a frame
-pub index-behind : (lines : List TranscriptLine) (conn i : ℕ) (bytes : List ℕ) → IsFrameAt lines conn i bytes → counted_up (i + 1) ≡ i + 1
-index-behind lines conn i bytes f = counted-small (i + 1) (omega (arith, f.small))
+pub index-after : (lines : List TranscriptLine) (conn i : ℕ) (bytes : List ℕ) → IsFrameAt lines conn i bytes → counted_up (i + 1) ≡ i + 1
+index-after lines conn i bytes f = counted-small (i + 1) (omega (arith, f.small))
 
 -- the walker stands where the core does, whatever else the core keeps
 pub still-matches : (lines : List TranscriptLine) (c d : Core) (w : Walker) → Matches lines c w → d.zxid ≡ c.zxid → d.cursor ≡ c.cursor → d.watches ≡ c.watches → d.next ≡ c.next → Matches lines d w
@@ -79,7 +79,7 @@ later-bound a b n h e = go (nat_le a b)
     go true = e
     go false = h
 
-pub close-sends : (bytes : List ℕ) (o : Option Cause) → sends (action.Send bytes ∷ close_behind o) ≡ bytes ∷ []
+pub close-sends : (bytes : List ℕ) (o : Option Cause) → sends (action.Send bytes ∷ close_after o) ≡ bytes ∷ []
 close-sends bytes None = refl
 close-sends bytes (Some why) = refl
 
@@ -87,13 +87,13 @@ close-sends bytes (Some why) = refl
 module _ (store : Store) (lines : List TranscriptLine) (conn : ℕ) (Afresh : Type 0) where
   -- the core after a plain reply
   abbrev plain_core : Core → Bool → Core
-  plain_core c b = record c { stage = stage_behind (end_of_plain b); next = counted_up (c.next + 1) }
+  plain_core c b = record c { stage = stage_after (end_of_plain b); next = counted_up (c.next + 1) }
 
   plain-stands : (c : Core) (w : Walker) (bytes : List ℕ) (looked : ℕ) (b : Bool) → Works store lines conn c w bytes
-      → StandsOpen (is_open (stage_behind (end_of_plain b))) store lines conn (plain_core c b) (record w { next = w.next + 1; over = b }) looked
+      → StandsOpen (is_open (stage_after (end_of_plain b))) store lines conn (plain_core c b) (record w { next = w.next + 1; over = b }) looked
   plain-stands c w bytes looked true k = tt
   plain-stands c w bytes looked false k =
-      let up = index-behind lines conn c.next bytes k.frame in
+      let up = index-after lines conn c.next bytes k.frame in
       record {
         matches = record { zxid = (k.matches).zxid; since = (k.matches).since; watches = (k.matches).watches; next = ap (λ n. n + 1) (k.matches).next ∙ sym up; over = refl; at = record { line = ((k.matches).at).line; update = ((k.matches).at).update; shown = ((k.matches).at).shown; zxid = ((k.matches).at).zxid; cursor = ((k.matches).at).cursor } };
         work = tt;
@@ -103,9 +103,9 @@ module _ (store : Store) (lines : List TranscriptLine) (conn : ℕ) (Afresh : Ty
         knows = ap (is_ahead lines conn) up ∙ k.turn;
       }
 
-  plain-ahead : (c : Core) (w : Walker) (bytes : List ℕ) (b : Bool) → Works store lines conn c w bytes → IsAheadIn lines conn (plain_core c b) (stage_behind (end_of_plain b))
+  plain-ahead : (c : Core) (w : Walker) (bytes : List ℕ) (b : Bool) → Works store lines conn c w bytes → IsAheadIn lines conn (plain_core c b) (stage_after (end_of_plain b))
   plain-ahead c w bytes true k = tt
-  plain-ahead c w bytes false k = ap (is_ahead lines conn) (index-behind lines conn c.next bytes k.frame) ∙ k.turn
+  plain-ahead c w bytes false k = ap (is_ahead lines conn) (index-after lines conn c.next bytes k.frame) ∙ k.turn
 
   pub plain-walks : (c : Core) (w : Walker) (bytes : List ℕ) (looked : ℕ) (t : Told) → Works store lines conn c w bytes → plain_reply no_watches (read_request bytes) ≡ Some t
       → Walks store lines conn Afresh c (plainly c (xid_of (read_request bytes)) t.reply).0 w looked (plainly c (xid_of (read_request bytes)) t.reply).1
@@ -125,7 +125,7 @@ module _ (store : Store) (lines : List TranscriptLine) (conn : ℕ) (Afresh : Ty
             y (ap (λ z. reply_packet x z t.reply ∷ []) m.zxid ∙ sym (close-sends (reply_packet x c.zxid t.reply) (end_of_plain b)))
             (All-cons (UpTo (length lines)) (later_of w.since (f.place + 1), packet) [] (later-bound w.since (f.place + 1) (length lines) (omega (arith, p.since, p.within)) (omega (arith, bound))) (All-nil (UpTo (length lines)))) (λ q. refl) refl;
         stands = plain-stands c w bytes looked b k;
-        looks = λ q e. absurd (held-behind (end_of_plain b) e);
+        looks = λ q e. absurd (held-after (end_of_plain b) e);
         who = refl;
         ahead = inr (plain-ahead c w bytes b k);
         zxid = omega (arith, ints);

@@ -38,7 +38,7 @@ use Rattle.zp_step.specs.Kept.{keeps}
 use Rattle.zn_view.specs.Keeping.{update_path}
 use Rattle.zp_step.specs.Looking.{IfRecords, Looks, change_by, decided, expired, max_ranges, moved, pending}
 use Rattle.zp_step.specs.Plans.{Committed, finishes}
-use Rattle.zp_step.specs.Replies.{Is, closed_by, is_due, replied, stage_behind, waits}
+use Rattle.zp_step.specs.Replies.{Is, closed_by, is_due, replied, stage_after, waits}
 use Rattle.zp_step.specs.Stages.{Core, Pending, Stage, Unconnected, Connecting, Ready, KeepingAlive, Checking, Reading, Committing, Waiting, Shut, is_shut}
 use Rattle.zp_step.specs.Steps.{Answers, Comes, Goes, Handles, Steps, StepsOpen, counted, queued, rests, takes}
 use Rattle.zp_step.specs.Taking.{Takes, TakesReadable, end_of_plain, plainly}
@@ -55,15 +55,15 @@ use Rattle.zp_laws.proofs.Keeping.{PlansBeside, first-or-anew}
 planned-is : (now : ℕ) (x : Core × List Action) (c' : Core) (out : List Action) → Is x c' out → IsPlannedAt now x.0.stage → IsPlannedAt now c'.stage
 planned-is now x c' out i h = subst (λ (d : Core). IsPlannedAt now d.stage) (sym i.0) h
 
-behind-plans : (now : ℕ) (o : Option Cause) → IsPlannedAt now (stage_behind o)
-behind-plans now None = tt
-behind-plans now (Some why) = tt
+after-plans : (now : ℕ) (o : Option Cause) → IsPlannedAt now (stage_after o)
+after-plans now None = tt
+after-plans now (Some why) = tt
 
 waits-plans : (c c' : Core) (p : Pending) (now : ℕ) (out : List Action) → Is (waits c p) c' out → IsPlannedAt now c'.stage
 waits-plans c c' p now out i = go (is_due c p) i
   where
     go : (b : Bool) → Is (if b then replied c p else (record c { stage = Waiting p }, [])) c' out → IsPlannedAt now c'.stage
-    go true j = planned-is now (replied c p) c' out j (behind-plans now p.ends)
+    go true j = planned-is now (replied c p) c' out j (after-plans now p.ends)
     go false j = planned-is now (record c { stage = Waiting p }, []) c' out j tt
 
 closed-plans : (c c' : Core) (why : Cause) (now : ℕ) (out : List Action) → Is (closed_by c why) c' out → IsPlannedAt now c'.stage
@@ -88,7 +88,7 @@ records-plan c c' ws parts now out Next f (inr h) = f h.1
 -- ---- a frame is taken up
 
 readable-plans : (c c' : Core) (now : ℕ) (out : List Action) (x : Frame) (o : Option Told) → TakesReadable c now c' out x o → IsPlannedAt now c'.stage
-readable-plans c c' now out x (Some t) h = planned-is now (plainly c (xid_of x) t.reply) c' out h (behind-plans now (end_of_plain (is_auth_refusal t.reply)))
+readable-plans c c' now out x (Some t) h = planned-is now (plainly c (xid_of x) t.reply) c' out h (after-plans now (end_of_plain (is_auth_refusal t.reply)))
 readable-plans c c' now out NoHeader None h = absurd h
 readable-plans c c' now out (Unreadable xid place) None h = absurd h
 readable-plans c c' now out (Unknown xid kind) None h = absurd h

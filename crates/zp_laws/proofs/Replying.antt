@@ -24,15 +24,15 @@ use Rattle.zk_least.proofs.Answering.{answer-move}
 use Rattle.zk_least.proofs.Firing.{after-line}
 use Rattle.zk_least.proofs.Queues.{none-fires, unarmed-fires}
 use Rattle.zk_least.proofs.Rising.{at-line, not-below}
-use Rattle.zp_step.specs.Replies.{Is, close_behind, is_due, replied, send_notices, stage_behind, waits}
+use Rattle.zp_step.specs.Replies.{Is, close_after, is_due, replied, send_notices, stage_after, waits}
 use Rattle.zp_step.specs.Stages.{Core, Pending, Waiting, counted_up, seen_by}
 use Rattle.zp_step.specs.declared.action.Action.{Action}
 use Rattle.zp_step.specs.declared.action.Action.TheVariants as action
 use Rattle.zp_laws.specs.Frames.{AreFrames, is_open}
 use Rattle.zp_laws.specs.Standing.{AreViewsOf, IsPastFrame, IsReply, Matches, StandsOpen, is_ahead}
 use Rattle.zp_laws.specs.Walking.{IsAheadIn, Walks, sends}
-use Rattle.zp_laws.proofs.Going.{close-sends, index-behind, later-bound, still-matches}
-use Rattle.zp_laws.proofs.Strides.{UpTo, held-behind, placed, sends-append, strides-none, strides-one, turn-next, walks-is}
+use Rattle.zp_laws.proofs.Going.{close-sends, index-after, later-bound, still-matches}
+use Rattle.zp_laws.proofs.Strides.{UpTo, held-after, placed, sends-append, strides-none, strides-one, turn-next, walks-is}
 use Rattle.zp_laws.proofs.Updates.{last-update, legal-before, none-above, same-count}
 
 -- a core at work on its next request
@@ -109,7 +109,7 @@ reply_due lines w p looked k =
 
 -- the core after a reply
 abbrev replied_core : Core → Pending → Option Cause → Core
-replied_core c p o = record c { stage = stage_behind o; zxid = p.zxid; cursor = p.number; watches = (seen_by p.change c.watches).watches; next = counted_up (c.next + 1) }
+replied_core c p o = record c { stage = stage_after o; zxid = p.zxid; cursor = p.number; watches = (seen_by p.change c.watches).watches; next = counted_up (c.next + 1) }
 
 module _ (store : Store) (lines : List TranscriptLine) (conn : ℕ) (c : Core) (w : Walker) (p : Pending) (looked : ℕ) (b : Busy store lines conn c w) (r : IsReply lines conn c.who w p looked) where
   m : Matches lines c w
@@ -122,7 +122,7 @@ module _ (store : Store) (lines : List TranscriptLine) (conn : ℕ) (c : Core) (
   len = length-take-le looked lines (r.moment).past
 
   up : counted_up (c.next + 1) ≡ c.next + 1
-  up = ap (λ n. counted_up (n + 1)) (sym (m.next)) ∙ index-behind lines conn w.next r.bytes r.frame ∙ ap (λ n. n + 1) (m.next)
+  up = ap (λ n. counted_up (n + 1)) (sym (m.next)) ∙ index-after lines conn w.next r.bytes r.frame ∙ ap (λ n. n + 1) (m.next)
 
   -- nothing fires before a reply that is due
   due-fires : is_due c p ≡ true → fired_above (take looked lines) w.zxid w.watches ≡ (w.watches, [])
@@ -150,9 +150,9 @@ module _ (store : Store) (lines : List TranscriptLine) (conn : ℕ) (c : Core) (
       (m.over) (r.moment).past (r.frame).framed may-answer (r.frame).header (rw f (r.told w.watches))
       ∙ rw (f, r.xid) refl
 
-  stands-behind : (o : Option Cause) → p.ends ≡ o → StandsOpen (is_open (stage_behind o)) store lines conn (replied_core c p o) (after_reply lines w p looked) looked
-  stands-behind (Some why) e = tt
-  stands-behind None e =
+  stands-after : (o : Option Cause) → p.ends ≡ o → StandsOpen (is_open (stage_after o)) store lines conn (replied_core c p o) (after_reply lines w p looked) looked
+  stands-after (Some why) e = tt
+  stands-after None e =
       let l = last-update lines looked b.legal (t.some) in
       let here : after_update l.update.zxid lines ≡ l.place + 1 = after-line lines l.place l.update b.legal l.shown in
       let there : after_update l.update.zxid (take looked lines) ≡ l.place + 1 = after-line (take looked lines) l.place l.update (t.legal) (slice_get-take lines looked l.place l.before ∙ l.shown) in
@@ -172,7 +172,7 @@ module _ (store : Store) (lines : List TranscriptLine) (conn : ℕ) (c : Core) (
         knows = ap (is_ahead lines conn) up ∙ b.turn;
       }
 
-  reply-ahead : (o : Option Cause) → IsAheadIn lines conn (replied_core c p o) (stage_behind o)
+  reply-ahead : (o : Option Cause) → IsAheadIn lines conn (replied_core c p o) (stage_after o)
   reply-ahead None = ap (is_ahead lines conn) up ∙ b.turn
   reply-ahead (Some why) = tt
 
@@ -195,13 +195,13 @@ module _ (store : Store) (lines : List TranscriptLine) (conn : ℕ) (c : Core) (
             ∙ ap (λ ws. sends (send_notices (seen_by p.change ws).notices) ++ reply_packet p.xid z p.answer ∷ []) (m.watches)
             ∙ ap (λ y. sends (send_notices mine) ++ reply_packet p.xid y p.answer ∷ []) r.zxid
             ∙ ap (λ l. sends (send_notices mine) ++ l) (sym (close-sends (reply_packet p.xid p.zxid p.answer) p.ends))
-            ∙ sym (sends-append (send_notices mine) (action.Send (reply_packet p.xid p.zxid p.answer) ∷ close_behind p.ends)))
+            ∙ sym (sends-append (send_notices mine) (action.Send (reply_packet p.xid p.zxid p.answer) ∷ close_after p.ends)))
             (All-append (UpTo (length lines)) (due_notices n notices) (packet ∷ []) (notices-up (length lines) n notices within)
             (All-cons (UpTo (length lines)) packet [] (later-bound (length (take looked lines)) ((r.frame).place + 1) (length lines) (omega (arith, len, (r.moment).past)) (omega (arith, bound))) (All-nil (UpTo (length lines)))))
             (λ q. (let less = past q (r.frame).place r.bytes (ap (λ i. placed_frame conn i lines) (sym m.next) ∙ (r.frame).framed) in let lt : nat_lt (r.frame).place looked ≡ true = grind (arith, nat_tests) in ap (is_past looked) (r.frame).framed ∙ lt))
             (all-take (λ l. is_below (w.next + 1) (index_shown conn l)) looked lines (ap (is_not_overtaken lines conn) (m.next) ∙ b.turn));
-        stands = stands-behind p.ends refl;
-        looks = λ q e. absurd (held-behind p.ends e);
+        stands = stands-after p.ends refl;
+        looks = λ q e. absurd (held-after p.ends e);
         who = refl;
         ahead = inr (reply-ahead p.ends);
         zxid = omega (arith, ints, t.zxid, r.zxid);

@@ -149,11 +149,11 @@ looked-first x all h = some_none (sym (ap (λ b. if b then Some x.found else see
 all-looked : (front xs : List SeenKey) → All (WasLookedUp (front ++ xs)) xs
 all-looked front [] = All-nil (WasLookedUp (front ++ []))
 all-looked front (x ∷ xs) =
-    All-cons (WasLookedUp (front ++ x ∷ xs)) x xs (behind front) (subst (λ l. All (WasLookedUp l) xs) (append_assoc front (x ∷ []) xs) (all-looked (front ++ x ∷ []) xs))
+    All-cons (WasLookedUp (front ++ x ∷ xs)) x xs (after front) (subst (λ l. All (WasLookedUp l) xs) (append_assoc front (x ∷ []) xs) (all-looked (front ++ x ∷ []) xs))
   where
-    behind : (ys : List SeenKey) → WasLookedUp (ys ++ x ∷ xs) x
-    behind [] = looked-first x xs
-    behind (y ∷ ys) = looked-longer y (ys ++ x ∷ xs) x (behind ys)
+    after : (ys : List SeenKey) → WasLookedUp (ys ++ x ∷ xs) x
+    after [] = looked-first x xs
+    after (y ∷ ys) = looked-longer y (ys ++ x ∷ xs) x (after ys)
 
 -- a guarded key that is there is as the view has it
 abbrev AsSeen : View → Keys → Guard → Type 0

@@ -21,7 +21,7 @@ use Rattle.zk_transcript.proofs.Choices.{choices-append}
 use Rattle.zk_least.proofs.Firing.{after-line}
 use Rattle.zn_view.specs.declared.plan.Who.{Who}
 use Rattle.zp_step.specs.declared.action.Action.{Action}
-use Rattle.zp_step.specs.Replies.{Is, stage_behind}
+use Rattle.zp_step.specs.Replies.{Is, stage_after}
 use Rattle.zp_step.specs.Stages.{Core, Stage, Unconnected, Connecting, Ready, KeepingAlive, Checking, Reading, Committing, Waiting, Shut}
 use Rattle.zp_laws.specs.Standing.{IsFreshLook, Matches, has_looked, is_ahead}
 use Rattle.zp_laws.specs.Walking.{IsAheadIn, IsStill, Strides, Walks, sends, sent_in}
@@ -80,9 +80,9 @@ pub strides-if : (lines : List TranscriptLine) (conn : ℕ) (A B : Type 0) (id :
 strides-if lines conn A B id w v out f a = record { choices = a.choices; due = a.due; walked = a.walked; sent = a.sent; small = a.small; fresh = λ q. a.fresh (f q); in_turn = a.in_turn }
 
 -- after a reply nothing is held
-pub held-behind : (o : Option Cause) → has_looked false (stage_behind o) ≡ true → ⊥
-held-behind None h = absurd (cc)
-held-behind (Some why) h = absurd (cc)
+pub held-after : (o : Option Cause) → has_looked false (stage_after o) ≡ true → ⊥
+held-after None h = absurd (cc)
+held-after (Some why) h = absurd (cc)
 
 pub ahead-append : (lines : List TranscriptLine) (conn : ℕ) (c d c' : Core) → IsStill c d ⊎ IsAheadIn lines conn d d.stage → IsStill d c' ⊎ IsAheadIn lines conn c' c'.stage → IsStill c c' ⊎ IsAheadIn lines conn c' c'.stage
 ahead-append lines conn c d c' a (inr y) = inr y

@@ -5,7 +5,7 @@ ghost use Rattle.std.specs.Arc.{arc_value};
 ghost use Rattle.std.specs.Option.{option_map};
 ghost use Rattle.ev_types.specs.Store.{mod_of};
 ghost use Rattle.zn_layout.specs.Records.{IsHeadRec};
-ghost use Rattle.zp_script.specs.Entries.{AreTriggersOf, entry_behind};
+ghost use Rattle.zp_script.specs.Entries.{AreTriggersOf, entry_after};
 ghost use Rattle.zp_ledger.specs.Entering.{AreNumbered, IsAdded};
 
 use ev_types::Kv;
@@ -74,8 +74,8 @@ impl Entries {
     }
 
     /// The entry after the one of number `cursor`, shared with those that take it. None where there is no such entry.
-    pub fn behind(&self, cursor: i64) -> Result<Option<Arc<Entry, Global>>, Memory>
-        ensures { IfOk result (λ o. option_map arc_value o ≡ entry_behind self.now cursor) }
+    pub fn after_cursor(&self, cursor: i64) -> Result<Option<Arc<Entry, Global>>, Memory>
+        ensures { IfOk result (λ o. option_map arc_value o ≡ entry_after self.now cursor) }
     {
         let Ok(place) = usize::try_from(cursor) else {
             return Ok(None);

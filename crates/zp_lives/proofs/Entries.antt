@@ -15,7 +15,7 @@ use Rattle.zk_transcript.specs.declared.transcript.TranscriptLine.{TranscriptLin
 use Rattle.zn_layout.proofs.ListRecords.{head_value-injective}
 use Rattle.zn_layout.specs.StandsFor.{HeadMeans, IsHead, at}
 use Rattle.zn_layout.specs.declared.entry.Entry.{Entry}
-use Rattle.zp_script.specs.Entries.{AreTriggersOf, entry_behind}
+use Rattle.zp_script.specs.Entries.{AreTriggersOf, entry_after}
 use Rattle.zp_laws.proofs.Updates.{IsLast, last-update, same-count}
 use Rattle.zp_laws.specs.Inputs.{IsEntryOf}
 use Rattle.zp_lives.specs.Feeding.{IsEntryIn}
@@ -107,7 +107,7 @@ entry-same a b n z t = ap (λ k. entry_with k a.zxid a.triggers) n ∙ ap (λ k.
 positive : (m u : ℕ) → pos u ≡ pos m +ℤ pos 1 → u ≡ m + 1
 positive m u e = omega (arith, ints, e)
 
-pub entry-there : (s : Store) (lines : List TranscriptLine) (entries : List Entry) (e : Entry) (m : ℕ) → Serves s lines → AreEntries lines entries → IsEntryIn s e → e.number ≡ pos m +ℤ pos 1 → entry_behind entries (pos m) ≡ Some e
+pub entry-there : (s : Store) (lines : List TranscriptLine) (entries : List Entry) (e : Entry) (m : ℕ) → Serves s lines → AreEntries lines entries → IsEntryIn s e → e.number ≡ pos m +ℤ pos 1 → entry_after entries (pos m) ≡ Some e
 entry-there s lines entries e m h all i next = elim (slice_get_cases entries m).1 [
   | inl x ↦ x.2 ∙ ap (λ (y : Entry). Some y) (there x.0 x.2)
   | inr q ↦ absurd (omega (arith, q.0, all.count, counted, most))

@@ -15,7 +15,7 @@ use Rattle.zp_script.specs.Happens.{Happens}
 use Rattle.zp_script.specs.Kinds.{kind_asked}
 use Rattle.zp_script.specs.Runs.{tick_of}
 use Rattle.zp_script.specs.StepOutcomes.{acts_all, leaves}
-use Rattle.zp_script.specs.Worlds.{Conn, Connection, World, behind_step, conn_at, is_open_conn}
+use Rattle.zp_script.specs.Worlds.{Conn, Connection, World, after_step, conn_at, is_open_conn}
 use Rattle.zp_script.specs.declared.flight.Flight.TheVariants.{Carried}
 use Rattle.zp_lives.proofs.Events.{events-keep}
 use Rattle.zp_lives.specs.Lives.{AccountedAreServed, HappensBeside, IsHanded, Lives, LivesAreAccounted, Takes, TakesBy, at_time}
@@ -69,7 +69,7 @@ same-conns : (w v w' : World) → v.conns ≡ w.conns → Grown v w' → Grown w
 same-conns w v w' e g = record { conns = λ c x there. g.conns c x (ap (λ m. conn_at c (record w { conns = m })) e ∙ there) }
 
 handed-grown : (c : ℕ) (w : World) (i : Input) (w' : World) → Handed c [] w i w' → Grown w w'
-handed-grown c w i w' hd = subst (Grown w) (sym hd.result) (leaves-grown w c hd.conn (behind_step hd.next) (acts_all c (kind_asked c (Connection hd.next)) [] hd.conn.flight hd.out) hd.found)
+handed-grown c w i w' hd = subst (Grown w) (sym hd.result) (leaves-grown w c hd.conn (after_step hd.next) (acts_all c (kind_asked c (Connection hd.next)) [] hd.conn.flight hd.out) hd.found)
 
 takes-grown-by : (c : ℕ) (w : World) (s : Step) (w' : World) (i : Input) → s.input ≡ i → TakesBy c w s w' i → Grown w w'
 takes-grown-by c w s w' (input.Frame bytes) e (x, there, h) =

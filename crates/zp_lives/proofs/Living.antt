@@ -20,7 +20,7 @@ use Rattle.zp_lives.proofs.Telling.{shown-append, unnamed-shows}
 use Rattle.zp_lives.specs.Alone.{AloneFromTheFirst, AloneIsServed, IsAlone, IsRunAlone, LivesAlone}
 use Rattle.zp_lives.specs.Events.{ends}
 use Rattle.zp_lives.specs.Feeding.{AreAnswered}
-use Rattle.zp_lives.specs.Showing.{index_behind, shown_act, shown_from, shown_in, shown_of, until_close}
+use Rattle.zp_lives.specs.Showing.{index_after, shown_act, shown_from, shown_in, shown_of, until_close}
 use Rattle.zp_run.specs.Runs.{Runs, Step, answers_of, asks_of, frames_of}
 use Rattle.zn_layout.specs.declared.entry.Entry.{Entry}
 use Rattle.zp_step.proofs.Shutting.{ends-named}
@@ -50,7 +50,7 @@ asks-more s ss = filter_map-append (λ (t : Step). asked_by t.out) (s ∷ []) ss
 store-same : (a : Answer) (m t : Store) → ◌≡◌ {A = Option (Store × Answer)} (Some (m, a)) (Some (t, a)) → m ≡ t
 store-same a m t e = ap (λ (r : Store × Answer). r.0) (some_is e)
 
--- behind a step that closed nothing
+-- after a step that closed nothing
 fed-on : (i : Input) (now : ℕ) (out : List Action) (rest : List Step) (qs asks : List Ask) (s t b : Store) → end_by i ≡ None → IsTaken i qs s t → AreAnswered s (qs ++ asks) (answers_of (step_of i now out ∷ rest)) b → AreAnswered t (left_asks i qs ++ asks) (answers_of rest) b
 fed-on (input.Frame bytes) now out rest qs asks s t b goes e h = subst (λ u. AreAnswered u (qs ++ asks) (answers_of rest) b) (sym e) h
 fed-on (input.Entry x) now out rest qs asks s t b goes e h = subst (λ u. AreAnswered u (qs ++ asks) (answers_of rest) b) (sym e) h
@@ -84,7 +84,7 @@ goes-on core mid s opens steps goes = go (end_by s.input) refl
 
 -- ---- frames
 
-frames-more : (i : Input) (now : ℕ) (out : List Action) (rest : List Step) (n : ℕ) → n + length (frames_of (step_of i now out ∷ rest)) ≡ index_behind n i + length (frames_of rest)
+frames-more : (i : Input) (now : ℕ) (out : List Action) (rest : List Step) (n : ℕ) → n + length (frames_of (step_of i now out ∷ rest)) ≡ index_after n i + length (frames_of rest)
 frames-more (input.Frame bytes) now out rest n = omega arith
 frames-more (input.Answer a) now out rest n = refl
 frames-more (input.Entry x) now out rest n = refl
@@ -97,12 +97,12 @@ frames-more (input.ClientEnd p) now out rest n = refl
 -- ---- a run
 
 record IsLived (c : ℕ) (w : World) (x : Conn) (steps front : List Step) : Type 0 where
-  behind : World
-  lives : LivesAlone c w front behind
-  accounted : IsAccounted behind
-  store : AreAnswered w.store (asks_out x ++ asks_of steps) (answers_of front) behind.store
+  after : World
+  lives : LivesAlone c w front after
+  accounted : IsAccounted after
+  store : AreAnswered w.store (asks_out x ++ asks_of steps) (answers_of front) after.store
   more : List TranscriptLine
-  lines : behind.lines ≡ w.lines ++ more
+  lines : after.lines ≡ w.lines ++ more
   shown : shown_of c more ≡ shown_from x.frames front
 
 module _ (c : ℕ) (s : Step) (ss : List Step) (w : World) (x : Conn) (core mid : Core) (k : IsAtCore w c x core) (steps : Steps core s.input s.time mid s.out) (fed : IsFedFrom w.store (asks_out x) (s ∷ ss)) (t : IsStepped c w x s mid) where
@@ -114,56 +114,56 @@ module _ (c : ℕ) (s : Step) (ss : List Step) (w : World) (x : Conn) (core mid 
   -- nothing follows the close
   lived-closed : IsLived c w x (s ∷ ss) (s ∷ [])
   lived-closed = record {
-    behind = t.behind;
-    lives = t.lives [] t.behind (ends refl refl);
+    after = t.after;
+    lives = t.lives [] t.after (ends refl refl);
     accounted = t.accounted;
-    store = fed-back s.input s.time s.out [] (asks_out x) (asks_of (s ∷ ss)) w.store t.behind.store t.behind.store t.fed refl;
+    store = fed-back s.input s.time s.out [] (asks_out x) (asks_of (s ∷ ss)) w.store t.after.store t.after.store t.fed refl;
     more = t.more;
     lines = t.lines;
     shown = t.shown ∙ sym (append-nil (shown_in x.frames s.input ++ filter_map shown_act s.out));
   }
 
-  open-behind : closes s.out ≡ false → IsAtCore t.behind c t.conn mid
-  open-behind goes = record {
+  open-after : closes s.out ≡ false → IsAtCore t.after c t.conn mid
+  open-after goes = record {
     accounted = t.accounted;
     there = t.there;
     actor = t.actor ∙ ap (λ (b : Bool). if b then Closed else Connection mid) (sym t.shut ∙ goes);
     undone = t.undone;
   }
 
-  fed-behind : closes s.out ≡ false → IsFedFrom t.behind.store (asks_out t.conn) ss
-  fed-behind goes =
+  fed-after : closes s.out ≡ false → IsFedFrom t.after.store (asks_out t.conn) ss
+  fed-after goes =
       let none = goes-on core mid s (open-now w c x core k) steps goes in
       record {
-        behind = fed.behind;
-        answers = subst (λ l. AreAnswered t.behind.store l (answers_of ss) fed.behind) (sym (asks-then goes)) (fed-on s.input s.time s.out ss (asks_out x) (asks_of (s ∷ ss)) w.store t.behind.store fed.behind none t.fed fed.answers);
+        after = fed.after;
+        answers = subst (λ l. AreAnswered t.after.store l (answers_of ss) fed.after) (sym (asks-then goes)) (fed-on s.input s.time s.out ss (asks_out x) (asks_of (s ∷ ss)) w.store t.after.store fed.after none t.fed fed.answers);
         entries = λ before more step e now is of h. fed.entries (s ∷ before) more step e now (ap (λ l. s ∷ l) is) of
-            (fed-back s.input s.time s.out before (asks_out x) (asks_of (s ∷ ss)) w.store t.behind.store now t.fed (subst (λ l. AreAnswered t.behind.store l (answers_of before) now) (asks-then goes) h));
+            (fed-back s.input s.time s.out before (asks_out x) (asks_of (s ∷ ss)) w.store t.after.store now t.fed (subst (λ l. AreAnswered t.after.store l (answers_of before) now) (asks-then goes) h));
       }
 
-  lived-on : closes s.out ≡ false → (front : List Step) → IsLived c t.behind t.conn ss front → IsLived c w x (s ∷ ss) (s ∷ front)
+  lived-on : closes s.out ≡ false → (front : List Step) → IsLived c t.after t.conn ss front → IsLived c w x (s ∷ ss) (s ∷ front)
   lived-on goes front r = record {
-    behind = r.behind;
-    lives = t.lives front r.behind r.lives;
+    after = r.after;
+    lives = t.lives front r.after r.lives;
     accounted = r.accounted;
-    store = fed-back s.input s.time s.out front (asks_out x) (asks_of (s ∷ ss)) w.store t.behind.store r.behind.store t.fed (subst (λ l. AreAnswered t.behind.store l (answers_of front) r.behind.store) (asks-then goes) r.store);
+    store = fed-back s.input s.time s.out front (asks_out x) (asks_of (s ∷ ss)) w.store t.after.store r.after.store t.fed (subst (λ l. AreAnswered t.after.store l (answers_of front) r.after.store) (asks-then goes) r.store);
     more = t.more ++ r.more;
     lines = r.lines ∙ ap (λ l. l ++ r.more) t.lines ∙ append_assoc w.lines t.more r.more;
     shown = shown-append c t.more r.more ∙ ap (λ l. l ++ shown_of c r.more) t.shown ∙ ap (λ l. shown_in x.frames s.input ++ filter_map shown_act s.out ++ l) (r.shown ∙ ap (λ n. shown_from n front) t.frames);
   }
 
 lives-on : (c : ℕ) (steps : List Step) (w : World) (x : Conn) (core last : Core) → IsAtCore w c x core → Runs core steps last → IsFedFrom w.store (asks_out x) steps → x.frames + length (frames_of steps) < max_count → IsLived c w x steps (until_close steps)
-lives-on c [] w x core last k runs fed few = record { behind = w; lives = ends refl refl; accounted = k.accounted; store = refl; more = []; lines = sym (append-nil w.lines); shown = refl }
+lives-on c [] w x core last k runs fed few = record { after = w; lives = ends refl refl; accounted = k.accounted; store = refl; more = []; lines = sym (append-nil w.lines); shown = refl }
 lives-on c (s ∷ ss) w x core last k (mid, may, steps, runs) fed few =
-    go (closes s.out) refl (λ goes. lives-on c ss t.behind t.conn mid last (open-behind c s ss w x core mid k steps fed t goes) runs (fed-behind c s ss w x core mid k steps fed t goes) (omega (arith, few, more, t.frames)))
+    go (closes s.out) refl (λ goes. lives-on c ss t.after t.conn mid last (open-after c s ss w x core mid k steps fed t goes) runs (fed-after c s ss w x core mid k steps fed t goes) (omega (arith, few, more, t.frames)))
   where
-    more : x.frames + length (frames_of (s ∷ ss)) ≡ index_behind x.frames s.input + length (frames_of ss)
+    more : x.frames + length (frames_of (s ∷ ss)) ≡ index_after x.frames s.input + length (frames_of ss)
     more = frames-more s.input s.time s.out ss x.frames
 
     t : IsStepped c w x s mid
     t = takes-any w c x core mid s.time s.out k s.input ss (omega (arith, few, more)) may steps fed
 
-    go : (b : Bool) → closes s.out ≡ b → (closes s.out ≡ false → IsLived c t.behind t.conn ss (until_close ss)) → IsLived c w x (s ∷ ss) (s ∷ (if b then [] else until_close ss))
+    go : (b : Bool) → closes s.out ≡ b → (closes s.out ≡ false → IsLived c t.after t.conn ss (until_close ss)) → IsLived c w x (s ∷ ss) (s ∷ (if b then [] else until_close ss))
     go true e later = lived-closed c s ss w x core mid k steps fed t
     go false e later = lived-on c s ss w x core mid k steps fed t e (until_close ss) (later e)
 
@@ -173,7 +173,7 @@ module _ (w : World) (c p : ℕ) (fresh : Fresh) (steps : List Step) (core : Cor
   lived : IsLived c (opened w c p fresh.id fresh.passwd) (new_conn p (Connection (new_core fresh))) steps (until_close steps)
   lived = lives-on c steps (opened w c p fresh.id fresh.passwd) (new_conn p (Connection (new_core fresh))) (new_core fresh) core
       (record { accounted = open-accounted w c p fresh.id fresh.passwd free r.offer k; there = conn-here w c (new_conn p (Connection (new_core fresh))); actor = refl; undone = tt })
-      r.ran (record { behind = (r.fed).behind; answers = (r.fed).answers; entries = (r.fed).entries }) (omega (arith, r.few))
+      r.ran (record { after = (r.fed).after; answers = (r.fed).answers; entries = (r.fed).entries }) (omega (arith, r.few))
 
   -- its `open` line and the lines before show nothing of it
   nothing : shown_of c (w.lines ++ Open c p fresh.id fresh.passwd ∷ []) ≡ []
@@ -181,14 +181,14 @@ module _ (w : World) (c p : ℕ) (fresh : Fresh) (steps : List Step) (core : Cor
 
   alone : IsAlone (opened w c p fresh.id fresh.passwd) c steps
   alone = record {
-    behind = lived.behind;
+    after = lived.after;
     lives = lived.lives;
     accounted = lived.accounted;
     store = lived.store;
     more = lived.more;
     lines = lived.lines;
     shown = ap (shown_of c) lived.lines ∙ shown-append c (w.lines ++ Open c p fresh.id fresh.passwd ∷ []) lived.more ∙ ap (λ l. l ++ shown_of c lived.more) nothing ∙ lived.shown;
-    served = accounted-served lived.behind c lived.accounted;
+    served = accounted-served lived.after c lived.accounted;
   }
 
 pub alone-served : AloneIsServed

@@ -18,12 +18,12 @@ use Rattle.zk_transcript.specs.declared.transcript.UpdateKind.{UpdateKind}
 use Rattle.zn_layout.specs.declared.entry.Entry.{Entry}
 use Rattle.zn_view.specs.declared.plan.Who.{Who}
 use Rattle.zp_script.specs.Arriving.{shown_frame}
-use Rattle.zp_script.specs.Entries.{cursor_of, cursor_wanted, entry_behind, next_entry}
+use Rattle.zp_script.specs.Entries.{cursor_of, cursor_wanted, entry_after, next_entry}
 use Rattle.zp_script.specs.Faults.{flight_at}
 use Rattle.zp_script.specs.Handing.{Handed, landed}
 use Rattle.zp_script.specs.Kinds.{kind_asked}
 use Rattle.zp_script.specs.StepOutcomes.{StepOutcome, acts_all, leaves}
-use Rattle.zp_script.specs.Worlds.{Conn, Connection, World, behind_step, conn_at, with_conn, zxid_at}
+use Rattle.zp_script.specs.Worlds.{Conn, Connection, World, after_step, conn_at, with_conn, zxid_at}
 use Rattle.zp_script.specs.declared.flight.Asking.{Asking}
 use Rattle.zp_script.specs.declared.flight.Flight.TheVariants.{Carried, Denied, Out}
 use Rattle.zp_script.specs.declared.flight.Flight.{Flight}
@@ -39,7 +39,7 @@ use Rattle.zp_lives.specs.Alone.{LivesAlone}
 use Rattle.zp_lives.specs.Events.{beside, takes}
 use Rattle.zp_lives.specs.Feeding.{AreAnswered, IsEntryIn}
 use Rattle.zp_lives.specs.Lives.{IsHanded, TakesBy, at_time}
-use Rattle.zp_lives.specs.Showing.{index_behind, shown_act, shown_in, shown_of}
+use Rattle.zp_lives.specs.Showing.{index_after, shown_act, shown_in, shown_of}
 use Rattle.zp_run.specs.Runs.{Step, answers_of, asks_of, entry_in}
 use Rattle.zp_step.proofs.Shutting.{ends-named}
 use Rattle.zp_step.specs.Laws.{end_by}
@@ -88,8 +88,8 @@ asks_out x = listed (ask_out x.flight)
 
 -- what these steps are given over a store, where these asks are out before them
 pub record IsFedFrom (s : Store) (qs : List Ask) (steps : List Step) : Type 0 where
-  pub behind : Store
-  pub answers : AreAnswered s (qs ++ asks_of steps) (answers_of steps) behind
+  pub after : Store
+  pub answers : AreAnswered s (qs ++ asks_of steps) (answers_of steps) after
   pub entries : (before more : List Step) (step : Step) (e : Entry) (now : Store) → steps ≡ before ++ step ∷ more → entry_in step.input ≡ Some e → AreAnswered s (qs ++ asks_of steps) (answers_of before) now → IsEntryIn now e
 
 first-answer : (s : Store) (q : Ask) (a : Answer) (qs asks : List Ask) (os : List (Option Answer)) (t : Store) → qs ≡ q ∷ [] → AreAnswered s (qs ++ asks) (Some a ∷ os) t → (mid : Store) × (carry s q ≡ Some (mid, a))
@@ -199,10 +199,10 @@ module _ (w : World) (c : ℕ) (x : Conn) (core : Core) (k : IsAtCore w c x core
       let a = awaiting core core.stage h.awaited in
       let v = serving a.served in
       let at = ((v.stands).matches).at in
-      ap (λ o. option_and_then (entry_behind w.entries) (option_and_then (λ (y : Conn). cursor_of y.actor) o)) k.there
-      ∙ ap (λ b. option_and_then (entry_behind w.entries) (cursor_of b)) k.actor
-      ∙ ap (option_and_then (entry_behind w.entries)) a.cursor
-      ∙ ap (entry_behind w.entries) at.cursor
+      ap (λ o. option_and_then (entry_after w.entries) (option_and_then (λ (y : Conn). cursor_of y.actor) o)) k.there
+      ∙ ap (λ b. option_and_then (entry_after w.entries) (cursor_of b)) k.actor
+      ∙ ap (option_and_then (entry_after w.entries)) a.cursor
+      ∙ ap (entry_after w.entries) at.cursor
       ∙ entry-there w.store w.lines w.entries e (state_at w.lines (at.line + 1)).updates (((k.accounted).whole).holds).serves (k.accounted).entries i (h.number ∙ ap (λ z. z +ℤ pos 1) at.cursor)
 
 -- ---- the step has been taken
@@ -218,29 +218,29 @@ IsTaken input.Failed qs s t = (q : Ask) × (qs ≡ q ∷ []) × (t ≡ s)
 IsTaken _ qs s t = t ≡ s
 
 pub record IsStepped (c : ℕ) (w : World) (x : Conn) (s : Step) (mid : Core) : Type 0 where
-  pub behind : World
+  pub after : World
   pub conn : Conn
-  pub lives : (more : List Step) (u : World) → LivesAlone c behind more u → LivesAlone c w (s ∷ more) u
-  pub accounted : IsAccounted behind
-  pub there : conn_at c behind ≡ Some conn
-  pub actor : conn.actor ≡ behind_step mid
+  pub lives : (more : List Step) (u : World) → LivesAlone c after more u → LivesAlone c w (s ∷ more) u
+  pub accounted : IsAccounted after
+  pub there : conn_at c after ≡ Some conn
+  pub actor : conn.actor ≡ after_step mid
   pub shut : closes s.out ≡ is_shut mid.stage
   pub undone : IsUndone conn.flight
-  pub frames : conn.frames ≡ index_behind x.frames s.input
+  pub frames : conn.frames ≡ index_after x.frames s.input
   pub asked : closes s.out ≡ false → asks_out conn ≡ left_asks s.input (asks_out x) ++ listed (asked_by s.out)
-  pub fed : IsTaken s.input (asks_out x) w.store behind.store
+  pub fed : IsTaken s.input (asks_out x) w.store after.store
   pub more : List TranscriptLine
-  pub lines : behind.lines ≡ w.lines ++ more
+  pub lines : after.lines ≡ w.lines ++ more
   pub shown : shown_of c more ≡ shown_in x.frames s.input ++ filter_map shown_act s.out
 
 abbrev pub outcome : ℕ → Conn → Core → List Action → StepOutcome
 outcome c y mid out = acts_all c (kind_asked c (Connection mid)) [] y.flight out
 
-abbrev pub world_behind : ℕ → World → Conn → Core → List Action → World
-world_behind c v y mid out = leaves c v y (behind_step mid) (outcome c y mid out)
+abbrev pub world_after : ℕ → World → Conn → Core → List Action → World
+world_after c v y mid out = leaves c v y (after_step mid) (outcome c y mid out)
 
-abbrev pub conn_behind : ℕ → Conn → Core → List Action → Conn
-conn_behind c y mid out = record y { actor = behind_step mid; flight = (outcome c y mid out).flight }
+abbrev pub conn_after : ℕ → Conn → Core → List Action → Conn
+conn_after c y mid out = record y { actor = after_step mid; flight = (outcome c y mid out).flight }
 
 tail-undone : (c : ℕ) (kind : Option UpdateKind) (f : Option Flight) (ls : List TranscriptLine) (t : Tail) → IsUndone f → IsUndone (tail_outcome c kind [] f ls t).flight
 tail-undone c kind f ls Rests u = u
@@ -257,7 +257,7 @@ pub record IsBrought (c : ℕ) (w : World) (x : Conn) (core : Core) (s : Step) (
   pub there : conn_at c v ≡ Some y
   pub actor : y.actor ≡ Connection core
   pub undone : IsUndone y.flight
-  pub frames : y.frames ≡ index_behind x.frames s.input
+  pub frames : y.frames ≡ index_after x.frames s.input
   pub left : closes s.out ≡ false → asks_out y ≡ left_asks s.input (asks_out x)
   pub free : (q : Ask) → asked_by s.out ≡ Some q → asks_out y ≡ []
   pub fed : IsTaken s.input (asks_out x) w.store v.store
@@ -272,25 +272,25 @@ module _ (c : ℕ) (w : World) (x : Conn) (core mid : Core) (s : Step) (v : Worl
   as-tail : outcome c y mid s.out ≡ tail_outcome c (kind_asked c (Connection mid)) [] y.flight (said c parts.packets) parts.tail
   as-tail = split-outcome c (kind_asked c (Connection mid)) [] y.flight s.out parts
 
-  asked-behind : closes s.out ≡ false → asks_out (conn_behind c y mid s.out) ≡ left_asks s.input (asks_out x) ++ listed (asked_by s.out)
-  asked-behind goes =
+  asked-after : closes s.out ≡ false → asks_out (conn_after c y mid s.out) ≡ left_asks s.input (asks_out x) ++ listed (asked_by s.out)
+  asked-after goes =
       ap (λ (o : StepOutcome). listed (ask_out o.flight)) as-tail
       ∙ tail-asked c (kind_asked c (Connection mid)) y.flight (said c parts.packets) parts.tail (sym (split-closes s.out parts) ∙ goes) (λ q e. b.free q (split-asked s.out parts ∙ e))
       ∙ ap (λ l. l ++ listed (asked_last parts.tail)) (b.left goes)
       ∙ ap (λ o. left_asks s.input (asks_out x) ++ listed o) (sym (split-asked s.out parts))
 
-  pub stepped : IsAccounted (world_behind c v y mid s.out) → ((more : List Step) (u : World) → LivesAlone c (world_behind c v y mid s.out) more u → LivesAlone c w (s ∷ more) u) → IsStepped c w x s mid
+  pub stepped : IsAccounted (world_after c v y mid s.out) → ((more : List Step) (u : World) → LivesAlone c (world_after c v y mid s.out) more u → LivesAlone c w (s ∷ more) u) → IsStepped c w x s mid
   stepped accounted lives = record {
-    behind = world_behind c v y mid s.out;
-    conn = conn_behind c y mid s.out;
+    after = world_after c v y mid s.out;
+    conn = conn_after c y mid s.out;
     lives = lives;
     accounted = accounted;
-    there = conn-here v c (conn_behind c y mid s.out);
+    there = conn-here v c (conn_after c y mid s.out);
     actor = refl;
     shut = end.closes;
     undone = subst (λ (o : StepOutcome). IsUndone o.flight) (sym as-tail) (tail-undone c (kind_asked c (Connection mid)) y.flight (said c parts.packets) parts.tail b.undone);
     frames = b.frames;
-    asked = asked-behind;
+    asked = asked-after;
     fed = b.fed;
     more = b.more ++ (outcome c y mid s.out).lines;
     lines = ap (λ l. l ++ (outcome c y mid s.out).lines) b.lines ∙ append_assoc w.lines b.more (outcome c y mid s.out).lines;
@@ -309,7 +309,7 @@ abbrev pub step_of : Input → ℕ → List Action → Step
 step_of i now out = record { input = i; time = now; out = out }
 
 abbrev pub HandedTo : ℕ → World → Conn → Core → Core → Step → Type 0
-HandedTo c v y core mid s = IsHanded c v s (world_behind c (at_time v s.time) y mid s.out)
+HandedTo c v y core mid s = IsHanded c v s (world_after c (at_time v s.time) y mid s.out)
 
 hands : (c : ℕ) (v : World) (y : Conn) (core mid : Core) (s : Step) → conn_at c v ≡ Some y → y.actor ≡ Connection core → Steps core s.input s.time mid s.out → MayTake core s.input → HandedTo c v y core mid s
 hands c v y core mid s there actor steps may = record {
@@ -318,15 +318,15 @@ hands c v y core mid s there actor steps may = record {
   out = refl;
 }
 
-few-behind : (c : ℕ) (v : World) (y : Conn) (mid : Core) (out : List Action) → y.frames < max_count → (u : Conn) → conn_at c (world_behind c v y mid out) ≡ Some u → u.frames < max_count
-few-behind c v y mid out less u e = subst (λ (z : Conn). z.frames < max_count) (some_is (sym (conn-here v c (conn_behind c y mid out)) ∙ e)) less
+few-after : (c : ℕ) (v : World) (y : Conn) (mid : Core) (out : List Action) → y.frames < max_count → (u : Conn) → conn_at c (world_after c v y mid out) ≡ Some u → u.frames < max_count
+few-after c v y mid out less u e = subst (λ (z : Conn). z.frames < max_count) (some_is (sym (conn-here v c (conn_after c y mid out)) ∙ e)) less
 
 module _ (w : World) (c : ℕ) (x : Conn) (core mid : Core) (now : ℕ) (out : List Action) (k : IsAtCore w c x core) where
   well : (i : Input) → Steps core i now mid out → EndsWell core mid i out
   well i steps = steps_end_well core mid i now out (open-now w c x core k) steps
 
   -- the input changes nothing else in the world
-  plain : (i : Input) → index_behind x.frames i ≡ x.frames → shown_in x.frames i ≡ [] → (closes out ≡ false → asks_out x ≡ left_asks i (asks_out x)) → ((q : Ask) → asked_by out ≡ Some q → asks_out x ≡ []) → IsTaken i (asks_out x) w.store w.store → IsBrought c w x core (step_of i now out) (at_time w now) x
+  plain : (i : Input) → index_after x.frames i ≡ x.frames → shown_in x.frames i ≡ [] → (closes out ≡ false → asks_out x ≡ left_asks i (asks_out x)) → ((q : Ask) → asked_by out ≡ Some q → asks_out x ≡ []) → IsTaken i (asks_out x) w.store w.store → IsBrought c w x core (step_of i now out) (at_time w now) x
   plain i same none left free fed = record {
     there = k.there;
     actor = k.actor;
@@ -341,12 +341,12 @@ module _ (w : World) (c : ℕ) (x : Conn) (core mid : Core) (now : ℕ) (out : L
   }
 
   -- so it is taken where it may be handed in
-  takes-plain : (i : Input) → Steps core i now mid out → x.frames < max_count → index_behind x.frames i ≡ x.frames → shown_in x.frames i ≡ [] → (closes out ≡ false → asks_out x ≡ left_asks i (asks_out x)) → ((q : Ask) → asked_by out ≡ Some q → asks_out x ≡ [])
-      → IsTaken i (asks_out x) w.store w.store → TakesBy c w (step_of i now out) (world_behind c (at_time w now) x mid out) i → IsStepped c w x (step_of i now out) mid
+  takes-plain : (i : Input) → Steps core i now mid out → x.frames < max_count → index_after x.frames i ≡ x.frames → shown_in x.frames i ≡ [] → (closes out ≡ false → asks_out x ≡ left_asks i (asks_out x)) → ((q : Ask) → asked_by out ≡ Some q → asks_out x ≡ [])
+      → IsTaken i (asks_out x) w.store w.store → TakesBy c w (step_of i now out) (world_after c (at_time w now) x mid out) i → IsStepped c w x (step_of i now out) mid
   takes-plain i steps room same none left free fed taken =
       stepped c w x core mid (step_of i now out) (at_time w now) x (plain i same none left free fed) (well i steps)
-      (takes-accounted c w (step_of i now out) (world_behind c (at_time w now) x mid out) i refl taken (few-behind c (at_time w now) x mid out room) k.accounted)
-      (λ more u rest. takes (step_of i now out) more (world_behind c (at_time w now) x mid out) refl taken rest)
+      (takes-accounted c w (step_of i now out) (world_after c (at_time w now) x mid out) i refl taken (few-after c (at_time w now) x mid out room) k.accounted)
+      (λ more u rest. takes (step_of i now out) more (world_after c (at_time w now) x mid out) refl taken rest)
 
   -- an input that ends the connection asks nothing
   ends-silent : (i : Input) (why : Cause) → end_by i ≡ Some why → Steps core i now mid out → asked_by out ≡ None
@@ -355,7 +355,7 @@ module _ (w : World) (c : ℕ) (x : Conn) (core mid : Core) (now : ℕ) (out : L
   ends-free : (i : Input) (why : Cause) → end_by i ≡ Some why → Steps core i now mid out → (q : Ask) → asked_by out ≡ Some q → asks_out x ≡ []
   ends-free i why e steps q f = absurd (none_some (sym (ends-silent i why e steps) ∙ f))
 
-  handed-here : (i : Input) → Steps core i now mid out → MayTake core i → IsHanded c w (step_of i now out) (world_behind c (at_time w now) x mid out)
+  handed-here : (i : Input) → Steps core i now mid out → MayTake core i → IsHanded c w (step_of i now out) (world_after c (at_time w now) x mid out)
   handed-here i steps may = hands c w x core mid (step_of i now out) k.there k.actor steps may
 
   -- ---- a frame
@@ -363,8 +363,8 @@ module _ (w : World) (c : ℕ) (x : Conn) (core mid : Core) (now : ℕ) (out : L
   takes-frame : (bytes : List ℕ) → x.frames + 1 < max_count → MayTake core (input.Frame bytes) → Steps core (input.Frame bytes) now mid out → IsStepped c w x (step_of (input.Frame bytes) now out) mid
   takes-frame bytes room may steps =
       stepped c w x core mid (step_of (input.Frame bytes) now out) (at_time (shown_frame c w x bytes) now) (one_more_frame x) brought (well (input.Frame bytes) steps)
-      (takes-accounted c w (step_of (input.Frame bytes) now out) (world_behind c (at_time (shown_frame c w x bytes) now) (one_more_frame x) mid out) (input.Frame bytes) refl taken (few-behind c (at_time (shown_frame c w x bytes) now) (one_more_frame x) mid out (omega (arith, counted, room))) k.accounted)
-      (λ more u rest. takes (step_of (input.Frame bytes) now out) more (world_behind c (at_time (shown_frame c w x bytes) now) (one_more_frame x) mid out) refl taken rest)
+      (takes-accounted c w (step_of (input.Frame bytes) now out) (world_after c (at_time (shown_frame c w x bytes) now) (one_more_frame x) mid out) (input.Frame bytes) refl taken (few-after c (at_time (shown_frame c w x bytes) now) (one_more_frame x) mid out (omega (arith, counted, room))) k.accounted)
+      (λ more u rest. takes (step_of (input.Frame bytes) now out) more (world_after c (at_time (shown_frame c w x bytes) now) (one_more_frame x) mid out) refl taken rest)
     where
       counted : counted_up (x.frames + 1) ≡ x.frames + 1
       counted = counted-small (x.frames + 1) (omega (arith, room))
@@ -390,7 +390,7 @@ module _ (w : World) (c : ℕ) (x : Conn) (core mid : Core) (now : ℕ) (out : L
         shown = frame-shows c x.frames (zxid_at w.store) bytes;
       }
 
-      taken : TakesBy c w (step_of (input.Frame bytes) now out) (world_behind c (at_time (shown_frame c w x bytes) now) (one_more_frame x) mid out) (input.Frame bytes)
+      taken : TakesBy c w (step_of (input.Frame bytes) now out) (world_after c (at_time (shown_frame c w x bytes) now) (one_more_frame x) mid out) (input.Frame bytes)
       taken = (x, k.there, hands c (shown_frame c w x bytes) (one_more_frame x) core mid (step_of (input.Frame bytes) now out) (conn-here w c (one_more_frame x)) k.actor steps may)
 
   -- ---- an answer: what was asked is carried out before it
@@ -401,8 +401,8 @@ module _ (w : World) (c : ℕ) (x : Conn) (core mid : Core) (now : ℕ) (out : L
       by-world : (asking : Asking) → asking.ask ≡ q → (m : World) → IsCarriedTo c w x t a asking.kind m → IsStepped c w x (step_of (input.Answer a) now out) mid
       by-world asking same m h =
           stepped c w x core mid (step_of (input.Answer a) now out) (at_time (with_conn m c (landed_x x)) now) (landed_x x) brought (well (input.Answer a) steps)
-          (takes-accounted c m (step_of (input.Answer a) now out) (world_behind c (at_time (with_conn m c (landed_x x)) now) (landed_x x) mid out) (input.Answer a) refl taken (few-behind c (at_time (with_conn m c (landed_x x)) now) (landed_x x) mid out room) h.accounted)
-          (λ more u rest. beside m h.happens (takes (step_of (input.Answer a) now out) more (world_behind c (at_time (with_conn m c (landed_x x)) now) (landed_x x) mid out) refl taken rest))
+          (takes-accounted c m (step_of (input.Answer a) now out) (world_after c (at_time (with_conn m c (landed_x x)) now) (landed_x x) mid out) (input.Answer a) refl taken (few-after c (at_time (with_conn m c (landed_x x)) now) (landed_x x) mid out room) h.accounted)
+          (λ more u rest. beside m h.happens (takes (step_of (input.Answer a) now out) more (world_after c (at_time (with_conn m c (landed_x x)) now) (landed_x x) mid out) refl taken rest))
         where
           flight : flight_at c m ≡ Some (Carried a)
           flight = ap (option_and_then (λ (y : Conn). y.flight)) h.there
@@ -410,10 +410,10 @@ module _ (w : World) (c : ℕ) (x : Conn) (core mid : Core) (now : ℕ) (out : L
           lands : landed c m ≡ with_conn m c (landed_x x)
           lands = landed-is m c (record x { flight = Some (Carried a) }) h.there
 
-          taken : TakesBy c m (step_of (input.Answer a) now out) (world_behind c (at_time (with_conn m c (landed_x x)) now) (landed_x x) mid out) (input.Answer a)
+          taken : TakesBy c m (step_of (input.Answer a) now out) (world_after c (at_time (with_conn m c (landed_x x)) now) (landed_x x) mid out) (input.Answer a)
           taken = (
             flight,
-            subst (λ (u : World). IsHanded c u (step_of (input.Answer a) now out) (world_behind c (at_time (with_conn m c (landed_x x)) now) (landed_x x) mid out)) (sym lands)
+            subst (λ (u : World). IsHanded c u (step_of (input.Answer a) now out) (world_after c (at_time (with_conn m c (landed_x x)) now) (landed_x x) mid out)) (sym lands)
                 (hands c (with_conn m c (landed_x x)) (landed_x x) core mid (step_of (input.Answer a) now out) (conn-here m c (landed_x x)) k.actor steps may),
           )
 
@@ -446,12 +446,12 @@ module _ (w : World) (c : ℕ) (x : Conn) (core mid : Core) (now : ℕ) (out : L
   some-ask None h = absurd (h refl)
   some-ask (Some q) h = (q, refl)
 
-  pub takes-any : (i : Input) (rest : List Step) → index_behind x.frames i < max_count → MayTake core i → Steps core i now mid out → IsFedFrom w.store (asks_out x) (step_of i now out ∷ rest) → IsStepped c w x (step_of i now out) mid
+  pub takes-any : (i : Input) (rest : List Step) → index_after x.frames i < max_count → MayTake core i → Steps core i now mid out → IsFedFrom w.store (asks_out x) (step_of i now out ∷ rest) → IsStepped c w x (step_of i now out) mid
   takes-any (input.Frame bytes) rest room may steps fed = takes-frame bytes room may steps
   takes-any (input.Answer a) rest room may steps fed =
       let q = awaited-some (asked_of core.who core.stage) a (may (open-now w c x core k)) in
       let is : ask_out x.flight ≡ Some q.0 = sym (out-is w c x core k) ∙ q.1 in
-      let t = first-answer w.store q.0 a (asks_out x) (asks_of (step_of (input.Answer a) now out ∷ rest)) (answers_of rest) fed.behind (ap listed is) fed.answers in
+      let t = first-answer w.store q.0 a (asks_out x) (asks_of (step_of (input.Answer a) now out ∷ rest)) (answers_of rest) fed.after (ap listed is) fed.answers in
       takes-answer a q.0 t.0 is t.1 room may steps
   takes-any (input.Entry e) rest room may steps fed =
       let next : IsNextEntry core (arc_value e) = may (open-now w c x core k) in

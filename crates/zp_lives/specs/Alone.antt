@@ -43,16 +43,16 @@ pub record IsRunAlone (s : Store) (fresh : Fresh) (steps : List Step) (core : Co
 
 -- From this world, in which c has just opened, its run leads to a world of which all is accounted for.
 pub record IsAlone (w : World) (c : ℕ) (steps : List Step) : Type 0 where
-  pub behind : World
-  pub lives : LivesAlone c w (until_close steps) behind
-  pub accounted : IsAccounted behind
-  -- the store is the one behind these answers
-  pub store : AreAnswered w.store (asks_of steps) (answers_of (until_close steps)) behind.store
+  pub after : World
+  pub lives : LivesAlone c w (until_close steps) after
+  pub accounted : IsAccounted after
+  -- the store is the one after these answers
+  pub store : AreAnswered w.store (asks_of steps) (answers_of (until_close steps)) after.store
   -- The transcript goes on. It shows of c what came, what was sent and the end, in this order.
   pub more : List TranscriptLine
-  pub lines : behind.lines ≡ w.lines ++ more
-  pub shown : shown_of c behind.lines ≡ shown_from 0 (until_close steps)
-  pub served : IsServedIn behind.lines c
+  pub lines : after.lines ≡ w.lines ++ more
+  pub shown : shown_of c after.lines ≡ shown_from 0 (until_close steps)
+  pub served : IsServedIn after.lines c
 
 -- whichever proxy it opened at, under a number that was never used
 abbrev pub AloneIsServed : Type 0

@@ -15,14 +15,14 @@ use Rattle.zp_run.specs.Runs.{Step, answers_of, asks_of, entry_in}
 
 -- An answer is what the store gives then. A call that failed may have been carried out, or not.
 abbrev pub IsAnswered : Store → Ask → Option Answer → Store → Type 0
-IsAnswered s q (Some a) behind = carry s q ≡ Some (behind, a)
-IsAnswered s q None behind = (behind ≡ s) ⊎ ((a : Answer) × (carry s q ≡ Some (behind, a)))
+IsAnswered s q (Some a) after = carry s q ≡ Some (after, a)
+IsAnswered s q None after = (after ≡ s) ⊎ ((a : Answer) × (carry s q ≡ Some (after, a)))
 
 -- each ask in order has the next of these answers; the last ones may have none yet
 abbrev pub AreAnswered : Store → List Ask → List (Option Answer) → Store → Type 0
-AreAnswered s asks [] behind = behind ≡ s
-AreAnswered s [] (o ∷ os) behind = ⊥
-AreAnswered s (q ∷ asks) (o ∷ os) behind = (mid : Store) × IsAnswered s q o mid × AreAnswered mid asks os behind
+AreAnswered s asks [] after = after ≡ s
+AreAnswered s [] (o ∷ os) after = ⊥
+AreAnswered s (q ∷ asks) (o ∷ os) after = (mid : Store) × IsAnswered s q o mid × AreAnswered mid asks os after
 
 -- ---- entries
 
@@ -41,7 +41,7 @@ pub record IsEntryIn (s : Store) (e : Entry) : Type 0 where
 
 -- Over this store the answers are honest, and each entry is of an update that the store has by then.
 pub record IsFedBy (s : Store) (steps : List Step) : Type 0 where
-  pub behind : Store
-  pub answers : AreAnswered s (asks_of steps) (answers_of steps) behind
+  pub after : Store
+  pub answers : AreAnswered s (asks_of steps) (answers_of steps) after
   pub entries : (before more : List Step) (step : Step) (e : Entry) (now : Store) → steps ≡ before ++ step ∷ more → entry_in step.input ≡ Some e
       → AreAnswered s (asks_of steps) (answers_of before) now → IsEntryIn now e

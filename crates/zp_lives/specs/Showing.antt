@@ -40,9 +40,9 @@ abbrev pub shown_in : ℕ → Input → List Shown
 shown_in i (input.Frame bytes) = Came i bytes ∷ []
 shown_in i _ = []
 
-abbrev pub index_behind : ℕ → Input → ℕ
-index_behind i (input.Frame bytes) = i + 1
-index_behind i _ = i
+abbrev pub index_after : ℕ → Input → ℕ
+index_after i (input.Frame bytes) = i + 1
+index_after i _ = i
 
 abbrev pub shown_act : Action → Option Shown
 shown_act (action.Send bytes) = Some (Sent bytes)
@@ -52,4 +52,4 @@ shown_act (action.Close why) = Some (Ends (ended.Cause why))
 -- each frame, with its index from this one on, then the packets that the step gave and, where it closed the connection, the end
 abbrev pub shown_from : ℕ → List Step → List Shown
 shown_from i [] = []
-shown_from i (s ∷ steps) = shown_in i s.input ++ filter_map shown_act s.out ++ shown_from (index_behind i s.input) steps
+shown_from i (s ∷ steps) = shown_in i s.input ++ filter_map shown_act s.out ++ shown_from (index_after i s.input) steps

@@ -11,7 +11,7 @@
 //! In `specs/`, in reading order:
 //!
 //! - `Events`: the steps of a connection, and what happens beside them;
-//! - `Lives`: how a step is taken in a world (`Takes`), and what holds behind a run there;
+//! - `Lives`: how a step is taken in a world (`Takes`), and what holds after a run there;
 //! - `Feeding`: answers of one store, and entries of its updates (`IsFedBy`);
 //! - `Followed`: what a follower (`zw_feed`) makes of an honest watch of such a store;
 //! - `Showing`: what a transcript shows of a connection, and what its steps would have it show;

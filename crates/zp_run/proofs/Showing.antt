@@ -8,7 +8,7 @@ use Rattle.zk_jute.specs.Packets.{reply_packet}
 use Rattle.zk_model.specs.declared.reply.Reply.{Reply}
 use Rattle.zk_transcript.specs.declared.transcript.Cause.{Cause}
 use Rattle.zk_transcript.specs.declared.transcript.Cause.TheVariants as cause
-use Rattle.zp_step.specs.Replies.{Is, close_behind, closed_by, is_due, replied, send_notices, stage_behind, waits}
+use Rattle.zp_step.specs.Replies.{Is, close_after, closed_by, is_due, replied, send_notices, stage_after, waits}
 use Rattle.zp_step.specs.Stages.{Core, Pending, Ready, Waiting, Shut, seen_by}
 use Rattle.zp_step.specs.declared.action.Action.{Action}
 use Rattle.zp_step.specs.declared.action.Action.TheVariants as action
@@ -29,11 +29,11 @@ done-is k c0 x y c' out i d = subst (λ e. Done k c0 x e out) (sym i.0) (subst (
 
 -- ---- packets first
 
-pub closed-behind : (first later : List Action) → only_sends first ≡ true → closed_for (first ++ later) ≡ closed_for later
-closed-behind [] later h = refl
-closed-behind (action.Send bytes ∷ more) later h = closed-behind more later h
-closed-behind (action.Ask a ∷ more) later h = absurd (cc)
-closed-behind (action.Close why ∷ more) later h = absurd (cc)
+pub closed-after : (first later : List Action) → only_sends first ≡ true → closed_for (first ++ later) ≡ closed_for later
+closed-after [] later h = refl
+closed-after (action.Send bytes ∷ more) later h = closed-after more later h
+closed-after (action.Ask a ∷ more) later h = absurd (cc)
+closed-after (action.Close why ∷ more) later h = absurd (cc)
 
 pub sends-both : (first later : List Action) → only_sends first ≡ true → only_sends later ≡ true → only_sends (first ++ later) ≡ true
 sends-both [] later h g = g
@@ -66,10 +66,10 @@ module _ (k : Heard) (c0 : Core) (x : Input) (who : Who) (first later : List Act
   shows-more cause.Restart h = h
   shows-more cause.Memory h = h
 
-pub done-behind : (k : Heard) (c0 : Core) (x : Input) (c' : Core) (first later : List Action) → only_sends first ≡ true → Done k c0 x c' later → Done k c0 x c' (first ++ later)
-done-behind k c0 x c' first later only d = record {
+pub done-after : (k : Heard) (c0 : Core) (x : Input) (c' : Core) (first later : List Action) → only_sends first ≡ true → Done k c0 x c' later → Done k c0 x c' (first ++ later)
+done-after k c0 x c' first later only d = record {
   rests = d.rests;
-  shows = λ why e. shows-more k c0 x c'.who first later why (d.shows why (sym (closed-behind first later only) ∙ e));
+  shows = λ why e. shows-more k c0 x c'.who first later why (d.shows why (sym (closed-after first later only) ∙ e));
   unended = λ r. sends-both first later only (d.unended r);
 }
 
@@ -89,7 +89,7 @@ asks-done k c0 x d c' q out h unready i = done-is k c0 x (d, action.Ask q ∷ []
   unended = λ r. absurd (unready r);
 })
 
--- the reply that is sent last, and the end behind it
+-- the reply that is sent last, and the end after it
 end-shown : (k : Heard) (c0 : Core) (x : Input) (who : Who) (out : List Action) (xid zxid : ℤ) (answer : Reply) (why : Cause) → Contains out (action.Send (reply_packet xid zxid answer)) → EndsFor k who xid answer why → Shows k c0 x who out why
 end-shown k c0 x who out xid zxid answer cause.Closed sent h = record { xid = xid; zxid = zxid; answer = answer; sent = sent; rests = h }
 end-shown k c0 x who out xid zxid answer (cause.Expired revision) sent h = record { xid = xid; zxid = zxid; answer = answer; sent = sent; rests = h }
@@ -117,8 +117,8 @@ abbrev IfEnds : Heard → Who → ℤ → Reply → Option Cause → Type 0
 IfEnds k who xid answer None = Unit {0}
 IfEnds k who xid answer (Some why) = EndsFor k who xid answer why
 
-reply-done : (k : Heard) (c0 : Core) (x : Input) (d : Core) (xid zxid : ℤ) (answer : Reply) (o : Option Cause) → All (Contains k.frames) d.waiting → d.stage ≡ stage_behind o
-    → IfEnds k d.who xid answer o → Done k c0 x d (action.Send (reply_packet xid zxid answer) ∷ close_behind o)
+reply-done : (k : Heard) (c0 : Core) (x : Input) (d : Core) (xid zxid : ℤ) (answer : Reply) (o : Option Cause) → All (Contains k.frames) d.waiting → d.stage ≡ stage_after o
+    → IfEnds k d.who xid answer o → Done k c0 x d (action.Send (reply_packet xid zxid answer) ∷ close_after o)
 reply-done k c0 x d xid zxid answer None w st h = record {
   rests = record { waiting = w; stage = subst (HoldsHeard k d.who) (sym st) tt };
   shows = λ why e. absurd (none_some e);
@@ -137,7 +137,7 @@ may-is k who p (Some why) h = h
 
 pub replied-done : (k : Heard) (c0 : Core) (x : Input) (c c' : Core) (p : Pending) (out : List Action) → All (Contains k.frames) c.waiting → MayEndFor k c.who p p.ends → Is (replied c p) c' out → Done k c0 x c' out
 replied-done k c0 x c c' p out w h i = done-is k c0 x (replied c p) c' out i
-    (done-behind k c0 x (replied c p).0 (send_notices (seen_by p.change c.watches).notices) (action.Send (reply_packet p.xid p.zxid p.answer) ∷ close_behind p.ends) (notices-only (seen_by p.change c.watches).notices)
+    (done-after k c0 x (replied c p).0 (send_notices (seen_by p.change c.watches).notices) (action.Send (reply_packet p.xid p.zxid p.answer) ∷ close_after p.ends) (notices-only (seen_by p.change c.watches).notices)
     (reply-done k c0 x (replied c p).0 p.xid p.zxid p.answer p.ends w refl (may-is k c.who p p.ends h)))
 
 pub waits-done : (k : Heard) (c0 : Core) (x : Input) (c c' : Core) (p : Pending) (out : List Action) → All (Contains k.frames) c.waiting → MayEndFor k c.who p p.ends → Is (waits c p) c' out → Done k c0 x c' out

@@ -55,8 +55,8 @@ use Rattle.zp_step.specs.Entries.{entered, then_reply}
 use Rattle.zp_step.specs.Keepalives.{Checked, KeptAlive, Looked, StillMine, TakesUp, checks, keeps_alive}
 use Rattle.zp_step.specs.Kept.{keeps}
 use Rattle.zp_step.specs.Looking.{IfRecords, Looks, change_by, decided, expired, moved, pending}
-use Rattle.zp_step.specs.Plans.{Committed, ReadOn, end_behind, finishes}
-use Rattle.zp_step.specs.Replies.{Is, close_behind, closed_by, stage_behind, waits}
+use Rattle.zp_step.specs.Plans.{Committed, ReadOn, end_after, finishes}
+use Rattle.zp_step.specs.Replies.{Is, close_after, closed_by, stage_after, waits}
 use Rattle.zp_step.specs.Stages.{Core, Pending, Stage, Unconnected, Connecting, Ready, KeepingAlive, Checking, Reading, Committing, Waiting, Shut, counted_up, is_shut, new_core}
 use Rattle.zp_step.specs.Steps.{Answers, Comes, Goes, Handles, Steps, StepsOpen, counted, queued, rests, takes}
 use Rattle.zp_step.specs.Taking.{Takes, TakesReadable, end_of_plain, plainly}
@@ -65,7 +65,7 @@ use Rattle.zp_step.specs.declared.action.Action.TheVariants as action
 use Rattle.zp_step.specs.declared.input.Input.{Input}
 use Rattle.zp_step.specs.declared.input.Input.TheVariants as input
 use Rattle.zp_run.proofs.Hearing.{hears-more, rests-more}
-use Rattle.zp_run.proofs.Showing.{Done, asks-done, closed-done, done-behind, done-is, waits-done}
+use Rattle.zp_run.proofs.Showing.{Done, asks-done, closed-done, done-after, done-is, waits-done}
 use Rattle.zp_run.specs.Causes.{IsConnectHeard, IsTakenAt, Shows}
 use Rattle.zp_run.specs.Heard.{Heard, HoldsHeard, IsFrameAsking, IsGathered, MayEndFor, Rests, hears, nothing, nothing_heard, round}
 use Rattle.zp_run.specs.Laws.{StepRests}
@@ -125,7 +125,7 @@ module _ (k : Heard) (c0 : Core) (x : Input) where
       say : Action
       say = action.Send (reply_packet (xid_of (read_request bytes)) c.zxid t.reply)
 
-      go : (b : Bool) → is_auth_refusal t.reply ≡ b → Done k c0 x (record c { stage = stage_behind (end_of_plain b); next = counted_up (c.next + 1) }) (say ∷ close_behind (end_of_plain b))
+      go : (b : Bool) → is_auth_refusal t.reply ≡ b → Done k c0 x (record c { stage = stage_after (end_of_plain b); next = counted_up (c.next + 1) }) (say ∷ close_after (end_of_plain b))
       go true refused = record {
         rests = record { waiting = w; stage = tt };
         shows = λ why h. subst (λ z. Shows k c0 x c.who (say ∷ action.Close cause.AuthRefused ∷ []) z) (some_is h)
@@ -174,7 +174,7 @@ module _ (k : Heard) (c0 : Core) (x : Input) where
 
       go : ((c' ≡ d) × (later ≡ [])) ⊎ ((d.stage ≡ Ready) × Done k c0 x c' later) → Done k c0 x c' (first ++ later)
       go (inl s) = subst (λ y. Done k c0 x y (first ++ later)) (sym s.0) (subst (λ l. Done k c0 x d l) (sym (ap (λ l. first ++ l) s.1 ∙ append-nil first)) e)
-      go (inr s) = done-behind k c0 x c' first later (e.unended s.0) s.1
+      go (inr s) = done-after k c0 x c' first later (e.unended s.0) s.1
 
   -- ---- answers
 
@@ -233,7 +233,7 @@ module _ (k : Heard) (c0 : Core) (x : Input) where
         records-done c c' ws z b parts out (Looks c xid r y now c' out) w (comes-as z b parts e)
         (looks-done c c' xid r y now out w f t (gathers v ws z b parts a heard e g)) i)
 
-    finished-may : (c : Core) (xid z : ℤ) (r : Request) (p : Plan) (parts : List ActAns) → IsFrameAsking k xid r → MayEndFor k c.who (finishes xid r p z parts) (end_behind r)
+    finished-may : (c : Core) (xid z : ℤ) (r : Request) (p : Plan) (parts : List ActAns) → IsFrameAsking k xid r → MayEndFor k c.who (finishes xid r p z parts) (end_after r)
     finished-may c xid z req.Close p parts f = f
     finished-may c xid z (req.Create q d l s) p parts f = tt
     finished-may c xid z (req.Delete q v) p parts f = tt
@@ -447,7 +447,7 @@ module _ (k : Heard) (c0 : Core) (x : Input) where
     entry-done : (st : Stage) → HoldsHeard k c0.who st → Is (then_reply (entered c0 e) st) c' out → Done k c0 x c' out
     entry-done (Waiting p) h i =
         let d = (entered c0 e).0 in
-        done-is k c0 x (then_reply (entered c0 e) (Waiting p)) c' out i (done-behind k c0 x (waits d p).0 (entered c0 e).1 (waits d p).1 (notices-only (fire_all c0.watches e.triggers).1) (waits-done k c0 x d (waits d p).0 p (waits d p).1 s.waiting h (refl, refl)))
+        done-is k c0 x (then_reply (entered c0 e) (Waiting p)) c' out i (done-after k c0 x (waits d p).0 (entered c0 e).1 (waits d p).1 (notices-only (fire_all c0.watches e.triggers).1) (waits-done k c0 x d (waits d p).0 p (waits d p).1 s.waiting h (refl, refl)))
     entry-done (Unconnected fresh) h i = as-it-was s.stage i
     entry-done (Connecting connect) h i = as-it-was s.stage i
     entry-done Ready h i = as-it-was s.stage i
@@ -481,7 +481,7 @@ steps-show k c c' x now out opened r h = go (steps-open c c' x now out opened h)
 
     joined : (mid : Core) (first later : List Action) → Done k' c x mid first → ((c' ≡ mid) × (later ≡ [])) ⊎ ((mid.stage ≡ Ready) × Done k' c x c' later) → Done k' c x c' (first ++ later)
     joined mid first later d (inl s) = subst (λ y. Done k' c x y (first ++ later)) (sym s.0) (subst (λ l. Done k' c x mid l) (sym (ap (λ l. first ++ l) s.1 ∙ append-nil first)) d)
-    joined mid first later d (inr s) = done-behind k' c x c' first later (d.unended s.0) s.1
+    joined mid first later d (inr s) = done-after k' c x c' first later (d.unended s.0) s.1
 
     go : StepsOpen c x now c' out → StepRests k c c' x out
     go s =

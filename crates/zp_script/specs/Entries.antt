@@ -44,15 +44,15 @@ cursor_of (Connection core) = cursor_wanted (wants_of core)
 cursor_of _ = None
 
 -- the entry after the one of this number
-abbrev pub entry_behind : List Entry → ℤ → Option Entry
-entry_behind es (pos n) = slice_get es n
-entry_behind es (negsuc n) = None
+abbrev pub entry_after : List Entry → ℤ → Option Entry
+entry_after es (pos n) = slice_get es n
+entry_after es (negsuc n) = None
 
 abbrev pub cursor_at : ℕ → World → Option ℤ
 cursor_at c w = option_and_then (λ (x : Conn). cursor_of x.actor) (conn_at c w)
 
 abbrev pub next_entry : ℕ → World → Option Entry
-next_entry c w = option_and_then (entry_behind w.entries) (cursor_at c w)
+next_entry c w = option_and_then (entry_after w.entries) (cursor_at c w)
 
 -- how many of the newest entries are kept
 abbrev pub max_kept : ℕ

@@ -13,7 +13,7 @@ use Rattle.zs_reap.specs.declared.reap.ReapStep.{ReapStep}
 use Rattle.zs_reap.specs.Steps.{Steps, IsReapFault}
 use Rattle.zs_session.specs.declared.fault.StepFault.TheVariants as faults
 use Rattle.zx_base.specs.Maps.{Bytes}
-use Rattle.zp_script.specs.Worlds.{World, Conn, Actor, Connection, Reaper, Closed, conn_at, with_conn, behind_step, behind_reap}
+use Rattle.zp_script.specs.Worlds.{World, Conn, Actor, Connection, Reaper, Closed, conn_at, with_conn, after_step, after_reap}
 use Rattle.zp_script.specs.Kinds.{kind_asked}
 use Rattle.zp_script.specs.StepOutcomes.{acts_all, reap_acts, ended_by, leaves}
 
@@ -21,7 +21,7 @@ use Rattle.zp_script.specs.StepOutcomes.{acts_all, reap_acts, ended_by, leaves}
 
 -- connection c is handed this input. If it closes, these lines of later frames, which arrived with this one, stand before its
 -- `close` line
-pub record Handed (c : ℕ) (behind : List TranscriptLine) (w : World) (x : Input) (w' : World) : Type 0 where
+pub record Handed (c : ℕ) (after : List TranscriptLine) (w : World) (x : Input) (w' : World) : Type 0 where
   pub conn : Conn
   pub core : Core
   pub found : conn_at c w ≡ Some conn
@@ -29,7 +29,7 @@ pub record Handed (c : ℕ) (behind : List TranscriptLine) (w : World) (x : Inpu
   pub next : Core
   pub out : List Action
   pub stepped : CoreSteps core x w.clock next out
-  pub result : w' ≡ leaves c w conn (behind_step next) (acts_all c (kind_asked c (Connection next)) behind conn.flight out)
+  pub result : w' ≡ leaves c w conn (after_step next) (acts_all c (kind_asked c (Connection next)) after conn.flight out)
 
 -- ---- to a reaper; the first step takes no answer
 
@@ -37,7 +37,7 @@ pub record ReapSteps (c : ℕ) (w : World) (conn : Conn) (reap : Reap) (a : Opti
   pub step : ReapStep
   pub next : Reap
   pub stepped : Steps reap a step next
-  pub result : w' ≡ leaves c w conn (behind_reap next) (reap_acts c (kind_asked c (Reaper next)) conn.flight step)
+  pub result : w' ≡ leaves c w conn (after_reap next) (reap_acts c (kind_asked c (Reaper next)) conn.flight step)
 
 -- a value was found that is no record, and the reaper ends
 pub record ReapEnds (c : ℕ) (w : World) (conn : Conn) (reap : Reap) (a : Option Answer) (w' : World) : Type 0 where

@@ -33,17 +33,17 @@ left_by (Some Denied) = []
 
 -- the end of c; these lines stand before its `close` line
 abbrev pub ends : ℕ → List TranscriptLine → Ended → StepOutcome → StepOutcome
-ends c behind end o = record { flight = None; lines = o.lines ++ behind ++ Close c end ∷ []; strays = o.strays ++ left_by o.flight }
+ends c after end o = record { flight = None; lines = o.lines ++ after ++ Close c end ∷ []; strays = o.strays ++ left_by o.flight }
 
 -- an action of a connection; what it asks is an update of this kind, or none
 abbrev pub acts : ℕ → Option UpdateKind → List TranscriptLine → StepOutcome → Action → StepOutcome
-acts c kind behind o (action.Send bytes) = record o { lines = o.lines ++ Send c bytes ∷ [] }
-acts c kind behind o (action.Ask a) = record o { flight = Some (Out (record { ask = a; kind = kind })) }
-acts c kind behind o (action.Close why) = ends c behind (ended.Cause why) o
+acts c kind after o (action.Send bytes) = record o { lines = o.lines ++ Send c bytes ∷ [] }
+acts c kind after o (action.Ask a) = record o { flight = Some (Out (record { ask = a; kind = kind })) }
+acts c kind after o (action.Close why) = ends c after (ended.Cause why) o
 
 -- all its actions, in order
 abbrev pub acts_all : ℕ → Option UpdateKind → List TranscriptLine → Option Flight → List Action → StepOutcome
-acts_all c kind behind flight out = fold (acts c kind behind) (quiet flight) out
+acts_all c kind after flight out = fold (acts c kind after) (quiet flight) out
 
 -- what a reaper's step answers
 abbrev pub reap_acts : ℕ → Option UpdateKind → Option Flight → ReapStep → StepOutcome

@@ -68,11 +68,11 @@ is_over Over = true
 is_over _ = false
 
 -- what a connection, or a reaper, is after a step
-abbrev pub behind_step : Core → Actor
-behind_step core = if is_shut core.stage then Closed else Connection core
+abbrev pub after_step : Core → Actor
+after_step core = if is_shut core.stage then Closed else Connection core
 
-abbrev pub behind_reap : Reap → Actor
-behind_reap reap = if is_over reap.phase then Closed else Reaper reap
+abbrev pub after_reap : Reap → Actor
+after_reap reap = if is_over reap.phase then Closed else Reaper reap
 
 abbrev pub is_closed : Actor → Bool
 is_closed Closed = true

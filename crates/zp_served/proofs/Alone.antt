@@ -16,12 +16,12 @@ use Rattle.zp_served.specs.Served.{ServedAreAlone, ServedAreFed, ServedFromTheFi
 pub fed : ServedAreFed
 fed s fresh old new why h k =
     let l = k.link in
-    let carried : CarriesAll s h.calls l.behind = subst (λ cs. CarriesAll s cs l.behind) (same-calls _ _ l.before h.calls l.calls l.told l.more h.called) l.carries in
-    let given = answered s l.behind h.calls (h.asked).uncalled (answers_of h.steps) (h.asked).unheard carried (h.asked).outcomes in
+    let carried : CarriesAll s h.calls l.after = subst (λ cs. CarriesAll s cs l.after) (same-calls _ _ l.before h.calls l.calls l.told l.more h.called) l.carries in
+    let given = answered s l.after h.calls (h.asked).uncalled (answers_of h.steps) (h.asked).unheard carried (h.asked).outcomes in
     record {
       offer = k.offer;
       ran = h.ran;
-      fed = record { behind = given.0; answers = subst (λ asks. AreAnswered s asks (answers_of h.steps) given.0) (h.asked).asks given.1; entries = k.feed };
+      fed = record { after = given.0; answers = subst (λ asks. AreAnswered s asks (answers_of h.steps) given.0) (h.asked).asks given.1; entries = k.feed };
       few = k.few;
     }
 

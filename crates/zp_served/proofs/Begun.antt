@@ -40,7 +40,7 @@ goes_on s t u told told' q r h next e = ∥∥₁_map h (λ all. subst (λ cs. C
 pub begun : (told told' : List Call) (q : Ask) (a : Answer) → told ≡ [] → q ≡ begin_ask 0 → Some told' ≡ with_call (Some told) q (Ok a) → IsBegun told'
 begun told told' q a none is e = (a, some_is e ∙ ap (λ cs. cs ++ record { ask = q; result = Ok a } ∷ []) none ∙ ap (λ (x : Ask). record { ask = x; result = Ok a } ∷ []) is)
 
--- ---- and behind a call of `serve_connection`
+-- ---- and after a call of `serve_connection`
 
 honest-over : (s end : Store) (a b : Answer) (told told' calls : List Call) → carry new_store (begin_ask 0) ≡ Some (s, a) → told ≡ record { ask = begin_ask 0; result = Ok b } ∷ [] → told' ≡ told ++ calls → CarriesAll new_store told' end → CarriesAll s calls end
 honest-over s end a b told told' calls begins one all h = go (subst (λ cs. CarriesAll new_store cs end) (all ∙ ap (λ cs. cs ++ calls) one) h)
@@ -53,7 +53,7 @@ lawful fresh old new why told told' end h (b, one) was is honest = record {
   serves = h;
   lawful = λ s a c p begins offer in-time few. ∥∥₁_map honest (λ all. first s a c p fresh old new why h begins (record {
     offer = offer;
-    link = record { before = told; told = was; calls = h.calls; more = more; behind = end; carries = honest-over s end a b told told' h.calls begins one (some_is (sym is ∙ more)) all };
+    link = record { before = told; told = was; calls = h.calls; more = more; after = end; carries = honest-over s end a b told told' h.calls begins one (some_is (sym is ∙ more)) all };
     feed = in-time;
     few = few;
   }));

@@ -27,7 +27,7 @@ tail-is x y xs ys e = cc
 
 -- and all whose outcome was heard
 pub answered : (s t : Store) (calls : List Call) (uncalled : List Ask) (os : List (Option Answer)) (unheard : List (Option (Option Answer))) → CarriesAll s calls t → outcomes_of calls ≡ map Some os ++ unheard
-    → (behind : Store) × AreAnswered s (map (λ (c : Call). c.ask) calls ++ uncalled) os behind
+    → (after : Store) × AreAnswered s (map (λ (c : Call). c.ask) calls ++ uncalled) os after
 answered s t calls uncalled [] unheard h e = (s, refl)
 answered s t [] uncalled (o ∷ os) unheard h e = absurd (cc)
 answered s t (c ∷ cs) uncalled (o ∷ os) unheard (mid, first, more) e =

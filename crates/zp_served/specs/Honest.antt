@@ -18,8 +18,8 @@ pub record IsHonestOver (s : Store) (old new : LinkTold) : Type 0 where
   pub told : old.calls ≡ Some before
   pub calls : List Call
   pub more : new.calls ≡ Some (before ++ calls)
-  pub behind : Store
-  pub carries : CarriesAll s calls behind
+  pub after : Store
+  pub carries : CarriesAll s calls after
 
 -- each entry that was handed in is of an update that the store had by then, once it carried out what was answered before
 abbrev pub IsInTime : Store → List Step → Type 0

@@ -29,7 +29,7 @@ seen_is s t net out book =
 cuts_of : (text : List ℕ) (s t : Seen) → t.net ≡ s.net → t.book ≡ s.book → IsCut text s.out t.out → Cuts text s t
 cuts_of text s t net book cut = record { accepted = ap (λ (n : NetCounts). n.accepted) net; doors = ap (λ (n : NetCounts). n.door_faults) net; out = cut; book = book }
 
--- ---- behind lines
+-- ---- after lines
 
 few_all : (n limit : ℕ) → n < limit → AreFew n n limit
 few_all n limit fewer = record { least = omega arith; most = omega arith; within = omega (arith, fewer) }

@@ -25,7 +25,7 @@ the_one e = cc
 leaves_none : (left : List ℕ) (t : Seen) → Leaves left t t
 leaves_none left t = record { accepted = refl; doors = refl; book = refl; taken = inl refl; unharmed = refl }
 
--- memory was refused behind a log
+-- memory was refused after a log
 pub starved_after : (size : ℕ) (most k : ℕ) (busy left busy' : List ℕ) (t t' : Seen) → k ≤ most → Logs size true k [] busy left t t' → MemoryHalt size most busy t t'
 starved_after size most j busy remaining busy' t t' within log = record { k = j; few = within; left = remaining; between = t'; logs = log; leaves = leaves_none remaining t' }
 

@@ -13,9 +13,9 @@ pub long_enough : (why : Cause) → 7 ≤ length (line_text (line.Close 0 (ended
 unfolding line_text
 long_enough why = rw (decimal_digit 0 (omega arith)) (omega arith)
 
-pub behind_number : (why : Cause) → drop 7 (line_text (line.Close 0 (ended.Cause why))) ≡ cause_text why
+pub after_number : (why : Cause) → drop 7 (line_text (line.Close 0 (ended.Cause why))) ≡ cause_text why
 unfolding line_text cause_text
-behind_number why = rw (decimal_digit 0 (omega arith)) refl
+after_number why = rw (decimal_digit 0 (omega arith)) refl
 
 -- a line that is put together of these pieces
 pub closed_is : (number : ℕ) (why : Cause) (head numbered all text rest : List ℕ) → head ≡ codes "closed " → numbered ≡ head ++ decimal number → text ≡ line_text (line.Close 0 (ended.Cause why))
@@ -23,5 +23,5 @@ pub closed_is : (number : ℕ) (why : Cause) (head numbered all text rest : List
 unfolding closed_text
 closed_is number why head numbered all text rest begins counts is cut joins =
     let whole : take (length text - 7) (drop 7 text) ≡ drop 7 text = take_all _ _ (omega (arith, length-drop 7 text)) in
-    joins ∙ ap (λ (x : List ℕ). numbered ++ x) (cut ∙ whole ∙ ap (λ (x : List ℕ). drop 7 x) is ∙ behind_number why) ∙ ap (λ (x : List ℕ). x ++ cause_text why) (counts ∙ ap (λ (x : List ℕ). x ++ decimal number) begins)
+    joins ∙ ap (λ (x : List ℕ). numbered ++ x) (cut ∙ whole ∙ ap (λ (x : List ℕ). drop 7 x) is ∙ after_number why) ∙ ap (λ (x : List ℕ). x ++ cause_text why) (counts ∙ ap (λ (x : List ℕ). x ++ decimal number) begins)
     ∙ append_assoc (codes "closed ") (decimal number) (cause_text why)

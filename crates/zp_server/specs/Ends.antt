@@ -87,7 +87,7 @@ pub record IsShut (size : ℕ) (listen : List ℕ) (limit : ℕ) (t t' : Seen) :
   pub stopped : NetStop size limit first broken
   pub tells : Tells fault_text broken t'
 
--- the hub was closed by this end, which may be told, and is told behind the lines of all connections that have numbers
+-- the hub was closed by this end, which may be told, and is told after the lines of all connections that have numbers
 pub record FeedTold (size : ℕ) (end : FeedEnd) (listen : List ℕ) (limit : ℕ) (t t' : Seen) : Type 0 where
   pub may : MayBeTold end
   pub between : Seen
@@ -107,7 +107,7 @@ pub record IsNextLine (size : ℕ) (text listen : List ℕ) (limit : ℕ) (t fro
   pub lines : IsAfterLines size listen limit left t between
   pub is_next : IsNext text lines.n lines.k left between from
 
--- the first line, or a fault before it, or what is next behind the lines so far
+-- the first line, or a fault before it, or what is next after the lines so far
 abbrev pub IsWriting : ℕ → List ℕ → List ℕ → ℕ → Seen → Seen → Type 0
 IsWriting size text listen limit t from =
     ((text ≡ listening_text listen) × (from ≡ t))
@@ -121,7 +121,7 @@ pub record IsUnwritten (size : ℕ) (listen : List ℕ) (limit : ℕ) (t t' : Se
   pub writing : IsWriting size text listen limit t from
   pub cut : Cuts text from t'
 
--- memory was refused behind the lines so far
+-- memory was refused after the lines so far
 pub record IsStarved (size : ℕ) (listen : List ℕ) (limit : ℕ) (t t' : Seen) : Type 0 where
   pub left : List ℕ
   pub between : Seen

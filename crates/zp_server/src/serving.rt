@@ -321,8 +321,8 @@ where
 /// - `Done`: each of the connections 1 to `limit` has one line, and each that had a worker one [`Served`](crate::Served) in the
 ///   book;
 /// - `Net`: the cluster's first call failed, a worker could not be started, the address could not be listened on, or the door had a
-///   fault. `net fault` is written behind the lines so far;
-/// - `Feed`: the hub was found closed. Each connection so far has its line, and `feed` with the cause is written behind them. Where
+///   fault. `net fault` is written after the lines so far;
+/// - `Feed`: the hub was found closed. Each connection so far has its line, and `feed` with the cause is written after them. Where
 ///   it was found closed right after an accept, whom that let in is dropped, and has no number and no line;
 /// - `WriteFault`: the sink had a fault, and took a front of what was to be written next. Where that is a line of a connection, it is
 ///   one that has none yet;

@@ -41,13 +41,13 @@ use Rattle.zp_step.specs.Entries.{entered, then_reply, told_entry}
 use Rattle.zp_step.specs.Keepalives.{Checked, KeptAlive, Looked, StillMine, TakesUp, checks, keeps_alive}
 use Rattle.zp_step.specs.Looking.{IfRecords, Looks, asks_for, change_by, decided, expired, max_ranges, moved, pending}
 use Rattle.zp_step.specs.Plans.{CommitAnswered, Committed, ReadOn, finishes}
-use Rattle.zp_step.specs.Replies.{Is, closed_by, is_due, replied, stage_behind, waits}
+use Rattle.zp_step.specs.Replies.{Is, closed_by, is_due, replied, stage_after, waits}
 use Rattle.zp_step.specs.Stages.{Core, Pending, Stage, Unconnected, Connecting, Ready, KeepingAlive, Checking, Reading, Committing, Waiting, Shut, is_shut}
 use Rattle.zp_step.specs.Steps.{Answers, Goes, StepsOpen, rests, takes}
 use Rattle.zp_step.specs.Taking.{Takes, TakesReadable, end_of_plain, plainly}
 use Rattle.zp_step.specs.declared.action.Action.{Action}
 use Rattle.zp_step.specs.declared.input.Input.TheVariants as input
-use Rattle.zp_settle_laws.proofs.Coming.{AsksBehind, AsksOut, CommitBehind, ConnectBehind, EndsIf, IsTruthful, LooksOn, Remains, RemainsBehind, TruthIn, again_for, is_present}
+use Rattle.zp_settle_laws.proofs.Coming.{AsksAfter, AsksOut, CommitAfter, ConnectAfter, EndsIf, IsTruthful, LooksOn, Remains, RemainsAfter, TruthIn, again_for, is_present}
 use Rattle.zp_settle_laws.proofs.Places.{request-ends, view_on}
 use Rattle.zp_settle_laws.specs.Looks.{asks_of, asks_of_all, looks, looks_in}
 
@@ -73,7 +73,7 @@ module _ (s : Store) (n : ℕ) where
 
   -- ---- a reply
 
-  answered : (c d : Core) (o : Option Cause) → asks_of_all c.waiting ≤ n → d.stage ≡ stage_behind o → d.waiting ≡ c.waiting → Then s n d
+  answered : (c d : Core) (o : Option Cause) → asks_of_all c.waiting ≤ n → d.stage ≡ stage_after o → d.waiting ≡ c.waiting → Then s n d
   answered c d (Some why) w st same = inl (ap is_shut st)
   answered c d None w st same = inr (record { asks = 0; out = subst (λ t. AsksOut s d.who t 0) (sym st) tt; most = omega (arith, w, ap asks_of_all same) })
 
@@ -169,7 +169,7 @@ module _ (s : Store) (n : ℕ) where
         (is-then (checks c bytes) c' out (inr (record { asks = k; out = m; most = w })))
         (takes-then c bytes now k (omega (arith, m)) w))
 
-    read-then : (c : Core) (xid : ℤ) (r : Request) (v : View) (ws : List Want) (now k : ℕ) (a : Answer) → AsksBehind s c.who (Reading xid r v ws) a k → k + asks_of_all c.waiting ≤ n → IsTruthful s c' → ReadOn c xid r v ws now c' out a → Then s n c'
+    read-then : (c : Core) (xid : ℤ) (r : Request) (v : View) (ws : List Want) (now k : ℕ) (a : Answer) → AsksAfter s c.who (Reading xid r v ws) a k → k + asks_of_all c.waiting ≤ n → IsTruthful s c' → ReadOn c xid r v ws now c' out a → Then s n c'
     read-then c xid r v ws now k (answer.Txn z b parts) l w t h =
         let y = with_parts (at_revision v z) ws parts in
         records-then c ws parts (Looks c xid r y now c' out) (looks-then c xid r y now k l w t) h
@@ -177,7 +177,7 @@ module _ (s : Store) (n : ℕ) where
     read-then c xid r v ws now k (answer.Granted z id ttl) l w t h = absurd h
     read-then c xid r v ws now k (answer.Alive z id ttl) l w t h = absurd h
 
-    committed-then : (c : Core) (xid : ℤ) (r : Request) (u : View) (p : Plan) (now k : ℕ) (z : ℤ) (b : Bool) (parts : List ActAns) → CommitBehind s c.who r (viewed z p.again parts) b k → k + asks_of_all c.waiting ≤ n → IsTruthful s c' → Committed c xid r u p now c' out z b parts → Then s n c'
+    committed-then : (c : Core) (xid : ℤ) (r : Request) (u : View) (p : Plan) (now k : ℕ) (z : ℤ) (b : Bool) (parts : List ActAns) → CommitAfter s c.who r (viewed z p.again parts) b k → k + asks_of_all c.waiting ≤ n → IsTruthful s c' → Committed c xid r u p now c' out z b parts → Then s n c'
     committed-then c xid r u p now k z true parts l w t h =
         let e = leaves-beside c h.kept (update_path r) u p z parts h.leaves in
         is-then (waits h.kept (finishes xid r p z parts)) c' out (waits-then h.kept (finishes xid r p z parts) (omega (arith, w, ap (λ (d : Core). asks_of_all d.waiting) e.1))) h.is
@@ -185,7 +185,7 @@ module _ (s : Store) (n : ℕ) where
         let y = viewed z p.again parts in
         records-then c p.again parts (Looks c xid r y now c' out) (looks-then c xid r y now k l w t) h
 
-    commit-then : (c : Core) (xid : ℤ) (r : Request) (v : View) (p : Plan) (m now k : ℕ) (a : Answer) → AsksBehind s c.who (Committing xid r v p m) a k → k + asks_of_all c.waiting ≤ n → IsTruthful s c' → CommitAnswered c xid r v p now c' out a → Then s n c'
+    commit-then : (c : Core) (xid : ℤ) (r : Request) (v : View) (p : Plan) (m now k : ℕ) (a : Answer) → AsksAfter s c.who (Committing xid r v p m) a k → k + asks_of_all c.waiting ≤ n → IsTruthful s c' → CommitAnswered c xid r v p now c' out a → Then s n c'
     commit-then c xid r v p m now k (answer.Txn z b parts) l w t h = committed-then c xid r v p now k z b parts l w t h
     commit-then c xid r v p m now k (answer.Range z found) l w t h = absurd h
     commit-then c xid r v p m now k (answer.Granted z id ttl) l w t h = absurd h
@@ -198,11 +198,11 @@ module _ (s : Store) (n : ℕ) where
     connected-then c now k new steps.Unknown l w i = is-then (connected c now new steps.Unknown) c' out (inl refl) i
     connected-then c now k new (steps.Taken revision) l w i = is-then (closed_by c (cause.Taken revision)) c' out (inl refl) i
 
-    connects-then : (c : Core) (x : Connect) (now k : ℕ) (a : Answer) → ConnectBehind s x a k → k + asks_of_all c.waiting ≤ n → Connects c x (Some a) now c' out → Then s n c'
+    connects-then : (c : Core) (x : Connect) (now k : ℕ) (a : Answer) → ConnectAfter s x a k → k + asks_of_all c.waiting ≤ n → Connects c x (Some a) now c' out → Then s n c'
     connects-then c x now k a l w (inl e) = is-then (closed_by c (cause.Damaged e.key e.value)) c' out (inl refl) e.is
     connects-then c x now k a l w (inr t) = connected-then c now k t.new t.step (l t.step t.new t.steps) w t.is
 
-    answers-then : (c : Core) (a : Answer) (now k : ℕ) (st : Stage) → AsksBehind s c.who st a k → k + asks_of_all c.waiting ≤ n → IsTruthful s c' → Answers c a now c' out st → Then s n c'
+    answers-then : (c : Core) (a : Answer) (now k : ℕ) (st : Stage) → AsksAfter s c.who st a k → k + asks_of_all c.waiting ≤ n → IsTruthful s c' → Answers c a now c' out st → Then s n c'
     answers-then c a now k (Unconnected fresh) l w t h = absurd h
     answers-then c a now k (Connecting x) l w t h = connects-then c x now k a l w h
     answers-then c a now k Ready l w t h = absurd h
@@ -232,8 +232,8 @@ module _ (s : Store) (n : ℕ) where
 
   -- ---- a whole step
 
-  pub answer-then : (c c' : Core) (a : Answer) (now : ℕ) (out : List Action) → RemainsBehind s c a n → IsTruthful s c' → StepsOpen c (input.Answer a) now c' out → Then s n c'
-  answer-then c c' a now out k t h = goes-then now h.mid c' h.later (answers-then h.mid h.first c a now k.asks c.stage k.behind k.most (true-before now h.mid c' h.later t h.goes) h.handled) h.goes
+  pub answer-then : (c c' : Core) (a : Answer) (now : ℕ) (out : List Action) → RemainsAfter s c a n → IsTruthful s c' → StepsOpen c (input.Answer a) now c' out → Then s n c'
+  answer-then c c' a now out k t h = goes-then now h.mid c' h.later (answers-then h.mid h.first c a now k.asks c.stage k.after k.most (true-before now h.mid c' h.later t h.goes) h.handled) h.goes
 
   entered-then : (c : Core) (e : Entry) (st : Stage) → c.stage ≡ st → asks_of_all c.waiting ≤ n → Remains s c n → Then s n (then_reply (entered c e) st).0
   entered-then c e (Waiting p) at w k = waits-then (entered c e).0 p w

@@ -34,13 +34,13 @@ use Rattle.zp_script.specs.Arriving.{EndsBadly, FramesArrive, frame_lines, shown
 use Rattle.zp_script.specs.Handing.{Handed}
 use Rattle.zp_script.specs.Kinds.{kind_asked}
 use Rattle.zp_script.specs.StepOutcomes.{StepOutcome, acts, acts_all, quiet}
-use Rattle.zp_script.specs.Worlds.{Closed, Conn, Connection, World, behind_step, conn_at, is_closed, is_open_conn, with_conn, zxid_at}
+use Rattle.zp_script.specs.Worlds.{Closed, Conn, Connection, World, after_step, conn_at, is_closed, is_open_conn, with_conn, zxid_at}
 use Rattle.zp_world_laws.proofs.Handing.{core-same}
 use Rattle.zp_world_laws.proofs.Kept.{true-false}
 use Rattle.zp_world_laws.proofs.Numbers.{conn-here}
 use Rattle.zp_settle_laws.proofs.Open.{here-as, lasting-open}
 use Rattle.zp_settle_laws.proofs.Staying.{goes-lasting}
-use Rattle.zp_settle_laws.specs.Staying.{AreLasting, AreMild, FramesLeaveOpen, IsLasting, IsLastingIn, StaysOpen, closes_behind}
+use Rattle.zp_settle_laws.specs.Staying.{AreLasting, AreMild, FramesLeaveOpen, IsLasting, IsLastingIn, StaysOpen, closes_after}
 
 -- ---- frames that are taken up leave who it is
 
@@ -70,18 +70,18 @@ goes-who now c c' out (takes d frame more first later ready w t g o) = goes-who 
 
 -- ---- a frame
 
-lasting-append : (fs : List (List ℕ)) (f : List ℕ) → AreLasting fs → closes_behind (read_request f) ≡ false → AreLasting (fs ++ f ∷ [])
+lasting-append : (fs : List (List ℕ)) (f : List ℕ) → AreLasting fs → closes_after (read_request f) ≡ false → AreLasting (fs ++ f ∷ [])
 lasting-append [] f h k = (k, tt)
 lasting-append (g ∷ fs) f h k = (h.0, lasting-append fs f h.1 k)
 
-queued-lasting : (c : Core) (f : List ℕ) → closes_behind (read_request f) ≡ false → IsLasting c → IsLasting (queued c f)
+queued-lasting : (c : Core) (f : List ℕ) → closes_after (read_request f) ≡ false → IsLasting c → IsLasting (queued c f)
 queued-lasting c f k h = record { work = h.work; waiting = lasting-append c.waiting f h.waiting k }
 
 -- it waits after the others, or is taken up
 abbrev Stays : Core → Core → Type 0
 Stays c d = IsLasting d × (d.who ≡ c.who)
 
-queue-stays : (c mid : Core) (f : List ℕ) (first : List Action) → has_header (read_request f) ≡ true → closes_behind (read_request f) ≡ false → IsLasting c
+queue-stays : (c mid : Core) (f : List ℕ) (first : List Action) → has_header (read_request f) ≡ true → closes_after (read_request f) ≡ false → IsLasting c
     → MatchBool (has_header (read_request f)) (Is (queued c f, []) mid first) (Is (closed_by c (cause.NoHeader c.taken)) mid first) → Stays c mid
 queue-stays c mid f first header k l h = go (has_header (read_request f)) header h
   where
@@ -89,7 +89,7 @@ queue-stays c mid f first header k l h = go (has_header (read_request f)) header
     go true e i = (subst IsLasting (sym i.0) (queued-lasting c f k l), ap (λ (d : Core). d.who) i.0)
     go false e i = absurd (true-false (sym e))
 
-comes-stays : (c mid : Core) (f : List ℕ) (now : ℕ) (first : List Action) (st : Stage) → c.stage ≡ st → has_header (read_request f) ≡ true → closes_behind (read_request f) ≡ false → IsLasting c → Comes c f now mid first st → Stays c mid
+comes-stays : (c mid : Core) (f : List ℕ) (now : ℕ) (first : List Action) (st : Stage) → c.stage ≡ st → has_header (read_request f) ≡ true → closes_after (read_request f) ≡ false → IsLasting c → Comes c f now mid first st → Stays c mid
 comes-stays c mid f now first (Unconnected fresh) e header k l h = absurd (subst IsLastingIn e l.work)
 comes-stays c mid f now first (Connecting x) e header k l h = queue-stays c mid f first header k l h
 comes-stays c mid f now first Ready e header k l h = queue-stays c mid f first header k l h
@@ -100,7 +100,7 @@ comes-stays c mid f now first (Committing xid r v p m) e header k l h = queue-st
 comes-stays c mid f now first (Waiting p) e header k l h = queue-stays c mid f first header k l h
 comes-stays c mid f now first Shut e header k l h = queue-stays c mid f first header k l h
 
-frame-stays : (c c' : Core) (f : List ℕ) (now : ℕ) (out : List Action) → has_header (read_request f) ≡ true → closes_behind (read_request f) ≡ false → IsLasting c → CoreSteps c (input.Frame f) now c' out → Stays c c'
+frame-stays : (c c' : Core) (f : List ℕ) (now : ℕ) (out : List Action) → has_header (read_request f) ≡ true → closes_after (read_request f) ≡ false → IsLasting c → CoreSteps c (input.Frame f) now c' out → Stays c c'
 frame-stays c c' f now out header k l h =
     let s = steps-open c c' (input.Frame f) now out (lasting-open c.stage l.work) h in
     let m = comes-stays c s.mid f now s.first c.stage refl header k l s.handled in
@@ -116,34 +116,34 @@ frames-still c i z [] ls = ap after (append-nil ls)
 frames-still c i z (f ∷ fs) ls =
     ap after (sym (append_assoc ls (FrameLine c i z f ∷ []) (frame_lines c (counted_up (i + 1)) z fs))) ∙ frames-still c (counted_up (i + 1)) z fs (ls ++ FrameLine c i z f ∷ []) ∙ after-push ls (FrameLine c i z f)
 
-acts-still : (ls behind : List TranscriptLine) (c : ℕ) (kind : Option UpdateKind) (out : List Action) (o : StepOutcome) → IsStill behind → after (ls ++ (fold (acts c kind behind) o out).lines) ≡ after (ls ++ o.lines)
-acts-still ls behind c kind [] o h = refl
-acts-still ls behind c kind (action.Send bytes ∷ out) o h = acts-still ls behind c kind out (acts c kind behind o (action.Send bytes)) h ∙ ap after (sym (append_assoc ls o.lines (Send c bytes ∷ []))) ∙ after-push (ls ++ o.lines) (Send c bytes)
-acts-still ls behind c kind (action.Ask a ∷ out) o h = acts-still ls behind c kind out (acts c kind behind o (action.Ask a)) h
-acts-still ls behind c kind (action.Close why ∷ out) o h =
-    acts-still ls behind c kind out (acts c kind behind o (action.Close why)) h ∙ ap after (sym (append_assoc ls (o.lines ++ behind) (Close c (ended.Cause why) ∷ []))) ∙ after-push (ls ++ (o.lines ++ behind)) (Close c (ended.Cause why))
-    ∙ ap after (sym (append_assoc ls o.lines behind)) ∙ h (ls ++ o.lines)
+acts-still : (ls onward : List TranscriptLine) (c : ℕ) (kind : Option UpdateKind) (out : List Action) (o : StepOutcome) → IsStill onward → after (ls ++ (fold (acts c kind onward) o out).lines) ≡ after (ls ++ o.lines)
+acts-still ls onward c kind [] o h = refl
+acts-still ls onward c kind (action.Send bytes ∷ out) o h = acts-still ls onward c kind out (acts c kind onward o (action.Send bytes)) h ∙ ap after (sym (append_assoc ls o.lines (Send c bytes ∷ []))) ∙ after-push (ls ++ o.lines) (Send c bytes)
+acts-still ls onward c kind (action.Ask a ∷ out) o h = acts-still ls onward c kind out (acts c kind onward o (action.Ask a)) h
+acts-still ls onward c kind (action.Close why ∷ out) o h =
+    acts-still ls onward c kind out (acts c kind onward o (action.Close why)) h ∙ ap after (sym (append_assoc ls (o.lines ++ onward) (Close c (ended.Cause why) ∷ []))) ∙ after-push (ls ++ (o.lines ++ onward)) (Close c (ended.Cause why))
+    ∙ ap after (sym (append_assoc ls o.lines onward)) ∙ h (ls ++ o.lines)
 
 -- ---- frames come
 
 pub one-stays : (c : ℕ) (w mid : World) (x : Conn) (f : List ℕ) (fs : List (List ℕ)) → conn_at c w ≡ Some x → Handed c (frame_lines c (counted_up (x.frames + 1)) (zxid_at w.store) fs) (shown_frame c w x f) (input.Frame f) mid
-    → has_header (read_request f) ≡ true → closes_behind (read_request f) ≡ false → StaysOpen c w → StaysOpen c mid
+    → has_header (read_request f) ≡ true → closes_after (read_request f) ≡ false → StaysOpen c w → StaysOpen c mid
 one-stays c w mid x f fs found hd header k s =
     let w1 = shown_frame c w x f in
-    let behind = frame_lines c (counted_up (x.frames + 1)) (zxid_at w.store) fs in
+    let onward = frame_lines c (counted_up (x.frames + 1)) (zxid_at w.store) fs in
     let v : Conn = record x { frames = counted_up (x.frames + 1) } in
     let is_conn : s.conn ≡ x = some_is (sym s.there ∙ found) in
     let is_v : v ≡ hd.conn = some_is (sym (conn-here w c v) ∙ hd.found) in
     let is_core : s.core ≡ hd.core = core-same s.core hd.core (sym s.actor ∙ ap (λ (u : Conn). u.actor) is_conn ∙ ap (λ (u : Conn). u.actor) is_v ∙ hd.serving) in
     let m = frame-stays s.core hd.next f w.clock hd.out header k s.lasting (subst (λ (q : Core). CoreSteps q (input.Frame f) w.clock hd.next hd.out) (sym is_core) hd.stepped) in
-    let o = acts_all c (kind_asked c (Connection hd.next)) behind hd.conn.flight hd.out in
+    let o = acts_all c (kind_asked c (Connection hd.next)) onward hd.conn.flight hd.out in
     let still : after mid.lines ≡ after w.lines =
-    ap (λ (u : World). after u.lines) hd.result ∙ acts-still w1.lines behind c (kind_asked c (Connection hd.next)) hd.out (quiet hd.conn.flight) (frames-still c (counted_up (x.frames + 1)) (zxid_at w.store) fs)
+    ap (λ (u : World). after u.lines) hd.result ∙ acts-still w1.lines onward c (kind_asked c (Connection hd.next)) hd.out (quiet hd.conn.flight) (frames-still c (counted_up (x.frames + 1)) (zxid_at w.store) fs)
     ∙ ap after (append-nil w1.lines) ∙ after-push w.lines (FrameLine c x.frames (zxid_at w.store) f) in
     record {
-      conn = record (hd.conn) { actor = behind_step hd.next; flight = o.flight };
+      conn = record (hd.conn) { actor = after_step hd.next; flight = o.flight };
       core = hd.next;
-      there = ap (conn_at c) hd.result ∙ conn-here w1 c (record (hd.conn) { actor = behind_step hd.next; flight = o.flight });
+      there = ap (conn_at c) hd.result ∙ conn-here w1 c (record (hd.conn) { actor = after_step hd.next; flight = o.flight });
       actor = ap (λ b. if b then Closed else Connection hd.next) (lasting-open hd.next.stage (m.0).work);
       lasting = m.0;
       here = here-as w.lines mid.lines s.core.who hd.next.who m.1 (ap (session_at s.core.who.session) still) s.here;

@@ -9,7 +9,7 @@ use Rattle.zk_least.proofs.FirstPlaces.{first_place-at}
 use Rattle.zk_model.specs.Watches.{Watches, no_watches}
 use Rattle.zk_model.specs.declared.reply.Reply.{Reply}
 use Rattle.zk_model.specs.declared.request.Request.{Request}
-use Rattle.zk_transcript.proofs.Attachments.{NoneBehind}
+use Rattle.zk_transcript.proofs.Attachments.{NoneAfter}
 use Rattle.zk_transcript.proofs.Placed.{first_place-shown, is_legal-at}
 use Rattle.zk_transcript.specs.Answers.{Told, limit_in, plain_reply, session_refusal}
 use Rattle.zk_transcript.specs.History.{after, frame_shown, session_at, state_at}
@@ -36,7 +36,7 @@ use Rattle.zp_world_laws.specs.Bounds.{attachment}
 use Rattle.zp_world_laws.specs.Connections.{IsServing}
 use Rattle.zp_settle_laws.proofs.Sessions.{close-frame, held-at, may-close, mild-front, placed-mild, when-both}
 use Rattle.zp_settle_laws.proofs.Staying.{or-both}
-use Rattle.zp_settle_laws.specs.Staying.{AreLasting, IsLasting, IsLastingIn, closes_behind, is_close, refuses}
+use Rattle.zp_settle_laws.specs.Staying.{AreLasting, IsLasting, IsLastingIn, closes_after, is_close, refuses}
 use Rattle.zp_settle_laws.specs.Undisturbed.{HasMildFrames, takes_session}
 
 -- ---- frames that wait
@@ -55,7 +55,7 @@ with_end-is : (over : Bool) (o : Option Told) (b : Bool) (t : Told) → with_end
 with_end-is over None b t h = absurd (none_some h)
 with_end-is over (Some x) b t h = ap (λ (p : Bool × Told). p.0) (some_is h)
 
-module _ (s : Store) (lines : List TranscriptLine) (c : ℕ) (core : Core) (flight : Option Flight) (legal : is_legal lines ≡ true) (k : IsServing s lines c core flight) (kept : NoneBehind (takes_session core.who.session) k.place lines) (mild : HasMildFrames c lines) where
+module _ (s : Store) (lines : List TranscriptLine) (c : ℕ) (core : Core) (flight : Option Flight) (legal : is_legal lines ≡ true) (k : IsServing s lines c core flight) (kept : NoneAfter (takes_session core.who.session) k.place lines) (mild : HasMildFrames c lines) where
   front-mild : (n : ℕ) → HasMildFrames c (take n lines)
   front-mild n = mild-front c (take n lines) (drop n lines) (subst (HasMildFrames c) (sym (take-append-drop n lines)) mild)
 
@@ -122,10 +122,10 @@ module _ (s : Store) (lines : List TranscriptLine) (c : ℕ) (core : Core) (flig
 
   -- ---- the stage
 
-  asked-mild : (xid : ℤ) (r : Request) (bytes : List ℕ) → read_request bytes ≡ Asks xid r → closes_behind (read_request bytes) ≡ false → is_close r ≡ false
-  asked-mild xid r bytes e h = (or-both (is_close r) (refuses (plain_reply no_watches (Asks xid r))) (ap closes_behind (sym e) ∙ h)).0
+  asked-mild : (xid : ℤ) (r : Request) (bytes : List ℕ) → read_request bytes ≡ Asks xid r → closes_after (read_request bytes) ≡ false → is_close r ≡ false
+  asked-mild xid r bytes e h = (or-both (is_close r) (refuses (plain_reply no_watches (Asks xid r))) (ap closes_after (sym e) ∙ h)).0
 
-  frame-mild : (bytes : List ℕ) → IsFrameAt lines c core.next bytes → closes_behind (read_request bytes) ≡ false
+  frame-mild : (bytes : List ℕ) → IsFrameAt lines c core.next bytes → closes_after (read_request bytes) ≡ false
   frame-mild bytes f = (placed-mild c core.next f.place lines bytes mild f.framed since).1
 
   stage-lasts : (st : Stage) → is_served st ≡ true → IsAtWork lines c core.next st → Knows s lines c core k.walker k.looked st → IsLastingIn st

@@ -45,7 +45,7 @@ use Rattle.zp_script.specs.Happens.{Effect, Happens, Settles, max_settling, sett
 use Rattle.zp_script.specs.Kinds.{kind_asked}
 use Rattle.zp_script.specs.Runs.{IsFirst, RunsFrom}
 use Rattle.zp_script.specs.StepOutcomes.{StepOutcome, acts, acts_all, ended_by, ends, leaves, quiet, reap_acts}
-use Rattle.zp_script.specs.Worlds.{Actor, Closed, Conn, Connection, Reaper, World, behind_reap, behind_step, conn_at, is_closed, is_open_conn, with_conn, zxid_at}
+use Rattle.zp_script.specs.Worlds.{Actor, Closed, Conn, Connection, Reaper, World, after_reap, after_step, conn_at, is_closed, is_open_conn, with_conn, zxid_at}
 use Rattle.zp_script.specs.declared.flight.Asking.{Asking}
 use Rattle.zp_script.specs.declared.flight.Flight.TheVariants.{Carried, Denied, Out}
 use Rattle.zp_script.specs.declared.flight.Flight.{Flight}
@@ -120,32 +120,32 @@ pub ended-out : (out : List Action) → is_end out ≡ true → out ≡ []
 ended-out [] h = refl
 ended-out (x ∷ out) h = absurd (true-false (sym h))
 
-acts-shown : (d c : ℕ) (kind : Option UpdateKind) (behind : List TranscriptLine) (out : List Action) (o : StepOutcome) → ends_well out ≡ true
-    → bytes_shown d (fold (acts c kind behind) o out).lines ≤ bytes_shown d o.lines + shown_if (closes out) (bytes_shown d behind)
-acts-shown d c kind behind [] o h = omega arith
-acts-shown d c kind behind (action.Send bytes ∷ out) o h = omega (arith, acts-shown d c kind behind out (acts c kind behind o (action.Send bytes)) h, shown-append d o.lines (Send c bytes ∷ []))
-acts-shown d c kind behind (action.Ask a ∷ out) o h = omega (arith, ap (λ l. bytes_shown d (fold (acts c kind behind) (acts c kind behind o (action.Ask a)) l).lines) (ended-out out h))
-acts-shown d c kind behind (action.Close why ∷ out) o h =
-    omega (arith, ap (λ l. bytes_shown d (fold (acts c kind behind) (acts c kind behind o (action.Close why)) l).lines) (ended-out out h), shown-append d (o.lines ++ behind) (Close c (ended.Cause why) ∷ []), shown-append d o.lines behind)
+acts-shown : (d c : ℕ) (kind : Option UpdateKind) (after : List TranscriptLine) (out : List Action) (o : StepOutcome) → ends_well out ≡ true
+    → bytes_shown d (fold (acts c kind after) o out).lines ≤ bytes_shown d o.lines + shown_if (closes out) (bytes_shown d after)
+acts-shown d c kind after [] o h = omega arith
+acts-shown d c kind after (action.Send bytes ∷ out) o h = omega (arith, acts-shown d c kind after out (acts c kind after o (action.Send bytes)) h, shown-append d o.lines (Send c bytes ∷ []))
+acts-shown d c kind after (action.Ask a ∷ out) o h = omega (arith, ap (λ l. bytes_shown d (fold (acts c kind after) (acts c kind after o (action.Ask a)) l).lines) (ended-out out h))
+acts-shown d c kind after (action.Close why ∷ out) o h =
+    omega (arith, ap (λ l. bytes_shown d (fold (acts c kind after) (acts c kind after o (action.Close why)) l).lines) (ended-out out h), shown-append d (o.lines ++ after) (Close c (ended.Cause why) ∷ []), shown-append d o.lines after)
 
 -- one that is shut does nothing
-step-shown : (d c : ℕ) (kind : Option UpdateKind) (behind : List TranscriptLine) (f : Option Flight) (core next : Core) (i : Input) (now : ℕ) (out : List Action) → CoreSteps core i now next out
-    → bytes_shown d (acts_all c kind behind f out).lines ≤ shown_if (is_shut next.stage) (bytes_shown d behind)
-step-shown d c kind behind f core next i now out h = go (is_shut core.stage) refl
+step-shown : (d c : ℕ) (kind : Option UpdateKind) (after : List TranscriptLine) (f : Option Flight) (core next : Core) (i : Input) (now : ℕ) (out : List Action) → CoreSteps core i now next out
+    → bytes_shown d (acts_all c kind after f out).lines ≤ shown_if (is_shut next.stage) (bytes_shown d after)
+step-shown d c kind after f core next i now out h = go (is_shut core.stage) refl
   where
-    go : (b : Bool) → is_shut core.stage ≡ b → bytes_shown d (acts_all c kind behind f out).lines ≤ shown_if (is_shut next.stage) (bytes_shown d behind)
+    go : (b : Bool) → is_shut core.stage ≡ b → bytes_shown d (acts_all c kind after f out).lines ≤ shown_if (is_shut next.stage) (bytes_shown d after)
     go false e =
         let w = steps_end_well core next i now out e h in
-        omega (arith, acts-shown d c kind behind out (quiet f) w.well, ap (λ b. shown_if b (bytes_shown d behind)) w.closes)
-    go true e = omega (arith, ap (λ l. bytes_shown d (acts_all c kind behind f l).lines) (shut-for-good core next i now out e h).1)
+        omega (arith, acts-shown d c kind after out (quiet f) w.well, ap (λ b. shown_if b (bytes_shown d after)) w.closes)
+    go true e = omega (arith, ap (λ l. bytes_shown d (acts_all c kind after f l).lines) (shut-for-good core next i now out e h).1)
 
 none-shown : (b : Bool) (n : ℕ) → n ≤ shown_if b 0 → n ≡ 0
 none-shown true n h = omega (arith, h)
 none-shown false n h = omega (arith, h)
 
 handed-quiet : (w w' : World) (c : ℕ) (i : Input) → Handed c [] w i w' → Quiet w w'
-handed-quiet w w' c i hd = quiet-to w (leaves c w hd.conn (behind_step hd.next) (acts_all c (kind_asked c (Connection hd.next)) [] hd.conn.flight hd.out)) w' hd.result
-    (leaves-quiet w c hd.conn (behind_step hd.next) (acts_all c (kind_asked c (Connection hd.next)) [] hd.conn.flight hd.out) (there-place w c hd.conn hd.found)
+handed-quiet w w' c i hd = quiet-to w (leaves c w hd.conn (after_step hd.next) (acts_all c (kind_asked c (Connection hd.next)) [] hd.conn.flight hd.out)) w' hd.result
+    (leaves-quiet w c hd.conn (after_step hd.next) (acts_all c (kind_asked c (Connection hd.next)) [] hd.conn.flight hd.out) (there-place w c hd.conn hd.found)
     (λ d. none-shown (is_shut hd.next.stage) (bytes_shown d (acts_all c (kind_asked c (Connection hd.next)) [] hd.conn.flight hd.out).lines) (step-shown d c (kind_asked c (Connection hd.next)) [] hd.conn.flight hd.core hd.next i w.clock hd.out hd.stepped)))
 
 -- ---- what is carried out
@@ -197,8 +197,8 @@ reap-frameless c kind f (reaped.Gone z) d = refl
 
 reaps-quiet : (w w' : World) (c : ℕ) (x : Conn) (r : Reap) (a : Option Answer) → place_at c w ≤ x.stream.place → Reaps c w a w' x r → Quiet w w'
 reaps-quiet w w' c x r a le (inl e) = quiet-to w (leaves c w x Closed (ended_by c (cause.Damaged e.key e.value) x.flight)) w' e.result (leaves-quiet w c x Closed (ended_by c (cause.Damaged e.key e.value) x.flight) le (ends-frameless c (ended.Cause (cause.Damaged e.key e.value)) x.flight))
-reaps-quiet w w' c x r a le (inr s) = quiet-to w (leaves c w x (behind_reap s.next) (reap_acts c (kind_asked c (Reaper s.next)) x.flight s.step)) w' s.result
-    (leaves-quiet w c x (behind_reap s.next) (reap_acts c (kind_asked c (Reaper s.next)) x.flight s.step) le (reap-frameless c (kind_asked c (Reaper s.next)) x.flight s.step))
+reaps-quiet w w' c x r a le (inr s) = quiet-to w (leaves c w x (after_reap s.next) (reap_acts c (kind_asked c (Reaper s.next)) x.flight s.step)) w' s.result
+    (leaves-quiet w c x (after_reap s.next) (reap_acts c (kind_asked c (Reaper s.next)) x.flight s.step) le (reap-frameless c (kind_asked c (Reaper s.next)) x.flight s.step))
 
 answer-quiet : (w w' : World) (c : ℕ) (x : Conn) (a : Answer) (actor : Actor) → conn_at c w ≡ Some x → AnswerComesTo c w x a w' actor → Quiet w w'
 answer-quiet w w' c x a (Connection core) there h = handed-quiet w w' c (input.Answer a) h
@@ -282,8 +282,8 @@ frames-other d c i z [] apart = refl
 frames-other d c i z (f ∷ fs) apart = omega (arith, frame-other d c i z f apart, frames-other d c (counted_up (i + 1)) z fs apart)
 
 module _ (c : ℕ) (w mid : World) (x : Conn) (f : List ℕ) (fs : List (List ℕ)) (found : conn_at c w ≡ Some x) (hd : Handed c (frame_lines c (counted_up (x.frames + 1)) (zxid_at w.store) fs) (shown_frame c w x f) (input.Frame f) mid) where
-  behind : List TranscriptLine
-  behind = frame_lines c (counted_up (x.frames + 1)) (zxid_at w.store) fs
+  after : List TranscriptLine
+  after = frame_lines c (counted_up (x.frames + 1)) (zxid_at w.store) fs
 
   o : StepOutcome
   o = acts_all c (kind_asked c (Connection hd.next)) (frame_lines c (counted_up (x.frames + 1)) (zxid_at w.store) fs) hd.conn.flight hd.out
@@ -306,7 +306,7 @@ module _ (c : ℕ) (w mid : World) (x : Conn) (f : List ℕ) (fs : List (List �
       let ls = frame_lines c (counted_up (x.frames + 1)) (zxid_at w.store) fs in
       let out = acts_all c (kind_asked c (Connection hd.next)) ls hd.conn.flight hd.out in
       let first = with-places w c (record x { frames = counted_up (x.frames + 1) }) (there-place w c x found) d in
-      let then_ = with-places w1 c (record (hd.conn) { actor = behind_step hd.next; flight = out.flight }) (there-place w1 c hd.conn hd.found) d in
+      let then_ = with-places w1 c (record (hd.conn) { actor = after_step hd.next; flight = out.flight }) (there-place w1 c hd.conn hd.found) d in
       omega (arith, first, then_, ap (place_at d) hd.result)
 
   -- it goes on
@@ -316,8 +316,8 @@ module _ (c : ℕ) (w mid : World) (x : Conn) (f : List ℕ) (fs : List (List �
       w1 : World
       w1 = shown_frame c w x f
 
-      now : conn_at c mid ≡ Some (record (hd.conn) { actor = behind_step hd.next; flight = (acts_all c (kind_asked c (Connection hd.next)) (frame_lines c (counted_up (x.frames + 1)) (zxid_at w.store) fs) hd.conn.flight hd.out).flight })
-      now = ap (conn_at c) hd.result ∙ conn-here (shown_frame c w x f) c (record (hd.conn) { actor = behind_step hd.next; flight = (acts_all c (kind_asked c (Connection hd.next)) (frame_lines c (counted_up (x.frames + 1)) (zxid_at w.store) fs) hd.conn.flight hd.out).flight })
+      now : conn_at c mid ≡ Some (record (hd.conn) { actor = after_step hd.next; flight = (acts_all c (kind_asked c (Connection hd.next)) (frame_lines c (counted_up (x.frames + 1)) (zxid_at w.store) fs) hd.conn.flight hd.out).flight })
+      now = ap (conn_at c) hd.result ∙ conn-here (shown_frame c w x f) c (record (hd.conn) { actor = after_step hd.next; flight = (acts_all c (kind_asked c (Connection hd.next)) (frame_lines c (counted_up (x.frames + 1)) (zxid_at w.store) fs) hd.conn.flight hd.out).flight })
 
       go : (b : Bool) → is_shut hd.next.stage ≡ b → b ≡ false
       go false f = refl

@@ -46,7 +46,7 @@ use Rattle.zp_step.specs.Stages.{Stage, Unconnected, Connecting, Ready, KeepingA
 use Rattle.zp_world_laws.proofs.Asking.{ranges-read}
 use Rattle.zp_world_laws.proofs.Transactions.{txn-answered, txn-reads}
 use Rattle.zp_settle_laws.specs.Looks.{looks}
-use Rattle.zp_settle_laws.proofs.Coming.{AsksBehind, AsksOut, ConnectBehind, ConnectOut, LooksOn, ReadsOut, again_for, attach_again, is_asked_now, is_present}
+use Rattle.zp_settle_laws.proofs.Coming.{AsksAfter, AsksOut, ConnectAfter, ConnectOut, LooksOn, ReadsOut, again_for, attach_again, is_asked_now, is_present}
 use Rattle.zp_settle_laws.proofs.Places.{request-ends, view_on}
 
 -- ---- a look at the present
@@ -115,36 +115,36 @@ again-read s r v z ws parts now = go (is_new v) refl
 pub record Done (k : ℕ) (P : ℕ → Type 0) : Type 0 where
   pub left : ℕ
   pub is : k ≡ suc left
-  pub behind : P left
+  pub after : P left
 
 pub done-one : (k : ℕ) (P : ℕ → Type 0) → 1 ≤ k → ((j : ℕ) → k ≡ suc j → P j) → Done k P
-done-one (suc j) P h f = record { left = j; is = refl; behind = f j refl }
+done-one (suc j) P h f = record { left = j; is = refl; after = f j refl }
 done-one zero P h f = absurd (omega (arith, h))
 
 module _ (s u : Store) (who : Who) where
-  read-behind : (xid : ℤ) (r : Request) (v : View) (ws : List Want) (a : Answer) (k : ℕ) → carry s (reading v.revision ws) ≡ Some (u, a) → ReadsOut s who r v ws k → Done k (AsksBehind u who (Reading xid r v ws) a)
-  read-behind xid r v ws a k h o =
+  read-after : (xid : ℤ) (r : Request) (v : View) (ws : List Want) (a : Answer) (k : ℕ) → carry s (reading v.revision ws) ≡ Some (u, a) → ReadsOut s who r v ws k → Done k (AsksAfter u who (Reading xid r v ws) a)
+  read-after xid r v ws a k h o =
       let d = is-read s u v.revision ws a h in
-      done-one k (AsksBehind u who (Reading xid r v ws) a) (let m = o.most in omega (arith, m)) (λ j e.
-      subst (λ y. AsksBehind u who (Reading xid r v ws) y j) (sym d.is)
+      done-one k (AsksAfter u who (Reading xid r v ws) a) (let m = o.most in omega (arith, m)) (λ j e.
+      subst (λ y. AsksAfter u who (Reading xid r v ws) y j) (sym d.is)
       (subst (λ y. LooksOn y who r (view_on v (revision u) ws d.parts) j) (sym d.same) (record {
         rounds = o.rounds;
         ends = o.ends (revision u) d.parts (omega (arith, d.long));
         most = (let m = o.most in omega (arith, m, e, again-read s r v (revision u) ws d.parts (ap revision d.same)));
       })))
 
-  commit-behind : (xid : ℤ) (r : Request) (v : View) (p : Plan) (time : ℕ) (a : Answer) (k : ℕ) → carry s (transaction p) ≡ Some (u, a) → 1 + again_for (succeeds s (plan_txn p)) r ≤ k → Done k (AsksBehind u who (Committing xid r v p time) a)
-  commit-behind xid r v p time a k h o = done-one k (AsksBehind u who (Committing xid r v p time) a) (omega (arith, o)) (λ j e. go j e (succeeds s (plan_txn p)) refl)
+  commit-after : (xid : ℤ) (r : Request) (v : View) (p : Plan) (time : ℕ) (a : Answer) (k : ℕ) → carry s (transaction p) ≡ Some (u, a) → 1 + again_for (succeeds s (plan_txn p)) r ≤ k → Done k (AsksAfter u who (Committing xid r v p time) a)
+  commit-after xid r v p time a k h o = done-one k (AsksAfter u who (Committing xid r v p time) a) (omega (arith, o)) (λ j e. go j e (succeeds s (plan_txn p)) refl)
     where
-      go : (j : ℕ) → k ≡ suc j → (b : Bool) → succeeds s (plan_txn p) ≡ b → AsksBehind u who (Committing xid r v p time) a j
+      go : (j : ℕ) → k ≡ suc j → (b : Bool) → succeeds s (plan_txn p) ≡ b → AsksAfter u who (Committing xid r v p time) a j
       go j e true f =
           let b = txn-answered s u (plan_txn p) a h in
-          subst (λ y. AsksBehind u who (Committing xid r v p time) y j) (sym (b.1 ∙ ap (λ y. answer.Txn (revision u) y b.0) f)) tt
+          subst (λ y. AsksAfter u who (Committing xid r v p time) y j) (sym (b.1 ∙ ap (λ y. answer.Txn (revision u) y b.0) f)) tt
       go j e false f =
           let d = is-again s u p a h f in
           let y = viewed (revision u) p.again d.parts in
           let at : y.revision ≡ revision s = revision-kept (at_revision empty_view (revision u)) p.again d.parts ∙ ap revision d.same in
-          subst (λ q. AsksBehind u who (Committing xid r v p time) q j) (sym d.is)
+          subst (λ q. AsksAfter u who (Committing xid r v p time) q j) (sym d.is)
           (subst (λ q. LooksOn q who r (viewed (revision u) p.again d.parts) j) (sym d.same) (record {
             rounds = looks r;
             ends = λ few. request-ends r who y few;
@@ -250,38 +250,38 @@ answer-later c phase step Over a h = absurd h
 same-session : (x new : Connect) (a : Option Answer) (step : ConnectStep) → ConnectSteps x a step new → new.request.session ≡ x.request.session
 same-session x new a step k = ap (λ (y : Connect). y.request.session) k.same
 
-pub connect-most : (s : Store) (x : Connect) (a : Answer) (k : ℕ) → 3 ≤ k → ConnectBehind s x a k
+pub connect-most : (s : Store) (x : Connect) (a : Answer) (k : ℕ) → 3 ≤ k → ConnectAfter s x a k
 connect-most s x a k h = λ step new t. later-out s new.request.session new.phase k h (answer-later x new.phase step x.phase a t.moves)
 
 module _ (s u : Store) (x : Connect) (a : Answer) where
   -- where each step leads to what is to be shown at the session's number
-  by-moves : (j : ℕ) → ((step : ConnectStep) (phase : Phase) → Answers x x.phase a phase step → ConnectOut u x.request.session phase j) → ConnectBehind u x a j
+  by-moves : (j : ℕ) → ((step : ConnectStep) (phase : Phase) → Answers x x.phase a phase step → ConnectOut u x.request.session phase j) → ConnectAfter u x a j
   by-moves j f = λ step new t. subst (λ id. ConnectOut u id new.phase j) (sym (same-session x new (Some a) step t)) (f step new.phase t.moves)
 
   on-life : (id : ℤ) (v : View) (j : ℕ) → u ≡ s → Agrees v (present s) → 1 ≤ j → (seen : ℤ) (life : LeaseRec) → SawLifeAt v id seen life → ConnectOut u id (Attaching seen life) j
   on-life id v j same agrees h seen life saw = subst (λ y. ConnectOut y id (Attaching seen life) j) (sym same) (omega (arith, h, ap attach_again (life-holds s v id seen life agrees saw)))
 
-  connect-behind : (p : Phase) (q : Ask) (k : ℕ) → x.phase ≡ p → asked_in x p ≡ Some q → carry s q ≡ Some (u, a) → ConnectOut s x.request.session p k → Done k (ConnectBehind u x a)
-  connect-behind Unasked q k e o h n = absurd (none_some o)
-  connect-behind Over q k e o h n = absurd (none_some o)
-  connect-behind Looking q k e o h n = done-one k (ConnectBehind u x a) (omega (arith, n)) (λ j f. connect-most u x a j (omega (arith, n, f)))
-  connect-behind Granting q k e o h n = done-one k (ConnectBehind u x a) (omega (arith, n)) (λ j f. by-moves j (λ step phase m.
+  connect-after : (p : Phase) (q : Ask) (k : ℕ) → x.phase ≡ p → asked_in x p ≡ Some q → carry s q ≡ Some (u, a) → ConnectOut s x.request.session p k → Done k (ConnectAfter u x a)
+  connect-after Unasked q k e o h n = absurd (none_some o)
+  connect-after Over q k e o h n = absurd (none_some o)
+  connect-after Looking q k e o h n = done-one k (ConnectAfter u x a) (omega (arith, n)) (λ j f. connect-most u x a j (omega (arith, n, f)))
+  connect-after Granting q k e o h n = done-one k (ConnectAfter u x a) (omega (arith, n)) (λ j f. by-moves j (λ step phase m.
       waits (λ y. ConnectOut u x.request.session y j) tt x phase step Creating (omega (arith, n, f)) (subst (λ y. Answers x y a phase step) e m)))
-  connect-behind (Keeping seen life) q k e o h n = done-one k (ConnectBehind u x a) (omega (arith, n)) (λ j f. by-moves j (λ step phase m.
+  connect-after (Keeping seen life) q k e o h n = done-one k (ConnectAfter u x a) (omega (arith, n)) (λ j f. by-moves j (λ step phase m.
       of_alive a _ (ConnectOut u x.request.session phase j) (subst (λ y. Answers x y a phase step) e m) (λ ttl g.
       kept (λ y. ConnectOut u x.request.session y j) tt x phase step seen life ttl (omega (arith, n, f)) (omega (arith, n, f, attach-most (succeeds u (attach_txn x.request.session seen life)))) g)))
-  connect-behind LookingAgain q k e o h n =
+  connect-after LookingAgain q k e o h n =
       let ht : carry s (reading (pos 0) (attach_wants x.request.session)) ≡ Some (u, a) = ap (carry s) (some_is o) ∙ h in
       let d = is-read s u (pos 0) (attach_wants x.request.session) a ht in
       let v = first-shown s u (attach_wants x.request.session) (revision u) true d.parts (ht ∙ ap (λ y. Some (u, y)) d.is) in
-      done-one k (ConnectBehind u x a) (omega (arith, n)) (λ j f. by-moves j (λ step phase m.
+      done-one k (ConnectAfter u x a) (omega (arith, n)) (λ j f. by-moves j (λ step phase m.
       resumes (λ y. ConnectOut u x.request.session y j) tt x phase step (viewed (revision u) (attach_wants x.request.session) d.parts) Attaching
       (on-life x.request.session (viewed (revision u) (attach_wants x.request.session) d.parts) j d.same (v.1).agrees (omega (arith, n, f)))
       (let g : LookedAgain x (revision u) d.parts phase step = subst (λ y. Answers x LookingAgain y phase step) d.is (subst (λ y. Answers x y a phase step) e m) in g.1)))
-  connect-behind Creating q k e o h n =
+  connect-after Creating q k e o h n =
       let p : Plan = record { guards = new_session_guards x.fresh.id; success = (new_session_txn x.fresh (timeout_in x)).success; again = session_wants x.fresh.id; triggers = []; draft = reply.Good body.Empty } in
       let ht : carry s (transaction p) ≡ Some (u, a) = ap (carry s) (some_is o) ∙ h in
-      done-one k (ConnectBehind u x a) n (λ j f. by-moves j (λ step phase m. go p refl refl ht j step phase (subst (λ y. Answers x y a phase step) e m) (succeeds s (plan_txn p)) refl))
+      done-one k (ConnectAfter u x a) n (λ j f. by-moves j (λ step phase m. go p refl refl ht j step phase (subst (λ y. Answers x y a phase step) e m) (succeeds s (plan_txn p)) refl))
     where
       go : (p : Plan) → p.guards ≡ new_session_guards x.fresh.id → p.again ≡ session_wants x.fresh.id → carry s (transaction p) ≡ Some (u, a) → (j : ℕ) (step : ConnectStep) (phase : Phase) → Answers x Creating a phase step → (b : Bool) → succeeds s (plan_txn p) ≡ b → ConnectOut u x.request.session phase j
       go p guards again ht j step phase m true g =
@@ -297,10 +297,10 @@ module _ (s u : Store) (x : Connect) (a : Answer) where
           let taken = taken-now s (plan_txn p) x.fresh.id v guards agrees (shown (life_key x.fresh.id) (0, omega arith, refl)) (shown (nodes_key x.fresh.id) (1, omega arith, refl)) g in
           created (λ y. ConnectOut u x.request.session y j) tt x phase step (revision u) false d.parts (λ f not_taken. absurd (let t : true ≡ false = sym taken ∙ not_taken in cc))
           (subst (λ y. Answers x Creating y phase step) d.is m)
-  connect-behind (Attaching seen life) q k e o h n =
+  connect-after (Attaching seen life) q k e o h n =
       let p : Plan = record { guards = attach_guards x.request.session seen; success = (attach_txn x.request.session seen life).success; again = attach_wants x.request.session; triggers = []; draft = reply.Good body.Empty } in
       let ht : carry s (transaction p) ≡ Some (u, a) = ap (carry s) (some_is o) ∙ h in
-      done-one k (ConnectBehind u x a) (omega (arith, n)) (λ j f. by-moves j (λ step phase m. go p refl ht j (omega (arith, f, n)) step phase (subst (λ y. Answers x y a phase step) e m) (succeeds s (plan_txn p)) refl))
+      done-one k (ConnectAfter u x a) (omega (arith, n)) (λ j f. by-moves j (λ step phase m. go p refl ht j (omega (arith, f, n)) step phase (subst (λ y. Answers x y a phase step) e m) (succeeds s (plan_txn p)) refl))
     where
       go : (p : Plan) → p.again ≡ attach_wants x.request.session → carry s (transaction p) ≡ Some (u, a) → (j : ℕ) → attach_again (succeeds s (plan_txn p)) ≤ j → (step : ConnectStep) (phase : Phase) → Answers x (Attaching seen life) a phase step → (b : Bool) → succeeds s (plan_txn p) ≡ b
           → ConnectOut u x.request.session phase j
@@ -316,13 +316,13 @@ module _ (s u : Store) (x : Connect) (a : Answer) where
 
 -- ---- whatever is out
 
-pub stage-behind : (s u : Store) (who : Who) (st : Stage) (q : Ask) (a : Answer) (k : ℕ) → asked_of who st ≡ Some q → carry s q ≡ Some (u, a) → AsksOut s who st k → Done k (AsksBehind u who st a)
-stage-behind s u who (Unconnected fresh) q a k o h n = absurd (none_some o)
-stage-behind s u who (Connecting x) q a k o h n = (connect-behind s u x a x.phase q k refl o h n)
-stage-behind s u who Ready q a k o h n = absurd (none_some o)
-stage-behind s u who (KeepingAlive f) q a k o h n = (done-one k (AsksBehind u who (KeepingAlive f) a) (omega (arith, n)) (λ j e. omega (arith, n, e)))
-stage-behind s u who (Checking f) q a k o h n = (done-one k (AsksBehind u who (Checking f) a) (omega (arith, n)) (λ j e. omega (arith, n, e)))
-stage-behind s u who (Reading xid r v ws) q a k o h n = (read-behind s u who xid r v ws a k (ap (carry s) (some_is o) ∙ h) n)
-stage-behind s u who (Committing xid r v p m) q a k o h n = (commit-behind s u who xid r v p m a k (ap (carry s) (some_is o) ∙ h) n)
-stage-behind s u who (Waiting p) q a k o h n = absurd (none_some o)
-stage-behind s u who Shut q a k o h n = absurd (none_some o)
+pub stage-after : (s u : Store) (who : Who) (st : Stage) (q : Ask) (a : Answer) (k : ℕ) → asked_of who st ≡ Some q → carry s q ≡ Some (u, a) → AsksOut s who st k → Done k (AsksAfter u who st a)
+stage-after s u who (Unconnected fresh) q a k o h n = absurd (none_some o)
+stage-after s u who (Connecting x) q a k o h n = (connect-after s u x a x.phase q k refl o h n)
+stage-after s u who Ready q a k o h n = absurd (none_some o)
+stage-after s u who (KeepingAlive f) q a k o h n = (done-one k (AsksAfter u who (KeepingAlive f) a) (omega (arith, n)) (λ j e. omega (arith, n, e)))
+stage-after s u who (Checking f) q a k o h n = (done-one k (AsksAfter u who (Checking f) a) (omega (arith, n)) (λ j e. omega (arith, n, e)))
+stage-after s u who (Reading xid r v ws) q a k o h n = (read-after s u who xid r v ws a k (ap (carry s) (some_is o) ∙ h) n)
+stage-after s u who (Committing xid r v p m) q a k o h n = (commit-after s u who xid r v p m a k (ap (carry s) (some_is o) ∙ h) n)
+stage-after s u who (Waiting p) q a k o h n = absurd (none_some o)
+stage-after s u who Shut q a k o h n = absurd (none_some o)

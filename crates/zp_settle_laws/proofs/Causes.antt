@@ -46,8 +46,8 @@ use Rattle.zp_step.specs.Entries.{entered, then_reply}
 use Rattle.zp_step.specs.Keepalives.{Looked, StillMine, TakesUp, checks, keeps_alive}
 use Rattle.zp_step.specs.Kept.{keeps}
 use Rattle.zp_step.specs.Looking.{IfRecords, Looks, asks_for, change_by, decided, expired, max_ranges, moved, pending}
-use Rattle.zp_step.specs.Plans.{Committed, end_behind, finishes}
-use Rattle.zp_step.specs.Replies.{Is, close_behind, closed_by, is_due, replied, send_notices, stage_behind, waits}
+use Rattle.zp_step.specs.Plans.{Committed, end_after, finishes}
+use Rattle.zp_step.specs.Replies.{Is, close_after, closed_by, is_due, replied, send_notices, stage_after, waits}
 use Rattle.zp_step.specs.Stages.{Core, Pending, Stage, Unconnected, Connecting, Ready, KeepingAlive, Checking, Reading, Committing, Waiting, Shut, is_shut, seen_by}
 use Rattle.zp_step.specs.Steps.{Answers, Comes, Goes, Handles, Steps, counted, queued, rests, takes}
 use Rattle.zp_step.specs.Taking.{Takes, TakesReadable, end_of_plain, plainly}
@@ -141,17 +141,17 @@ module _ (damage : Bool) where
   fine-notices [] = tt
   fine-notices (n ∷ ns) = fine-notices ns
 
-  fine-close : (o : Option Cause) → EndsFine damage o → AreFine damage (close_behind o)
+  fine-close : (o : Option Cause) → EndsFine damage o → AreFine damage (close_after o)
   fine-close None f = tt
   fine-close (Some why) f = (f, tt)
 
-  fine-behind : (o : Option Cause) → IsFineIn damage (stage_behind o)
-  fine-behind None = tt
-  fine-behind (Some why) = tt
+  fine-after : (o : Option Cause) → IsFineIn damage (stage_after o)
+  fine-after None = tt
+  fine-after (Some why) = tt
 
   fine-replied : (c : Core) (p : Pending) → EndsFine damage p.ends → Finely damage (replied c p).0 (replied c p).1
   fine-replied c p f =
-      record { stage = fine-behind p.ends; acts = fine-append (send_notices (seen_by p.change c.watches).notices) _ (fine-notices (seen_by p.change c.watches).notices) (fine-close p.ends f) }
+      record { stage = fine-after p.ends; acts = fine-append (send_notices (seen_by p.change c.watches).notices) _ (fine-notices (seen_by p.change c.watches).notices) (fine-close p.ends f) }
 
   fine-waits : (c : Core) (p : Pending) → EndsFine damage p.ends → Finely damage (waits c p).0 (waits c p).1
   fine-waits c p f = go (is_due c p)
@@ -166,7 +166,7 @@ module _ (damage : Bool) where
   fine-decided c xid r v now Expired = fine-waits c (expired v xid) refl
   fine-decided c xid r v now (Moved found) = fine-waits c (moved c.who v found xid) refl
 
-  fine-end : (r : Request) → EndsFine damage (end_behind r)
+  fine-end : (r : Request) → EndsFine damage (end_after r)
   fine-end (req.Create p d a f) = tt
   fine-end (req.Delete p n) = tt
   fine-end (req.SetData p d n) = tt
@@ -216,7 +216,7 @@ module _ (damage : Bool) (now : ℕ) (c' : Core) (out : List Action) where
   fine-readable : (c : Core) (x : Frame) (o : Option Told) → TakesReadable c now c' out x o → Finely damage c' out
   fine-readable c x (Some t) h =
       let ends = end_of_plain (is_auth_refusal t.reply) in
-      fine-is (plainly c (xid_of x) t.reply) (record { stage = fine-behind damage ends; acts = fine-close damage ends (fine-plain damage (is_auth_refusal t.reply)) }) h
+      fine-is (plainly c (xid_of x) t.reply) (record { stage = fine-after damage ends; acts = fine-close damage ends (fine-plain damage (is_auth_refusal t.reply)) }) h
   fine-readable c NoHeader None h = absurd h
   fine-readable c (Unreadable xid place) None h = absurd h
   fine-readable c (Unknown xid kind) None h = absurd h

@@ -74,8 +74,8 @@ ConnectOut s id (Attaching seen life) k = 1 + attach_again (succeeds s (attach_t
 ConnectOut s id Over k = Unit {0}
 
 -- whatever the answer leads to
-abbrev pub ConnectBehind : Store → Connect → Answer → ℕ → Type 0
-ConnectBehind s x a k = (step : ConnectStep) (new : Connect) → ConnectSteps x (Some a) step new → ConnectOut s new.request.session new.phase k
+abbrev pub ConnectAfter : Store → Connect → Answer → ℕ → Type 0
+ConnectAfter s x a k = (step : ConnectStep) (new : Connect) → ConnectSteps x (Some a) step new → ConnectOut s new.request.session new.phase k
 
 -- ---- each stage: what it has out, and what it asks before it is ready
 
@@ -91,17 +91,17 @@ AsksOut s who (Waiting p) k = Unit {0}
 AsksOut s who Shut k = Unit {0}
 
 -- what was out was answered so
-abbrev pub CommitBehind : Store → Who → Request → View → Bool → ℕ → Type 0
-CommitBehind s who r v true k = Unit {0}
-CommitBehind s who r v false k = LooksOn s who r v k
+abbrev pub CommitAfter : Store → Who → Request → View → Bool → ℕ → Type 0
+CommitAfter s who r v true k = Unit {0}
+CommitAfter s who r v false k = LooksOn s who r v k
 
-abbrev pub AsksBehind : Store → Who → Stage → Answer → ℕ → Type 0
-AsksBehind s who (Connecting x) a k = ConnectBehind s x a k
-AsksBehind s who (KeepingAlive frame) a k = asks_of frame ≤ k + 1
-AsksBehind s who (Checking frame) a k = asks_of frame ≤ k + 2
-AsksBehind s who (Reading xid r v ws) (answer.Txn z b parts) k = LooksOn s who r (view_on v z ws parts) k
-AsksBehind s who (Committing xid r v p time) (answer.Txn z b parts) k = CommitBehind s who r (viewed z p.again parts) b k
-AsksBehind s who _ a k = Unit {0}
+abbrev pub AsksAfter : Store → Who → Stage → Answer → ℕ → Type 0
+AsksAfter s who (Connecting x) a k = ConnectAfter s x a k
+AsksAfter s who (KeepingAlive frame) a k = asks_of frame ≤ k + 1
+AsksAfter s who (Checking frame) a k = asks_of frame ≤ k + 2
+AsksAfter s who (Reading xid r v ws) (answer.Txn z b parts) k = LooksOn s who r (view_on v z ws parts) k
+AsksAfter s who (Committing xid r v p time) (answer.Txn z b parts) k = CommitAfter s who r (viewed z p.again parts) b k
+AsksAfter s who _ a k = Unit {0}
 
 -- ---- a connection between two steps
 
@@ -112,9 +112,9 @@ pub record Remains (s : Store) (c : Core) (n : ℕ) : Type 0 where
   pub most : asks + asks_of_all c.waiting ≤ n
 
 -- after this answer at most so many asks, those of the frames that wait with it
-pub record RemainsBehind (s : Store) (c : Core) (a : Answer) (n : ℕ) : Type 0 where
+pub record RemainsAfter (s : Store) (c : Core) (a : Answer) (n : ℕ) : Type 0 where
   pub asks : ℕ
-  pub behind : AsksBehind s c.who c.stage a asks
+  pub after : AsksAfter s c.who c.stage a asks
   pub most : asks + asks_of_all c.waiting ≤ n
 
 -- what it holds is true of the store: a session has few nodes, and the guards of a plan on the present hold

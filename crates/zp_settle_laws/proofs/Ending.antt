@@ -35,9 +35,9 @@ use Rattle.zp_world_laws.specs.Accounting.{IsAccounted}
 use Rattle.zp_world_laws.specs.Reaping.{IsReapFlight}
 use Rattle.zp_settle_laws.proofs.Bytes.{first-counts, runs-counts}
 use Rattle.zp_settle_laws.proofs.Carried.{connect-most}
-use Rattle.zp_settle_laws.proofs.Coming.{AsksBehind, AsksOut, ConnectOut, again_for, attach_again, is_asked_now, is_present}
+use Rattle.zp_settle_laws.proofs.Coming.{AsksAfter, AsksOut, ConnectOut, again_for, attach_again, is_asked_now, is_present}
 use Rattle.zp_settle_laws.proofs.Enough.{lines-enough}
-use Rattle.zp_settle_laws.proofs.Entered.{behind-cursor, taken-left, wanted-served}
+use Rattle.zp_settle_laws.proofs.Entered.{after-cursor, taken-left, wanted-served}
 use Rattle.zp_settle_laws.proofs.Lasting.{ConnLeft, CoreLeft, Left, LeftBy, LeftOf, ReapLeft, ReaperLeft, answers_of, asked-is, delivers-left, executes-left, left-at, out-some, reap-some, told-most}
 use Rattle.zp_settle_laws.proofs.Places.{request-ends, view_on}
 use Rattle.zp_settle_laws.proofs.Reaps.{any-phase, reap-most}
@@ -137,9 +137,9 @@ module _ (w : World) (c n : ℕ) (k : IsAccounted w) (l : Left c w n) where
   entry-one x (Connection core) e there actor next waits m =
       let served = wanted-served w c x core e there actor next in
       let serves = (k.whole).serving c x core there actor served in
-      let behind = behind-cursor w c core e k next (next-true w c x core e there actor serves k.entries next) in
+      let after = after-cursor w c core e k next (next-true w c x core e there actor serves k.entries next) in
       let most = m.most in
-      omega (arith, most, behind, ap (λ b. if b then nat_abs core.cursor else 0) served)
+      omega (arith, most, after, ap (λ b. if b then nat_abs core.cursor else 0) served)
   entry-one x (Reaper r) e there actor next waits m = absurd (true-false (sym waits))
   entry-one x Closed e there actor next waits m = absurd (true-false (sym waits))
 
@@ -217,28 +217,28 @@ stage-first s who (Committing xid r v p m) = omega (arith, again-most (succeeds 
 stage-first s who (Waiting p) = tt
 stage-first s who Shut = tt
 
-behind-first : (s : Store) (who : Who) (st : Stage) (a : Answer) → AsksBehind s who st a (asks_in st)
-behind-first s who (Connecting x) a = connect-most s x a 4 (omega arith)
-behind-first s who (KeepingAlive f) a = omega arith
-behind-first s who (Checking f) a = omega arith
-behind-first s who (Reading xid r v ws) (answer.Txn z b parts) = record { rounds = looks r; ends = λ few. request-ends r who (view_on v z ws parts) few; most = omega (arith, again-most (is_present s (view_on v z ws parts)) r) }
-behind-first s who (Reading xid r v ws) (answer.Range z found) = tt
-behind-first s who (Reading xid r v ws) (answer.Granted z id ttl) = tt
-behind-first s who (Reading xid r v ws) (answer.Alive z id ttl) = tt
-behind-first s who (Committing xid r v p m) (answer.Txn z true parts) = tt
-behind-first s who (Committing xid r v p m) (answer.Txn z false parts) = record { rounds = looks r; ends = λ few. request-ends r who (viewed z p.again parts) few; most = omega (arith, again-most (is_present s (viewed z p.again parts)) r) }
-behind-first s who (Committing xid r v p m) (answer.Range z found) = tt
-behind-first s who (Committing xid r v p m) (answer.Granted z id ttl) = tt
-behind-first s who (Committing xid r v p m) (answer.Alive z id ttl) = tt
-behind-first s who (Unconnected fresh) a = tt
-behind-first s who Ready a = tt
-behind-first s who (Waiting p) a = tt
-behind-first s who Shut a = tt
+after-first : (s : Store) (who : Who) (st : Stage) (a : Answer) → AsksAfter s who st a (asks_in st)
+after-first s who (Connecting x) a = connect-most s x a 4 (omega arith)
+after-first s who (KeepingAlive f) a = omega arith
+after-first s who (Checking f) a = omega arith
+after-first s who (Reading xid r v ws) (answer.Txn z b parts) = record { rounds = looks r; ends = λ few. request-ends r who (view_on v z ws parts) few; most = omega (arith, again-most (is_present s (view_on v z ws parts)) r) }
+after-first s who (Reading xid r v ws) (answer.Range z found) = tt
+after-first s who (Reading xid r v ws) (answer.Granted z id ttl) = tt
+after-first s who (Reading xid r v ws) (answer.Alive z id ttl) = tt
+after-first s who (Committing xid r v p m) (answer.Txn z true parts) = tt
+after-first s who (Committing xid r v p m) (answer.Txn z false parts) = record { rounds = looks r; ends = λ few. request-ends r who (viewed z p.again parts) few; most = omega (arith, again-most (is_present s (viewed z p.again parts)) r) }
+after-first s who (Committing xid r v p m) (answer.Range z found) = tt
+after-first s who (Committing xid r v p m) (answer.Granted z id ttl) = tt
+after-first s who (Committing xid r v p m) (answer.Alive z id ttl) = tt
+after-first s who (Unconnected fresh) a = tt
+after-first s who Ready a = tt
+after-first s who (Waiting p) a = tt
+after-first s who Shut a = tt
 
 core-first : (s : Store) (core : Core) (f : Option Flight) → CoreLeft s core f (asks_in core.stage + asks_of_all core.waiting)
 core-first s core None = record { asks = asks_in core.stage; out = stage-first s core.who core.stage; most = omega arith }
 core-first s core (Some (Out a)) = record { asks = asks_in core.stage; out = stage-first s core.who core.stage; most = omega arith }
-core-first s core (Some (Carried a)) = record { asks = asks_in core.stage; behind = behind-first s core.who core.stage a; most = omega arith }
+core-first s core (Some (Carried a)) = record { asks = asks_in core.stage; after = after-first s core.who core.stage a; most = omega arith }
 core-first s core (Some Denied) = tt
 
 reap-first : (s : Store) (r : Reap) (f : Option Flight) → ReapLeft s r f 5

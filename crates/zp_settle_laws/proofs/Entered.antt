@@ -37,7 +37,7 @@ use Rattle.zp_step.specs.declared.input.Input.{Input}
 use Rattle.zp_step.specs.declared.input.Input.TheVariants as input
 use Rattle.zp_script.specs.Effects.{IsEntry}
 use Rattle.zp_script.specs.Faults.{flight_at}
-use Rattle.zp_script.specs.Entries.{cursor_at, cursor_of, cursor_wanted, entry_behind, next_entry}
+use Rattle.zp_script.specs.Entries.{cursor_at, cursor_of, cursor_wanted, entry_after, next_entry}
 use Rattle.zp_script.specs.Handing.{Handed}
 use Rattle.zp_script.specs.Worlds.{Conn, Connection, World, conn_at}
 use Rattle.zp_script.specs.declared.flight.Flight.{Flight}
@@ -147,24 +147,24 @@ awaits-served core Shut z h = absurd (none_some h)
 
 -- what it wants comes of its stage
 pub wanted-served : (w : World) (c : ℕ) (x : Conn) (core : Core) (e : Entry) → conn_at c w ≡ Some x → x.actor ≡ Connection core → next_entry c w ≡ Some e → is_served core.stage ≡ true
-wanted-served w c x core e there actor next = go (cursor_wanted (wants_of core)) refl (sym (ap (option_and_then (entry_behind w.entries)) wanted) ∙ next)
+wanted-served w c x core e there actor next = go (cursor_wanted (wants_of core)) refl (sym (ap (option_and_then (entry_after w.entries)) wanted) ∙ next)
   where
     wanted : cursor_at c w ≡ cursor_wanted (wants_of core)
     wanted = ap (option_and_then (λ (y : Conn). cursor_of y.actor)) there ∙ ap cursor_of actor
 
-    go : (o : Option ℤ) → cursor_wanted (wants_of core) ≡ o → option_and_then (entry_behind w.entries) o ≡ Some e → is_served core.stage ≡ true
+    go : (o : Option ℤ) → cursor_wanted (wants_of core) ≡ o → option_and_then (entry_after w.entries) o ≡ Some e → is_served core.stage ≡ true
     go None f g = absurd (none_some g)
     go (Some z) f g = awaits-served core core.stage z f
 
 -- an entry that is there has a number after the cursor
-pub behind-cursor : (w : World) (c : ℕ) (core : Core) (e : Entry) → IsAccounted w → next_entry c w ≡ Some e → IsTrueEntry w.lines core e → nat_abs core.cursor + 1 ≤ length w.entries
-behind-cursor w c core e h next t = go (cursor_at c w) next
+pub after-cursor : (w : World) (c : ℕ) (core : Core) (e : Entry) → IsAccounted w → next_entry c w ≡ Some e → IsTrueEntry w.lines core e → nat_abs core.cursor + 1 ≤ length w.entries
+after-cursor w c core e h next t = go (cursor_at c w) next
   where
-    at : (z : ℤ) → entry_behind w.entries z ≡ Some e → nat_abs core.cursor + 1 ≤ length w.entries
+    at : (z : ℤ) → entry_after w.entries z ≡ Some e → nat_abs core.cursor + 1 ≤ length w.entries
     at (pos n) f = (let each = (h.entries).each n e f in omega (arith, ints, slice_get_within w.entries n e f, each.1, t.next))
     at (negsuc n) f = absurd (none_some f)
 
-    go : (o : Option ℤ) → option_and_then (entry_behind w.entries) o ≡ Some e → nat_abs core.cursor + 1 ≤ length w.entries
+    go : (o : Option ℤ) → option_and_then (entry_after w.entries) o ≡ Some e → nat_abs core.cursor + 1 ≤ length w.entries
     go None f = absurd (none_some f)
     go (Some z) f = at z f
 

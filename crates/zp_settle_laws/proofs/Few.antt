@@ -42,7 +42,7 @@ use Rattle.zp_step.specs.Entries.{entered, then_reply}
 use Rattle.zp_step.specs.Keepalives.{Looked, StillMine, TakesUp, checks, keeps_alive}
 use Rattle.zp_step.specs.Looking.{IfRecords, Looks, asks_for, change_by, decided, expired, max_ranges, moved, pending}
 use Rattle.zp_step.specs.Plans.{Committed, finishes}
-use Rattle.zp_step.specs.Replies.{Is, closed_by, is_due, replied, stage_behind, waits}
+use Rattle.zp_step.specs.Replies.{Is, closed_by, is_due, replied, stage_after, waits}
 use Rattle.zp_step.specs.Stages.{Core, Pending, Stage, Unconnected, Connecting, Ready, KeepingAlive, Checking, Reading, Committing, Waiting, Shut, is_shut}
 use Rattle.zp_step.specs.Steps.{Answers, Comes, Goes, Handles, Steps, counted, queued, rests, takes}
 use Rattle.zp_step.specs.Taking.{Takes, TakesReadable, end_of_plain, plainly}
@@ -54,15 +54,15 @@ use Rattle.zp_settle_laws.proofs.Room.{AsksFew}
 at-most : (ws : List Want) → length (take max_ranges ws) ≤ max_ranges
 at-most ws = let e : length (take max_ranges ws) ≡ min max_ranges (length ws) = length-take max_ranges ws in grind (arith, nat_tests, e)
 
-few-behind : (o : Option Cause) → AsksFew (stage_behind o)
-few-behind None = tt
-few-behind (Some why) = tt
+few-after : (o : Option Cause) → AsksFew (stage_after o)
+few-after None = tt
+few-after (Some why) = tt
 
 few-waits : (c : Core) (p : Pending) → AsksFew (waits c p).0.stage
 few-waits c p = go (is_due c p)
   where
     go : (b : Bool) → AsksFew (if b then replied c p else (record c { stage = Waiting p }, [])).0.stage
-    go true = few-behind p.ends
+    go true = few-after p.ends
     go false = tt
 
 few-decided : (c : Core) (xid : ℤ) (r : Request) (v : View) (now : ℕ) (d : Decision) → AsksFew (decided c xid r v now d).0.stage
@@ -98,7 +98,7 @@ module _ (now : ℕ) (c' : Core) (out : List Action) where
   -- ---- a frame is taken up
 
   few-readable : (c : Core) (x : Frame) (o : Option Told) → TakesReadable c now c' out x o → AsksFew c'.stage
-  few-readable c x (Some t) h = few-is (plainly c (xid_of x) t.reply) (few-behind (end_of_plain (is_auth_refusal t.reply))) h
+  few-readable c x (Some t) h = few-is (plainly c (xid_of x) t.reply) (few-after (end_of_plain (is_auth_refusal t.reply))) h
   few-readable c NoHeader None h = absurd h
   few-readable c (Unreadable xid place) None h = absurd h
   few-readable c (Unknown xid kind) None h = absurd h

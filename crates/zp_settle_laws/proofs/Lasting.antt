@@ -47,7 +47,7 @@ use Rattle.zp_script.specs.Faults.{flight_at}
 use Rattle.zp_script.specs.Handing.{AnswerComes, AnswerComesTo, FailureComes, FailureComesTo, Handed, Reaps}
 use Rattle.zp_script.specs.Kinds.{kind_asked}
 use Rattle.zp_script.specs.StepOutcomes.{StepOutcome, acts, acts_all, ended_by, leaves, quiet, reap_acts}
-use Rattle.zp_script.specs.Worlds.{Actor, Closed, Conn, Connection, Reaper, World, behind_reap, behind_step, conn_at, is_closed, is_over, with_conn, zxid_at}
+use Rattle.zp_script.specs.Worlds.{Actor, Closed, Conn, Connection, Reaper, World, after_reap, after_step, conn_at, is_closed, is_over, with_conn, zxid_at}
 use Rattle.zp_script.specs.declared.flight.Asking.{Asking}
 use Rattle.zp_script.specs.declared.flight.Flight.{Flight}
 use Rattle.zp_script.specs.declared.flight.Flight.TheVariants.{Out, Carried, Denied}
@@ -64,9 +64,9 @@ use Rattle.zp_world_laws.specs.Connections.{IsFlying, IsServing}
 use Rattle.zp_world_laws.specs.Counting.{HasFrames}
 use Rattle.zp_world_laws.specs.Reaping.{IsReapAsk, IsReapFlight}
 use Rattle.zp_settle_laws.proofs.Answered.{Then, answer-then}
-use Rattle.zp_settle_laws.proofs.Carried.{stage-behind}
-use Rattle.zp_settle_laws.proofs.Coming.{AsksOut, ConnectOut, IsTruthful, Remains, RemainsBehind, TruthIn}
-use Rattle.zp_settle_laws.proofs.Reaps.{ReapBehind, ReapOut, ReapThen, reap-behind}
+use Rattle.zp_settle_laws.proofs.Carried.{stage-after}
+use Rattle.zp_settle_laws.proofs.Coming.{AsksOut, ConnectOut, IsTruthful, Remains, RemainsAfter, TruthIn}
+use Rattle.zp_settle_laws.proofs.Reaps.{ReapAfter, ReapOut, ReapThen, reap-after}
 use Rattle.zp_settle_laws.proofs.Truths.{serving-true}
 use Rattle.zp_settle_laws.specs.Looks.{asks_of_all}
 
@@ -86,7 +86,7 @@ told core = if is_served core.stage then nat_abs core.cursor else 0
 abbrev pub CoreLeft : Store → Core → Option Flight → ℕ → Type 0
 CoreLeft s core None t = Remains s core t
 CoreLeft s core (Some (Out a)) t = Remains s core t
-CoreLeft s core (Some (Carried a)) t = RemainsBehind s core a t
+CoreLeft s core (Some (Carried a)) t = RemainsAfter s core a t
 CoreLeft s core (Some Denied) t = Unit {0}
 
 -- with so many entries there
@@ -98,7 +98,7 @@ pub record ConnLeft (s : Store) (there : ℕ) (core : Core) (flight : Option Fli
 abbrev pub ReapLeft : Store → Reap → Option Flight → ℕ → Type 0
 ReapLeft s r None t = Unit {0}
 ReapLeft s r (Some (Out x)) t = ReapOut s r.session r.phase x.ask t
-ReapLeft s r (Some (Carried a)) t = ReapBehind s r a t
+ReapLeft s r (Some (Carried a)) t = ReapAfter s r a t
 ReapLeft s r (Some Denied) t = Unit {0}
 
 pub record ReaperLeft (s : Store) (r : Reap) (flight : Option Flight) (n : ℕ) : Type 0 where
@@ -146,11 +146,11 @@ told-most w c x core h there actor = go (is_served core.stage) refl
 -- ---- after a step
 
 -- a step leaves no answer
-acts-none : (c : ℕ) (kind : Option UpdateKind) (behind : List TranscriptLine) (out : List Action) (o : StepOutcome) → answers_of o.flight ≡ 0 → answers_of (fold (acts c kind behind) o out).flight ≡ 0
-acts-none c kind behind [] o h = h
-acts-none c kind behind (action.Send bytes ∷ out) o h = acts-none c kind behind out (acts c kind behind o (action.Send bytes)) h
-acts-none c kind behind (action.Ask a ∷ out) o h = acts-none c kind behind out (acts c kind behind o (action.Ask a)) refl
-acts-none c kind behind (action.Close why ∷ out) o h = acts-none c kind behind out (acts c kind behind o (action.Close why)) refl
+acts-none : (c : ℕ) (kind : Option UpdateKind) (rest : List TranscriptLine) (out : List Action) (o : StepOutcome) → answers_of o.flight ≡ 0 → answers_of (fold (acts c kind rest) o out).flight ≡ 0
+acts-none c kind rest [] o h = h
+acts-none c kind rest (action.Send bytes ∷ out) o h = acts-none c kind rest out (acts c kind rest o (action.Send bytes)) h
+acts-none c kind rest (action.Ask a ∷ out) o h = acts-none c kind rest out (acts c kind rest o (action.Ask a)) refl
+acts-none c kind rest (action.Close why ∷ out) o h = acts-none c kind rest out (acts c kind rest o (action.Close why)) refl
 
 unanswered : (s : Store) (core : Core) (f : Option Flight) (t : ℕ) → answers_of f ≡ 0 → Remains s core t → CoreLeft s core f t
 unanswered s core None t h r = r
@@ -166,10 +166,10 @@ module _ (w w' : World) (c : ℕ) (i : Input) (hd : Handed c [] w i w') (idle : 
   quiet-now = acts-none c (kind_asked c (Connection hd.next)) [] hd.out (quiet hd.conn.flight) (ap answers_of idle)
 
   then-conn : Conn
-  then-conn = record (hd.conn) { actor = behind_step hd.next; flight = (acts_all c (kind_asked c (Connection hd.next)) [] hd.conn.flight hd.out).flight }
+  then-conn = record (hd.conn) { actor = after_step hd.next; flight = (acts_all c (kind_asked c (Connection hd.next)) [] hd.conn.flight hd.out).flight }
 
-  pub now-there : conn_at c w' ≡ Some (record (hd.conn) { actor = behind_step hd.next; flight = (acts_all c (kind_asked c (Connection hd.next)) [] hd.conn.flight hd.out).flight })
-  now-there = ap (conn_at c) hd.result ∙ conn-here w c (record (hd.conn) { actor = behind_step hd.next; flight = (acts_all c (kind_asked c (Connection hd.next)) [] hd.conn.flight hd.out).flight })
+  pub now-there : conn_at c w' ≡ Some (record (hd.conn) { actor = after_step hd.next; flight = (acts_all c (kind_asked c (Connection hd.next)) [] hd.conn.flight hd.out).flight })
+  now-there = ap (conn_at c) hd.result ∙ conn-here w c (record (hd.conn) { actor = after_step hd.next; flight = (acts_all c (kind_asked c (Connection hd.next)) [] hd.conn.flight hd.out).flight })
 
   same-store : w'.store ≡ w.store
   same-store = ap (λ (u : World). u.store) hd.result
@@ -179,7 +179,7 @@ module _ (w w' : World) (c : ℕ) (i : Input) (hd : Handed c [] w i w') (idle : 
 
   -- it has ended, or so much remains
   pub step-left : (t n : ℕ) → Then w.store t hd.next → (is_shut hd.next.stage ≡ false → 3 * t + length w.entries ≤ n + told hd.next) → Left c w' n
-  step-left t n k most = at-left c w' (record (hd.conn) { actor = behind_step hd.next; flight = (acts_all c (kind_asked c (Connection hd.next)) [] hd.conn.flight hd.out).flight }) n now-there
+  step-left t n k most = at-left c w' (record (hd.conn) { actor = after_step hd.next; flight = (acts_all c (kind_asked c (Connection hd.next)) [] hd.conn.flight hd.out).flight }) n now-there
       (go (is_shut hd.next.stage) refl k)
     where
       go : (b : Bool) → is_shut hd.next.stage ≡ b → Then w.store t hd.next → LeftBy w' (record (hd.conn) { actor = if b then Closed else Connection hd.next; flight = (acts_all c (kind_asked c (Connection hd.next)) [] hd.conn.flight hd.out).flight }) (if b then Closed else Connection hd.next) n
@@ -197,8 +197,8 @@ module _ (w w' : World) (c : ℕ) (i : Input) (hd : Handed c [] w i w') (idle : 
     where
       served-true : is_served hd.next.stage ≡ true → IsTruthful w.store hd.next
       served-true served =
-          let actor : behind_step hd.next ≡ Connection hd.next = ap (λ b. if b then Closed else Connection hd.next) (served-open hd.next.stage served) in
-          let serves = (k.whole).serving c (record (hd.conn) { actor = behind_step hd.next; flight = (acts_all c (kind_asked c (Connection hd.next)) [] hd.conn.flight hd.out).flight }) hd.next now-there actor served in
+          let actor : after_step hd.next ≡ Connection hd.next = ap (λ b. if b then Closed else Connection hd.next) (served-open hd.next.stage served) in
+          let serves = (k.whole).serving c (record (hd.conn) { actor = after_step hd.next; flight = (acts_all c (kind_asked c (Connection hd.next)) [] hd.conn.flight hd.out).flight }) hd.next now-there actor served in
           subst (λ s. IsTruthful s hd.next) same-store (serving-true w'.store w'.lines c hd.next (acts_all c (kind_asked c (Connection hd.next)) [] hd.conn.flight hd.out).flight ((k.whole.holds).serves) serves)
 
       by-stage : (st : Stage) → hd.next.stage ≡ st → TruthIn w.store hd.next.who hd.next.stage
@@ -287,19 +287,19 @@ module _ (w w' : World) (c : ℕ) (x : Conn) (core : Core) (a : Answer) (j : ℕ
       ))
 
 -- to a reaper
-over-closed : (r : Reap) → r.phase ≡ reap.Over → behind_reap r ≡ Closed
+over-closed : (r : Reap) → r.phase ≡ reap.Over → after_reap r ≡ Closed
 over-closed r e = ap (λ p. if is_over p then Closed else Reaper r) e
 
 reap-left : (w : World) (c : ℕ) (x : Conn) (r next : Reap) (step : ReapStep) (t n : ℕ) → next.session ≡ r.session → ReapThen w.store r.session step next.phase t → 3 * t ≤ n
-    → LeftBy (leaves c w x (behind_reap next) (reap_acts c (kind_asked c (Reaper next)) None step)) (record x { actor = behind_reap next; flight = (reap_acts c (kind_asked c (Reaper next)) None step).flight }) (behind_reap next) n
+    → LeftBy (leaves c w x (after_reap next) (reap_acts c (kind_asked c (Reaper next)) None step)) (record x { actor = after_reap next; flight = (reap_acts c (kind_asked c (Reaper next)) None step).flight }) (after_reap next) n
 reap-left w c x r next (reaped.Ask q) t n same h most = go (is_over next.phase)
   where
-    go : (b : Bool) → LeftBy (leaves c w x (behind_reap next) (reap_acts c (kind_asked c (Reaper next)) None (reaped.Ask q))) (record x { actor = behind_reap next; flight = (reap_acts c (kind_asked c (Reaper next)) None (reaped.Ask q)).flight }) (if b then Closed else Reaper next) n
+    go : (b : Bool) → LeftBy (leaves c w x (after_reap next) (reap_acts c (kind_asked c (Reaper next)) None (reaped.Ask q))) (record x { actor = after_reap next; flight = (reap_acts c (kind_asked c (Reaper next)) None (reaped.Ask q)).flight }) (if b then Closed else Reaper next) n
     go true = tt
     go false = record { total = t; left = subst (λ id. ReapOut w.store id next.phase q t) (sym same) h; most = omega (arith, most) }
-reap-left w c x r next (reaped.Reaped z) t n same h most = subst (λ a. LeftBy (leaves c w x (behind_reap next) (reap_acts c (kind_asked c (Reaper next)) None (reaped.Reaped z))) (record x { actor = behind_reap next; flight = None }) a n) (sym (over-closed next h)) tt
-reap-left w c x r next (reaped.Kept z) t n same h most = subst (λ a. LeftBy (leaves c w x (behind_reap next) (reap_acts c (kind_asked c (Reaper next)) None (reaped.Kept z))) (record x { actor = behind_reap next; flight = None }) a n) (sym (over-closed next h)) tt
-reap-left w c x r next (reaped.Gone z) t n same h most = subst (λ a. LeftBy (leaves c w x (behind_reap next) (reap_acts c (kind_asked c (Reaper next)) None (reaped.Gone z))) (record x { actor = behind_reap next; flight = None }) a n) (sym (over-closed next h)) tt
+reap-left w c x r next (reaped.Reaped z) t n same h most = subst (λ a. LeftBy (leaves c w x (after_reap next) (reap_acts c (kind_asked c (Reaper next)) None (reaped.Reaped z))) (record x { actor = after_reap next; flight = None }) a n) (sym (over-closed next h)) tt
+reap-left w c x r next (reaped.Kept z) t n same h most = subst (λ a. LeftBy (leaves c w x (after_reap next) (reap_acts c (kind_asked c (Reaper next)) None (reaped.Kept z))) (record x { actor = after_reap next; flight = None }) a n) (sym (over-closed next h)) tt
+reap-left w c x r next (reaped.Gone z) t n same h most = subst (λ a. LeftBy (leaves c w x (after_reap next) (reap_acts c (kind_asked c (Reaper next)) None (reaped.Gone z))) (record x { actor = after_reap next; flight = None }) a n) (sym (over-closed next h)) tt
 
 reaper-left : (w w' : World) (c : ℕ) (x : Conn) (r : Reap) (a : Answer) (j : ℕ) → Reaps c (with_conn w c (record x { flight = None })) (Some a) w' (record x { flight = None }) r → ReaperLeft w.store r (Some (Carried a)) (suc j) → Left c w' j
 reaper-left w w' c x r a j (inl e) l =
@@ -309,8 +309,8 @@ reaper-left w w' c x r a j (inl e) l =
 reaper-left w w' c x r a j (inr t) l =
     let v : World = with_conn w c (record x { flight = None }) in
     let o : StepOutcome = reap_acts c (kind_asked c (Reaper t.next)) None t.step in
-    let y : Conn = record x { actor = behind_reap t.next; flight = o.flight } in
-    let next : World = leaves c v (record x { flight = None }) (behind_reap t.next) o in
+    let y : Conn = record x { actor = after_reap t.next; flight = o.flight } in
+    let next : World = leaves c v (record x { flight = None }) (after_reap t.next) o in
     subst (λ u. Left c u j) (sym t.result) (at-left c next y j (conn-here v c y)
     (reap-left v c (record x { flight = None }) r t.next t.step l.total j (t.stepped).same (l.left t.step t.next t.stepped) (let most = l.most in omega (arith, most))))
 
@@ -441,13 +441,13 @@ module _ (w w' : World) (c j : ℕ) (ex : Executes c w w') (k : IsAccounted w) w
       left-by (Connection core) actor Denied denied (record { total = 0; left = tt; most = omega (arith, some, most, t.most, then-entries, ap (λ (u : World). length u.entries) same) })
   core-carried core actor l (Some (u, b)) e (carried, stored) =
       let t = l.left in
-      let d = stage-behind w.store u core.who core.stage ex.asking.ask b t.asks (asked-is w c ex.conn core ex.asking k ex.found actor ex.out) e t.out in
+      let d = stage-after w.store u core.who core.stage ex.asking.ask b t.asks (asked-is w c ex.conn core ex.asking k ex.found actor ex.out) e t.out in
       let at_u : w'.store ≡ u = then-store ∙ (stored-in w ex.mid u ex.asking.kind stored).store in
       let one_more = entries-stored w ex.mid u ex.asking.kind stored in
       let most = l.most in
       left-by (Connection core) actor (Carried b) carried (record {
         total = d.left + asks_of_all core.waiting;
-        left = subst (λ s. RemainsBehind s core b (d.left + asks_of_all core.waiting)) (sym at_u) (record { asks = d.left; behind = d.behind; most = omega arith });
+        left = subst (λ s. RemainsAfter s core b (d.left + asks_of_all core.waiting)) (sym at_u) (record { asks = d.left; rest = d.after; most = omega arith });
         most = omega (arith, most, t.most, d.is, one_more, then-entries);
       })
 
@@ -457,10 +457,10 @@ module _ (w w' : World) (c j : ℕ) (ex : Executes c w w') (k : IsAccounted w) w
       let most = l.most in
       left-by (Reaper r) actor Denied denied (record { total = 0; left = tt; most = omega (arith, most, some) })
   reaper-carried r actor known l (Some (u, b)) e (carried, stored) =
-      let d = reap-behind w.store u r b l.total ex.asking.ask r.phase refl known.asked e l.left in
+      let d = reap-after w.store u r b l.total ex.asking.ask r.phase refl known.asked e l.left in
       let at_u : w'.store ≡ u = then-store ∙ (stored-in w ex.mid u ex.asking.kind stored).store in
       let most = l.most in
-      left-by (Reaper r) actor (Carried b) carried (record { total = d.left; left = subst (λ s. ReapBehind s r b d.left) (sym at_u) d.behind; most = omega (arith, most, d.is) })
+      left-by (Reaper r) actor (Carried b) carried (record { total = d.left; left = subst (λ s. ReapAfter s r b d.left) (sym at_u) d.after; most = omega (arith, most, d.is) })
 
   pub executes-left : is_closed ex.conn.actor ≡ false → Left c w (suc j) → Left c w' j
   executes-left opens l = go ex.conn.actor refl (left-at c w ex.conn (suc j) ex.found l)

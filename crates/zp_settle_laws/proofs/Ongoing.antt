@@ -9,7 +9,7 @@ use Rattle.std.proofs.lemmas.Int.{ints}
 use Rattle.std.specs.Prelude.{MatchBool, None, Option, Some, if◌then◌else◌, not, option_and_then, slice_get, ◌<ℤ◌, ◌≤ℤ◌, ◌⊎◌}
 use Rattle.zk_jute.specs.Frames.{bad_length}
 use Rattle.zk_jute.specs.Requests.{read_request}
-use Rattle.zk_transcript.proofs.Attachments.{NoneBehind, attach_of-push}
+use Rattle.zk_transcript.proofs.Attachments.{NoneAfter, attach_of-push}
 use Rattle.zk_transcript.proofs.Lookups.{slice_get-back}
 use Rattle.zk_transcript.specs.Legal.{Attachment, attach_of, is_legal}
 use Rattle.zk_transcript.specs.Walks.{has_header}
@@ -39,13 +39,13 @@ use Rattle.zp_step.specs.declared.input.Input.{Input}
 use Rattle.zp_script.specs.Arriving.{Arrives, EndsBadly, FramesArrive, frame_lines, shown_frame}
 use Rattle.zp_script.specs.Carrying.{Executes}
 use Rattle.zp_script.specs.Effects.{Delivers, Does, EntersBy}
-use Rattle.zp_script.specs.Entries.{cursor_of, cursor_wanted, entry_behind, next_entry}
+use Rattle.zp_script.specs.Entries.{cursor_of, cursor_wanted, entry_after, next_entry}
 use Rattle.zp_script.specs.Faults.{flight_at}
 use Rattle.zp_script.specs.Handing.{AnswerComes, AnswerComesTo, Handed, landed}
 use Rattle.zp_script.specs.Happens.{Settles, settling}
 use Rattle.zp_script.specs.Kinds.{kind_asked}
 use Rattle.zp_script.specs.StepOutcomes.{acts_all}
-use Rattle.zp_script.specs.Worlds.{Closed, Conn, Connection, World, behind_step, conn_at, is_closed, is_open_conn, with_conn, zxid_at}
+use Rattle.zp_script.specs.Worlds.{Closed, Conn, Connection, World, after_step, conn_at, is_closed, is_open_conn, with_conn, zxid_at}
 use Rattle.zp_script.specs.declared.flight.Asking.{Asking}
 use Rattle.zp_script.specs.declared.flight.Flight.TheVariants.{Carried, Denied, Out}
 use Rattle.zp_script.specs.declared.flight.Flight.{Flight}
@@ -66,7 +66,7 @@ use Rattle.zp_settle_laws.proofs.Open.{answer-stays, lasting-open, lasting-serve
 use Rattle.zp_settle_laws.proofs.Roomy.{IsKept, settling-kept}
 use Rattle.zp_settle_laws.proofs.Sessions.{get-front, here-now, mild-front}
 use Rattle.zp_settle_laws.proofs.Staying.{goes-lasting}
-use Rattle.zp_settle_laws.specs.Staying.{AreLasting, IsLasting, IsLastingIn, StaysOpen, closes_behind}
+use Rattle.zp_settle_laws.specs.Staying.{AreLasting, IsLasting, IsLastingIn, StaysOpen, closes_after}
 use Rattle.zp_settle_laws.specs.Undisturbed.{HasMildFrames, takes_session}
 
 -- it is open, at this proxy
@@ -149,10 +149,10 @@ queue-waits c c' x f now out e header h =
     go false g mid first i = absurd (true-false (sym g))
 
 -- what ends a connection closes it; what was shut is closed too
-shut-closed : (c c' : Core) (i : Input) (why : Cause) (now : ℕ) (out : List Action) → end_by i ≡ Some why → CoreSteps c i now c' out → behind_step c' ≡ Closed
+shut-closed : (c c' : Core) (i : Input) (why : Cause) (now : ℕ) (out : List Action) → end_by i ≡ Some why → CoreSteps c i now c' out → after_step c' ≡ Closed
 shut-closed c c' i why now out e h = go (is_shut c.stage) refl
   where
-    go : (b : Bool) → is_shut c.stage ≡ b → behind_step c' ≡ Closed
+    go : (b : Bool) → is_shut c.stage ≡ b → after_step c' ≡ Closed
     go true f = ap (λ b. if b then Closed else Connection c') (ap (λ (d : Core). is_shut d.stage) (shut-for-good c c' i now out f h).0 ∙ f)
     go false f = ap (λ b. if b then Closed else Connection c') (ap is_shut (ends-named c c' i why now out f e h).0)
 
@@ -173,21 +173,21 @@ pub record IsAs (x y : Conn) : Type 0 where
   pub rest : y.stream.rest ≡ x.stream.rest
   pub proxy : y.proxy ≡ x.proxy
 
-module _ (c p : ℕ) (place : ℕ) (own : Attachment) (last : World) (kept : NoneBehind (takes_session own.session) place last.lines) (mild : HasMildFrames c last.lines) (room : revision last.store <ℤ last_revision) where
+module _ (c p : ℕ) (place : ℕ) (own : Attachment) (last : World) (kept : NoneAfter (takes_session own.session) place last.lines) (mild : HasMildFrames c last.lines) (room : revision last.store <ℤ last_revision) where
   -- ---- what is known of it then
 
   module _ (w : World) (g : Grows w last) where
     mild-here : HasMildFrames c w.lines
     mild-here = mild-front c w.lines g.more (subst (HasMildFrames c) g.lines mild)
 
-    kept-here : NoneBehind (takes_session own.session) place w.lines
+    kept-here : NoneAfter (takes_session own.session) place w.lines
     kept-here j l lt e = kept j l lt (ap (λ ls. slice_get ls j) g.lines ∙ get-front w.lines g.more j l e)
 
     has-room : last_revision ≤ℤ revision w.store → ⊥
     has-room full = let longer = ((g.store).before).longer in omega (arith, ints, longer, full, room)
 
     -- a frame that was shown is mild
-    shown-mild : (before : List TranscriptLine) (i : ℕ) (z : ℤ) (f : List ℕ) → w.lines ≡ before ++ FrameLine c i z f ∷ [] → 1 ≤ i → (has_header (read_request f) ≡ true) × (closes_behind (read_request f) ≡ false)
+    shown-mild : (before : List TranscriptLine) (i : ℕ) (z : ℤ) (f : List ℕ) → w.lines ≡ before ++ FrameLine c i z f ∷ [] → 1 ≤ i → (has_header (read_request f) ≡ true) × (closes_after (read_request f) ≡ false)
     shown-mild before i z f e least = mild-here (length before) i z f (ap (λ ls. slice_get ls (length before)) e ∙ at-end) least
       where
         zero-more : length before + 0 ≡ length before
@@ -204,10 +204,10 @@ module _ (c p : ℕ) (place : ℕ) (own : Attachment) (last : World) (kept : Non
       serves : is_served core.stage ≡ true → IsServing w.store w.lines c core x.flight
       serves served = ((k.accounted).whole).serving c x core there actor served
 
-      held : (s : IsServing w.store w.lines c core x.flight) → NoneBehind (takes_session core.who.session) s.place w.lines
+      held : (s : IsServing w.store w.lines c core x.flight) → NoneAfter (takes_session core.who.session) s.place w.lines
       held s =
           let same : ◌≡◌ {A = ℕ × Attachment} (place, own) (s.place, attachment core.who) = some_is (sym attached ∙ s.attached) in
-          subst (λ (o : ℕ × Attachment). NoneBehind (takes_session o.1.session) o.0 w.lines) same (kept-here w g)
+          subst (λ (o : ℕ × Attachment). NoneAfter (takes_session o.1.session) o.0 w.lines) same (kept-here w g)
 
       staying : is_served core.stage ≡ true → StaysOpen c w
       staying served =
@@ -283,24 +283,24 @@ module _ (c p : ℕ) (place : ℕ) (own : Attachment) (last : World) (kept : Non
       v = record x { frames = counted_up (x.frames + 1) }
 
       y : Conn
-      y = record (hd.conn) { actor = behind_step hd.next; flight = (acts_all c (kind_asked c (Connection hd.next)) (frame_lines c (counted_up (x.frames + 1)) (zxid_at w.store) fs) hd.conn.flight hd.out).flight }
+      y = record (hd.conn) { actor = after_step hd.next; flight = (acts_all c (kind_asked c (Connection hd.next)) (frame_lines c (counted_up (x.frames + 1)) (zxid_at w.store) fs) hd.conn.flight hd.out).flight }
 
       is_v : record x { frames = counted_up (x.frames + 1) } ≡ hd.conn
       is_v = some_is (sym (conn-here w c (record x { frames = counted_up (x.frames + 1) })) ∙ hd.found)
 
-      there : conn_at c mid ≡ Some (record (hd.conn) { actor = behind_step hd.next; flight = (acts_all c (kind_asked c (Connection hd.next)) (frame_lines c (counted_up (x.frames + 1)) (zxid_at w.store) fs) hd.conn.flight hd.out).flight })
-      there = ap (conn_at c) hd.result ∙ conn-here (shown_frame c w x f) c (record (hd.conn) { actor = behind_step hd.next; flight = (acts_all c (kind_asked c (Connection hd.next)) (frame_lines c (counted_up (x.frames + 1)) (zxid_at w.store) fs) hd.conn.flight hd.out).flight })
+      there : conn_at c mid ≡ Some (record (hd.conn) { actor = after_step hd.next; flight = (acts_all c (kind_asked c (Connection hd.next)) (frame_lines c (counted_up (x.frames + 1)) (zxid_at w.store) fs) hd.conn.flight hd.out).flight })
+      there = ap (conn_at c) hd.result ∙ conn-here (shown_frame c w x f) c (record (hd.conn) { actor = after_step hd.next; flight = (acts_all c (kind_asked c (Connection hd.next)) (frame_lines c (counted_up (x.frames + 1)) (zxid_at w.store) fs) hd.conn.flight hd.out).flight })
 
       counted : 1 ≤ hd.conn.frames
       counted = let up : 1 ≤ counted_up (x.frames + 1) = grind (arith, nat_tests) in omega (arith, up, ap (λ (u : Conn). u.frames) is_v)
 
-      behind : Grows (shown_frame c w x f) last
-      behind = grows-then (shown_frame c w x f) mid last (handed-onward (shown_frame c w x f) mid c (frame_lines c (counted_up (x.frames + 1)) (zxid_at w.store) fs) (input.Frame f) hd).grows g
+      after : Grows (shown_frame c w x f) last
+      after = grows-then (shown_frame c w x f) mid last (handed-onward (shown_frame c w x f) mid c (frame_lines c (counted_up (x.frames + 1)) (zxid_at w.store) fs) (input.Frame f) hd).grows g
 
-      good : (has_header (read_request f) ≡ true) × (closes_behind (read_request f) ≡ false)
-      good = shown-mild (shown_frame c w x f) behind w.lines x.frames (zxid_at w.store) f refl t.least
+      good : (has_header (read_request f) ≡ true) × (closes_after (read_request f) ≡ false)
+      good = shown-mild (shown_frame c w x f) after w.lines x.frames (zxid_at w.store) f refl t.least
 
-      by : Takes c w x → Takes c mid (record (hd.conn) { actor = behind_step hd.next; flight = (acts_all c (kind_asked c (Connection hd.next)) (frame_lines c (counted_up (x.frames + 1)) (zxid_at w.store) fs) hd.conn.flight hd.out).flight })
+      by : Takes c w x → Takes c mid (record (hd.conn) { actor = after_step hd.next; flight = (acts_all c (kind_asked c (Connection hd.next)) (frame_lines c (counted_up (x.frames + 1)) (zxid_at w.store) fs) hd.conn.flight hd.out).flight })
       by (stays s) = stays (one-stays c w mid x f fs t.there hd good.0 good.1 s)
       by (waits core z actor stage) =
           let is_core : core ≡ hd.core = core-same core hd.core (sym actor ∙ ap (λ (u : Conn). u.actor) is_v ∙ hd.serving) in
@@ -361,11 +361,11 @@ module _ (c p : ℕ) (place : ℕ) (own : Attachment) (last : World) (kept : Non
           by (stays s) = stays (record { conn = record (a.conn) { stream = a.stream }; core = s.core; there = conn-here w c (record (a.conn) { stream = a.stream }); actor = ap (λ (u : Conn). u.actor) (some_is (sym a.found ∙ s.there)) ∙ s.actor; lasting = s.lasting; here = s.here })
           by (waits core y actor stage) = waits core y actor stage
 
-      behind : (b : Option ℤ) → EndsBadly c a.mid (a.stream).place b w' → Grows a.mid last
-      behind b e = grows-then a.mid w' last (badly-onward c a.mid w' (a.stream).place b e).grows g
+      after : (b : Option ℤ) → EndsBadly c a.mid (a.stream).place b w' → Grows a.mid last
+      after b e = grows-then a.mid w' last (badly-onward c a.mid w' (a.stream).place b e).grows g
 
       came : (y : Conn) × IsTaking c a.mid y × IsAs (record (a.conn) { stream = a.stream }) y
-      came = frames-taken (with_conn w c (record (a.conn) { stream = a.stream })) a.mid (record (a.conn) { stream = a.stream }) a.frames (behind a.bad a.ends) began a.arrive
+      came = frames-taken (with_conn w c (record (a.conn) { stream = a.stream })) a.mid (record (a.conn) { stream = a.stream }) a.frames (after a.bad a.ends) began a.arrive
 
       ends : (b : Option ℤ) → a.bad ≡ b → EndsBadly c a.mid (a.stream).place b w' → IsOpenAt c p w'
       ends None e h =
@@ -378,8 +378,8 @@ module _ (c p : ℕ) (place : ℕ) (own : Attachment) (last : World) (kept : Non
               let same : came.0 ≡ hd.conn = some_is (sym (came.1).there ∙ hd.found) in
               let t = taking-open a.mid came.0 came.1 in
               unbad n (record {
-                conn = record (hd.conn) { actor = behind_step hd.next; flight = (acts_all c (kind_asked c (Connection hd.next)) [] hd.conn.flight hd.out).flight };
-                there = ap (conn_at c) hd.result ∙ conn-here a.mid c (record (hd.conn) { actor = behind_step hd.next; flight = (acts_all c (kind_asked c (Connection hd.next)) [] hd.conn.flight hd.out).flight });
+                conn = record (hd.conn) { actor = after_step hd.next; flight = (acts_all c (kind_asked c (Connection hd.next)) [] hd.conn.flight hd.out).flight };
+                there = ap (conn_at c) hd.result ∙ conn-here a.mid c (record (hd.conn) { actor = after_step hd.next; flight = (acts_all c (kind_asked c (Connection hd.next)) [] hd.conn.flight hd.out).flight });
                 closed = shut-closed hd.core hd.next (input.BadLength (a.stream).place n) (cause.BadLength (a.stream).place n) (a.mid).clock hd.out refl hd.stepped;
                 bad = ap (λ (u : Conn). bad_length u.stream.rest) (sym same) ∙ ap bad_length (came.2).rest ∙ (a.cuts).stays ∙ e;
               })
@@ -411,9 +411,9 @@ module _ (c p : ℕ) (place : ℕ) (own : Attachment) (last : World) (kept : Non
   -- an answer that attached it
   greeted-open : (w w' : World) → Grows w last → attach_of c w.lines ≡ Some (place, own) → IsOpenAt c p w → (q : IsGreeted c w) → Handed c [] (with_conn w c (record (q.conn) { flight = None })) (input.Answer q.answer) w' → IsOpenAt c p w'
   greeted-open w w' g attached o q hd = record {
-    conn = record (hd.conn) { actor = behind_step hd.next; flight = (acts_all c (kind_asked c (Connection hd.next)) [] hd.conn.flight hd.out).flight };
+    conn = record (hd.conn) { actor = after_step hd.next; flight = (acts_all c (kind_asked c (Connection hd.next)) [] hd.conn.flight hd.out).flight };
     core = hd.next;
-    there = ap (conn_at c) hd.result ∙ conn-here (with_conn w c (record (q.conn) { flight = None })) c (record (hd.conn) { actor = behind_step hd.next; flight = (acts_all c (kind_asked c (Connection hd.next)) [] hd.conn.flight hd.out).flight });
+    there = ap (conn_at c) hd.result ∙ conn-here (with_conn w c (record (q.conn) { flight = None })) c (record (hd.conn) { actor = after_step hd.next; flight = (acts_all c (kind_asked c (Connection hd.next)) [] hd.conn.flight hd.out).flight });
     actor = ap (λ b. if b then Closed else Connection hd.next) (lasting-open hd.next.stage (lasting.work));
     proxy = ap (λ (u : Conn). u.proxy) (sym is_conn) ∙ open-as w o q.conn q.there;
   }
@@ -452,8 +452,8 @@ module _ (c p : ℕ) (place : ℕ) (own : Attachment) (last : World) (kept : Non
     proxy = ap (λ (u : Conn). u.proxy) (some_is (sym s.there ∙ now)) ∙ ap (λ (u : Conn). u.proxy) (some_is (sym hd.found ∙ there)) ∙ at;
   }
     where
-      now : conn_at c w' ≡ Some (record (hd.conn) { actor = behind_step hd.next; flight = (acts_all c (kind_asked c (Connection hd.next)) [] hd.conn.flight hd.out).flight })
-      now = ap (conn_at c) hd.result ∙ conn-here w c (record (hd.conn) { actor = behind_step hd.next; flight = (acts_all c (kind_asked c (Connection hd.next)) [] hd.conn.flight hd.out).flight })
+      now : conn_at c w' ≡ Some (record (hd.conn) { actor = after_step hd.next; flight = (acts_all c (kind_asked c (Connection hd.next)) [] hd.conn.flight hd.out).flight })
+      now = ap (conn_at c) hd.result ∙ conn-here w c (record (hd.conn) { actor = after_step hd.next; flight = (acts_all c (kind_asked c (Connection hd.next)) [] hd.conn.flight hd.out).flight })
 
   carried-same : (a b : Answer) → Some (Carried a) ≡ Some (Carried b) → a ≡ b
   carried-same a b e = cc
@@ -498,7 +498,7 @@ module _ (c p : ℕ) (place : ℕ) (own : Attachment) (last : World) (kept : Non
 
   -- a connect awaits none
   no-entry : (w : World) (q : IsGreeted c w) → next_entry c w ≡ None
-  no-entry w q = ap (λ o. option_and_then (entry_behind w.entries) (option_and_then (λ (x : Conn). cursor_of x.actor) o)) q.there ∙ ap (λ a. option_and_then (entry_behind w.entries) (cursor_of a)) q.actor ∙ ap (λ st. option_and_then (entry_behind w.entries) (cursor_wanted (wanted_in q.core st))) q.stage
+  no-entry w q = ap (λ o. option_and_then (entry_after w.entries) (option_and_then (λ (x : Conn). cursor_of x.actor) o)) q.there ∙ ap (λ a. option_and_then (entry_after w.entries) (cursor_of a)) q.actor ∙ ap (λ st. option_and_then (entry_after w.entries) (cursor_wanted (wanted_in q.core st))) q.stage
 
   pub entry-open : (w w' : World) → Grows w last → IsKept w → attach_of c w.lines ≡ Some (place, own) → IsOpenAt c p w → EntersBy c w w' (next_entry c w) → IsOpenAt c p w'
   entry-open w w' g k attached o d = by (phase w g k attached o.conn o.core o.there o.actor)

@@ -34,7 +34,7 @@ use Rattle.zp_script.specs.Happens.{Effect, Settles, max_settling, settling}
 use Rattle.zp_script.specs.Kinds.{kind_asked}
 use Rattle.zp_script.specs.Runs.{RunsFrom}
 use Rattle.zp_script.specs.StepOutcomes.{StepOutcome, acts_all, ended_by, leaves, reap_acts}
-use Rattle.zp_script.specs.Worlds.{Actor, Closed, Conn, Connection, Reaper, World, behind_reap, behind_step, conn_at, is_open_conn, with_conn, zxid_at}
+use Rattle.zp_script.specs.Worlds.{Actor, Closed, Conn, Connection, Reaper, World, after_reap, after_step, conn_at, is_open_conn, with_conn, zxid_at}
 use Rattle.zp_script.specs.declared.flight.Asking.{Asking}
 use Rattle.zp_script.specs.declared.flight.Flight.TheVariants.{Carried, Denied, Out}
 use Rattle.zp_script.specs.declared.flight.Flight.{Flight}
@@ -136,9 +136,9 @@ stored-onward c w w' more later lines conns = record { grows = record { store = 
 leaves-onward : (w : World) (c : ℕ) (x : Conn) (actor : Actor) (o : StepOutcome) → Onward c w (leaves c w x actor o)
 leaves-onward w c x actor o = with-onward w c (record x { actor = actor; flight = o.flight }) o.lines (leaves c w x actor o) refl refl refl
 
-pub handed-onward : (w w' : World) (c : ℕ) (behind : List TranscriptLine) (i : Input) → Handed c behind w i w' → Onward c w w'
-handed-onward w w' c behind i hd = onward-to c w (leaves c w hd.conn (behind_step hd.next) (acts_all c (kind_asked c (Connection hd.next)) behind hd.conn.flight hd.out)) w' hd.result
-    (leaves-onward w c hd.conn (behind_step hd.next) (acts_all c (kind_asked c (Connection hd.next)) behind hd.conn.flight hd.out))
+pub handed-onward : (w w' : World) (c : ℕ) (after : List TranscriptLine) (i : Input) → Handed c after w i w' → Onward c w w'
+handed-onward w w' c after i hd = onward-to c w (leaves c w hd.conn (after_step hd.next) (acts_all c (kind_asked c (Connection hd.next)) after hd.conn.flight hd.out)) w' hd.result
+    (leaves-onward w c hd.conn (after_step hd.next) (acts_all c (kind_asked c (Connection hd.next)) after hd.conn.flight hd.out))
 
 -- ---- frames
 
@@ -211,7 +211,7 @@ landed-onward w c = go (conn_at c w)
 
 reaps-onward : (w w' : World) (c : ℕ) (x : Conn) (r : Reap) (a : Option Answer) → Reaps c w a w' x r → Onward c w w'
 reaps-onward w w' c x r a (inl e) = onward-to c w (leaves c w x Closed (ended_by c (cause.Damaged e.key e.value) x.flight)) w' e.result (leaves-onward w c x Closed (ended_by c (cause.Damaged e.key e.value) x.flight))
-reaps-onward w w' c x r a (inr s) = onward-to c w (leaves c w x (behind_reap s.next) (reap_acts c (kind_asked c (Reaper s.next)) x.flight s.step)) w' s.result (leaves-onward w c x (behind_reap s.next) (reap_acts c (kind_asked c (Reaper s.next)) x.flight s.step))
+reaps-onward w w' c x r a (inr s) = onward-to c w (leaves c w x (after_reap s.next) (reap_acts c (kind_asked c (Reaper s.next)) x.flight s.step)) w' s.result (leaves-onward w c x (after_reap s.next) (reap_acts c (kind_asked c (Reaper s.next)) x.flight s.step))
 
 answer-onward : (w w' : World) (c : ℕ) (x : Conn) (a : Answer) (actor : Actor) → AnswerComesTo c w x a w' actor → Onward c w w'
 answer-onward w w' c x a (Connection core) h = handed-onward w w' c [] (input.Answer a) h

@@ -39,7 +39,7 @@ use Rattle.zp_script.specs.Handing.{AnswerComes, AnswerComesTo, FailureComes, Fa
 use Rattle.zp_script.specs.Happens.{Settles, flight_line, settling, settling_conn}
 use Rattle.zp_script.specs.Kinds.{kind_asked, kind_in_stage, kind_of_request}
 use Rattle.zp_script.specs.StepOutcomes.{StepOutcome, acts, acts_all, quiet}
-use Rattle.zp_script.specs.Worlds.{Closed, Conn, Connection, World, behind_step, conn_at, is_closed, with_conn, zxid_at}
+use Rattle.zp_script.specs.Worlds.{Closed, Conn, Connection, World, after_step, conn_at, is_closed, with_conn, zxid_at}
 use Rattle.zp_script.specs.declared.flight.Asking.{Asking}
 use Rattle.zp_script.specs.declared.flight.Flight.TheVariants.{Carried, Denied, Out}
 use Rattle.zp_script.specs.declared.flight.Flight.{Flight}
@@ -145,9 +145,9 @@ module _ (w w' : World) (c : ℕ) (i : Input) (hd : Handed c [] w i w') where
 
   pub step-stays : IsLasting hd.next → hd.next.who ≡ hd.core.who → IsAttachedHere w.lines hd.core.who → StaysOpen c w'
   step-stays lasting who here = record {
-    conn = record (hd.conn) { actor = behind_step hd.next; flight = (acts_all c (kind_asked c (Connection hd.next)) [] hd.conn.flight hd.out).flight };
+    conn = record (hd.conn) { actor = after_step hd.next; flight = (acts_all c (kind_asked c (Connection hd.next)) [] hd.conn.flight hd.out).flight };
     core = hd.next;
-    there = ap (conn_at c) hd.result ∙ conn-here w c (record (hd.conn) { actor = behind_step hd.next; flight = (acts_all c (kind_asked c (Connection hd.next)) [] hd.conn.flight hd.out).flight });
+    there = ap (conn_at c) hd.result ∙ conn-here w c (record (hd.conn) { actor = after_step hd.next; flight = (acts_all c (kind_asked c (Connection hd.next)) [] hd.conn.flight hd.out).flight });
     actor = ap (λ b. if b then Closed else Connection hd.next) (lasting-open hd.next.stage lasting.work);
     lasting = lasting;
     here = here-as w.lines w'.lines hd.core.who hd.next.who who (ap (session_at hd.core.who.session) step-after) here;
@@ -192,8 +192,8 @@ module _ (w w' : World) (c : ℕ) (s : StaysOpen c w) (k : IsAccounted w) where
       let e = ends-named hd.core hd.next input.Failed cause.LinkFault w1.clock hd.out opens refl hd.stepped in
       let o = acts_all c (kind_asked c (Connection hd.next)) [] hd.conn.flight hd.out in
       record {
-        conn = record (hd.conn) { actor = behind_step hd.next; flight = o.flight };
-        there = ap (conn_at c) hd.result ∙ conn-here w1 c (record (hd.conn) { actor = behind_step hd.next; flight = o.flight });
+        conn = record (hd.conn) { actor = after_step hd.next; flight = o.flight };
+        there = ap (conn_at c) hd.result ∙ conn-here w1 c (record (hd.conn) { actor = after_step hd.next; flight = o.flight });
         closed = ap (λ st. is_closed (if is_shut st then Closed else Connection hd.next)) e.0;
         shown = subst (λ l. Contains l (Close c (ended.Cause cause.LinkFault))) (sym (ap (λ (u : World). u.lines) hd.result ∙ ap (λ l. w.lines ++ (acts_all c (kind_asked c (Connection hd.next)) [] hd.conn.flight l).lines) e.1))
             (Contains-append_right w.lines (Close c (ended.Cause cause.LinkFault) ∷ []) (Close c (ended.Cause cause.LinkFault)) (0, omega arith, refl));

@@ -118,7 +118,7 @@ pub data Place : Type 0 where
   -- this want
   Fixed : (named : Want) → Place
   -- what follows from the view: of a closeSession by the session's node of this index, of a multi by its part of this index
-  Behind : (index : ℕ) → Place
+  After : (index : ℕ) → Place
 
 abbrev FollowsClose : ℤ → View → ℕ → Want → Type 0
 FollowsClose id v i w = (ps : List Bytes) × (p q : Bytes) × SawNodes v id ps × (slice_get ps i ≡ Some p) × (parent p ≡ Some q) × (w ≡ key_want (CountsKey q))
@@ -138,7 +138,7 @@ FollowsAt _ id v i w = ⊥
 -- the place takes this want, as the view shows
 abbrev Takes : Request → ℤ → View → Place → Want → Type 0
 Takes r id v (Fixed named) w = w ≡ named
-Takes r id v (Behind i) w = FollowsAt r id v i w
+Takes r id v (After i) w = FollowsAt r id v i w
 
 close-same : (id : ℤ) (v u : View) (i : ℕ) (w t : Want) → Extends v u → FollowsClose id v i w → FollowsClose id u i t → w ≡ t
 close-same id v u i w t x (ps, p, q, s, at, e, is) (ps', p', q', s', at', e', is') =
@@ -158,17 +158,17 @@ create-same p d a f id v u w t x (s, q, e, r, saw, is) (s', q', e', r', saw', is
     let same_r : r ≡ r' = counts-same v u q r r' x saw (subst (λ y. SawCounts u y r') (sym same_q) saw') in
     is ∙ ap (λ (y : CountRec). key_want (DataKey (sequence_path p (nat_abs y.creates)))) same_r ∙ sym is'
 
-behind-same : (r : Request) (id : ℤ) (v u : View) (i : ℕ) (w t : Want) → Extends v u → FollowsAt r id v i w → FollowsAt r id u i t → w ≡ t
-behind-same (req.Create p d a f) id v u i w t x h k = create-same p d a f id v u w t x h k
-behind-same (req.Delete p n) id v u i w t x h k = owner-same v u p w t x h k
-behind-same req.Close id v u i w t x h k = close-same id v u i w t x h k
-behind-same (req.Multi parts) id v u i w t x h k = part-at-same id v u [] parts i w t x h k
-behind-same _ id v u i w t x h k = absurd h
+after-same : (r : Request) (id : ℤ) (v u : View) (i : ℕ) (w t : Want) → Extends v u → FollowsAt r id v i w → FollowsAt r id u i t → w ≡ t
+after-same (req.Create p d a f) id v u i w t x h k = create-same p d a f id v u w t x h k
+after-same (req.Delete p n) id v u i w t x h k = owner-same v u p w t x h k
+after-same req.Close id v u i w t x h k = close-same id v u i w t x h k
+after-same (req.Multi parts) id v u i w t x h k = part-at-same id v u [] parts i w t x h k
+after-same _ id v u i w t x h k = absurd h
 
 -- it takes one want alone
 takes-same : (r : Request) (id : ℤ) (v u : View) (s : Place) (w t : Want) → Extends v u → Takes r id v s w → Takes r id u s t → w ≡ t
 takes-same r id v u (Fixed named) w t x h k = h ∙ sym k
-takes-same r id v u (Behind i) w t x h k = behind-same r id v u i w t x h k
+takes-same r id v u (After i) w t x h k = after-same r id v u i w t x h k
 
 -- ---- the places of a request
 
@@ -188,16 +188,16 @@ follows_most req.Close = max_owned
 follows_most (req.Multi parts) = length parts
 follows_most _ = 0
 
-abbrev behind_places : ℕ → List Place
-behind_places zero = []
-behind_places (suc n) = Behind n ∷ behind_places n
+abbrev after_places : ℕ → List Place
+after_places zero = []
+after_places (suc n) = After n ∷ after_places n
 
 abbrev places : Request → ℤ → List Place
-places r id = map Fixed (fixed_wants r id) ++ behind_places (follows_most r)
+places r id = map Fixed (fixed_wants r id) ++ after_places (follows_most r)
 
-behind-in : (i n : ℕ) → i < n → In (Behind i) (behind_places n)
-behind-in i zero lt = absurd (omega (arith, lt))
-behind-in i (suc n) lt = elim (last i n lt) [ inl e ↦ inl (ap Behind (sym e)) | inr less ↦ inr (behind-in i n less) ]
+after-in : (i n : ℕ) → i < n → In (After i) (after_places n)
+after-in i zero lt = absurd (omega (arith, lt))
+after-in i (suc n) lt = elim (last i n lt) [ inl e ↦ inl (ap After (sym e)) | inr less ↦ inr (after-in i n less) ]
   where
     last : (i n : ℕ) → i < suc n → (i ≡ n) ⊎ (i < n)
     last i n lt = grind arith
@@ -209,10 +209,10 @@ record HasPlace (r : Request) (id : ℤ) (v : View) (free : List Place) (w : Wan
   takes : Takes r id v place w
 
 fixed-place : (r : Request) (id : ℤ) (v : View) (w : Want) → In w (fixed_wants r id) → HasPlace r id v (places r id) w
-fixed-place r id v w h = record { place = Fixed w; among = in_left (Fixed w) (map Fixed (fixed_wants r id)) (behind_places (follows_most r)) (in_mapped Fixed w (fixed_wants r id) h); takes = refl }
+fixed-place r id v w h = record { place = Fixed w; among = in_left (Fixed w) (map Fixed (fixed_wants r id)) (after_places (follows_most r)) (in_mapped Fixed w (fixed_wants r id) h); takes = refl }
 
-behind-place : (r : Request) (id : ℤ) (v : View) (w : Want) (i : ℕ) → i < follows_most r → FollowsAt r id v i w → HasPlace r id v (places r id) w
-behind-place r id v w i lt h = record { place = Behind i; among = in_right (Behind i) (map Fixed (fixed_wants r id)) (behind_places (follows_most r)) (behind-in i (follows_most r) lt); takes = h }
+after-place : (r : Request) (id : ℤ) (v : View) (w : Want) (i : ℕ) → i < follows_most r → FollowsAt r id v i w → HasPlace r id v (places r id) w
+after-place r id v w i lt h = record { place = After i; among = in_right (After i) (map Fixed (fixed_wants r id)) (after_places (follows_most r)) (after-in i (follows_most r) lt); takes = h }
 
 -- the index of a part from which something follows
 from-part : (id : ℤ) (v : View) (before parts : List Part) (w : Want) → FollowsFrom id v before parts w → (i : ℕ) × (i < length parts) × FollowsPartAt id v before parts i w
@@ -229,15 +229,15 @@ listed-place : (r : Request) (id : ℤ) (v : View) (w : Want) → In w (listings
 listed-place r id v w h = fixed-place r id v w (inr (inr (in_right w (map key_want (reads r id)) (listings r) h)))
 
 follows-place : (r : Request) (id : ℤ) (v : View) (w : Want) → AreFew id v → Follows r id v w → HasPlace r id v (places r id) w
-follows-place (req.Create p d a f) id v w few h = behind-place (req.Create p d a f) id v w 0 (omega arith) h
-follows-place (req.Delete p x) id v w few h = behind-place (req.Delete p x) id v w 0 (omega arith) h
+follows-place (req.Create p d a f) id v w few h = after-place (req.Create p d a f) id v w 0 (omega arith) h
+follows-place (req.Delete p x) id v w few h = after-place (req.Delete p x) id v w 0 (omega arith) h
 follows-place (req.GetChildren p x) id v w few h = listed-place (req.GetChildren p x) id v w (inl (sym h))
 follows-place (req.GetChildren2 p x) id v w few h = listed-place (req.GetChildren2 p x) id v w (inl (sym h))
 follows-place req.Close id v w few (ps, p, q, saw, has, e, is) =
     let at = contained-at ps p (contains_in p ps has) in
     let most = few saw.1.0 ps saw.1.1 (saw.0, saw.1.2) in
-    behind-place req.Close id v w at.0 (omega (arith, at.1, most)) (ps, p, q, saw, at.2, e, is)
-follows-place (req.Multi parts) id v w few h = let t = from-part id v [] parts w h in behind-place (req.Multi parts) id v w t.0 t.1 t.2
+    after-place req.Close id v w at.0 (omega (arith, at.1, most)) (ps, p, q, saw, at.2, e, is)
+follows-place (req.Multi parts) id v w few h = let t = from-part id v [] parts w h in after-place (req.Multi parts) id v w t.0 t.1 t.2
 follows-place _ id v w few h = absurd h
 
 read-place : (r : Request) (who : Who) (v : View) (w : Want) → AreFew who.session v → IsRead r who v w → HasPlace r who.session v (places r who.session) w
@@ -397,13 +397,13 @@ reads-length req.Ping id = omega arith
 reads-length (req.Auth kind scheme auth) id = omega arith
 reads-length (req.Multi parts) id = omega (arith, parts-length id parts)
 
-behind-length : (n : ℕ) → length (behind_places n) ≡ n
-behind-length zero = refl
-behind-length (suc n) = omega (arith, behind-length n)
+after-length : (n : ℕ) → length (after_places n) ≡ n
+after-length zero = refl
+after-length (suc n) = omega (arith, after-length n)
 
 places-length : (r : Request) (id : ℤ) → length (places r id) ≤ looks r
 places-length r id =
-    omega (arith, length-append (map Fixed (fixed_wants r id)) (behind_places (follows_most r)), length-map (fixed_wants r id) Fixed, length-append (map key_want (reads r id)) (listings r), length-map (reads r id) key_want, behind-length (follows_most r), reads-length r id)
+    omega (arith, length-append (map Fixed (fixed_wants r id)) (after_places (follows_most r)), length-map (fixed_wants r id) Fixed, length-append (map key_want (reads r id)) (listings r), length-map (reads r id) key_want, after-length (follows_most r), reads-length r id)
 
 -- ---- so it ends
 

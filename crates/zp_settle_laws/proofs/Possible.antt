@@ -34,12 +34,12 @@ use Rattle.zp_step.specs.declared.input.Input.TheVariants as input
 use Rattle.zp_step.specs.declared.input.Input.{Input}
 use Rattle.zp_script.specs.Carrying.{CarriedBy, CarriesOut, Executes, ExecutesStray, HasStore, ShowsUpdate, update_line}
 use Rattle.zp_script.specs.Effects.{EndsBy, LagsBy, LapsesTo, PutTo, new_reap, new_reaper, opened, restarted}
-use Rattle.zp_script.specs.Entries.{IsEntryOf, cursor_at, entry_behind, is_lagging, max_kept, next_entry}
+use Rattle.zp_script.specs.Entries.{IsEntryOf, cursor_at, entry_after, is_lagging, max_kept, next_entry}
 use Rattle.zp_script.specs.Faults.{carry_fault, connection_fault, entry_fault, fault, flight_at, full_fault, if_fails, is_kept_key, is_reaper_at, is_to_carry_out, left_at, open_fault}
 use Rattle.zp_script.specs.Handing.{FailureComes, FailureComesTo, Handed, Reaps, landed}
 use Rattle.zp_script.specs.Kinds.{kind_asked}
 use Rattle.zp_script.specs.StepOutcomes.{acts_all, ended_by, leaves, reap_acts}
-use Rattle.zp_script.specs.Worlds.{Actor, Closed, Conn, Connection, Reaper, World, behind_reap, behind_step, conn_at, is_closed, is_reaper, with_conn, zxid_at}
+use Rattle.zp_script.specs.Worlds.{Actor, Closed, Conn, Connection, Reaper, World, after_reap, after_step, conn_at, is_closed, is_reaper, with_conn, zxid_at}
 use Rattle.zp_script.specs.declared.flight.Asking.{Asking}
 use Rattle.zp_script.specs.declared.flight.Flight.TheVariants.{Carried, Denied, Out}
 use Rattle.zp_script.specs.declared.flight.Flight.{Flight}
@@ -123,7 +123,7 @@ ends-somehow core i why_so now h = go (is_shut core.stage) refl
 -- what is handed in leads to a world
 handed-somehow : (c : ℕ) (w : World) (x : Conn) (core : Core) (i : Input) → conn_at c w ≡ Some x → x.actor ≡ Connection core → StepsSome core i w.clock → (w' : World) × Handed c [] w i w'
 handed-somehow c w x core i there actor s =
-    (leaves c w x (behind_step s.next) (acts_all c (kind_asked c (Connection s.next)) [] x.flight s.out), record { conn = x; core = core; found = there; serving = actor; next = s.next; out = s.out; stepped = s.stepped; result = refl })
+    (leaves c w x (after_step s.next) (acts_all c (kind_asked c (Connection s.next)) [] x.flight s.out), record { conn = x; core = core; found = there; serving = actor; next = s.next; out = s.out; stepped = s.stepped; result = refl })
 
 fails-somehow : (c : ℕ) (w : World) (x : Conn) (a : Actor) → x.actor ≡ a → conn_at c w ≡ Some x → is_closed a ≡ false → (w' : World) × FailureComesTo c w x w' a
 fails-somehow c w x (Connection core) e there alive = handed-somehow c w x core input.Failed there e (ends-somehow core input.Failed cause.LinkFault w.clock (refl, refl))
@@ -229,7 +229,7 @@ lags-somehow c w free = go (cursor_at c w) refl
         (passes (is_none (next_entry c w)) why.NoEntry (if_fails (not (is_lagging c w)) why.NoLag None) q.1).0
 
     go : (o : Option ℤ) → cursor_at c w ≡ o → (w' : World) × LagsBy c w w' o
-    go None e = (let f : true ≡ false = sym (ap (λ o. is_none (option_and_then (entry_behind w.entries) o)) e) ∙ p in absurd (cc))
+    go None e = (let f : true ≡ false = sym (ap (λ o. is_none (option_and_then (entry_after w.entries) o)) e) ∙ p in absurd (cc))
     go (Some z) e =
         handed-somehow c w t.conn t.core (input.Lagged z (pos (length w.entries - max_kept))) t.there t.actor (ends-somehow t.core (input.Lagged z (pos (length w.entries - max_kept))) (cause.Lagged z (pos (length w.entries - max_kept))) w.clock (refl, refl))
 
@@ -264,7 +264,7 @@ puts-somehow k v w free =
 
 reaps-somehow : (c p : ℕ) (id : ℤ) (w : World) → (w' : World) × Reaps c w None w' (new_reaper p id) (new_reap id)
 reaps-somehow c p id w = (
-  leaves c w (new_reaper p id) (behind_reap (record { session = id; phase = Looking })) (reap_acts c (kind_asked c (Reaper (record { session = id; phase = Looking }))) None (reaped.Ask (reading (pos 0) (first_wants id)))),
+  leaves c w (new_reaper p id) (after_reap (record { session = id; phase = Looking })) (reap_acts c (kind_asked c (Reaper (record { session = id; phase = Looking }))) None (reaped.Ask (reading (pos 0) (first_wants id)))),
   inr (record { step = reaped.Ask (reading (pos 0) (first_wants id)); next = record { session = id; phase = Looking }; stepped = record { same = refl; moves = (refl, refl) }; result = refl }),
 )
 

@@ -84,8 +84,8 @@ ReapThen s id (reaped.Ask q) phase k = ReapOut s id phase q k
 ReapThen s id _ phase k = phase ≡ Over
 
 -- whatever the answer leads to
-abbrev pub ReapBehind : Store → Reap → Answer → ℕ → Type 0
-ReapBehind s r a k = (step : ReapStep) (next : Reap) → ReapSteps r (Some a) step next → ReapThen s r.session step next.phase k
+abbrev pub ReapAfter : Store → Reap → Answer → ℕ → Type 0
+ReapAfter s r a k = (step : ReapStep) (next : Reap) → ReapSteps r (Some a) step next → ReapThen s r.session step next.phase k
 
 -- ---- what is looked up first
 
@@ -185,7 +185,7 @@ module _ (s : Store) (r : Reap) (k : ℕ) (le : 5 ≤ k) where
   of-answer (answer.Granted z i ttl) phase step h = absurd h
   of-answer (answer.Alive z i ttl) phase step h = absurd h
 
-  pub reap-most : (a : Answer) → ReapBehind s r a k
+  pub reap-most : (a : Answer) → ReapAfter s r a k
   reap-most a = λ step next t. of-answer a next.phase step t.moves
 
 -- ---- it is carried out
@@ -194,7 +194,7 @@ module _ (s u : Store) (r : Reap) (a : Answer) where
   id : ℤ
   id = r.session
 
-  by-steps : (z : ℤ) (b : Bool) (parts : List ActAns) (p : Phase) (j : ℕ) → a ≡ answer.Txn z b parts → r.phase ≡ p → ((phase : Phase) (step : ReapStep) → Answered r.session p z b parts phase step → ReapThen u r.session step phase j) → ReapBehind u r a j
+  by-steps : (z : ℤ) (b : Bool) (parts : List ActAns) (p : Phase) (j : ℕ) → a ≡ answer.Txn z b parts → r.phase ≡ p → ((phase : Phase) (step : ReapStep) → Answered r.session p z b parts phase step → ReapThen u r.session step phase j) → ReapAfter u r a j
   by-steps z b parts p j is e f = λ step next t. f next.phase step (subst (λ y. Answered r.session y z b parts next.phase step) e (subst (λ y. OfTxn y (λ m c ps. Answered r.session r.phase m c ps next.phase step)) is t.moves))
 
   -- the first look: what it asks for next is all that is read
@@ -283,40 +283,40 @@ module _ (s u : Store) (r : Reap) (a : Answer) where
       by false real (tested, inr c) = asks-then u r.session v phase step j (Counting v.revision (all c.wants)) (reading v.revision (all c.wants))
           (inl (subst (λ t. Covers t r.session v.revision (all c.wants)) (sym same) (covered z parts c.wants real now long agrees (c.lacking).needs), le)) c.asks
 
-  looking-behind : (k : ℕ) (q : Ask) → r.phase ≡ Looking → q ≡ reading (pos 0) (first_wants r.session) → carry s q ≡ Some (u, a) → 3 ≤ k → Done k (ReapBehind u r a)
-  looking-behind k q e is h n =
+  looking-after : (k : ℕ) (q : Ask) → r.phase ≡ Looking → q ≡ reading (pos 0) (first_wants r.session) → carry s q ≡ Some (u, a) → 3 ≤ k → Done k (ReapAfter u r a)
+  looking-after k q e is h n =
       let ht : carry s (reading (pos 0) (first_wants r.session)) ≡ Some (u, a) = ap (carry s) (sym is) ∙ h in
       let d = is-read s u (pos 0) (first_wants r.session) a ht in
       let v = first-shown s u (first_wants r.session) (revision u) true d.parts (ht ∙ ap (λ y. Some (u, y)) d.is) in
-      done-one k (ReapBehind u r a) (omega (arith, n)) (λ j f. by-steps (revision u) true d.parts Looking j d.is e (λ phase step h.
+      done-one k (ReapAfter u r a) (omega (arith, n)) (λ j f. by-steps (revision u) true d.parts Looking j d.is e (λ phase step h.
       looked-now (revision u) d.parts phase step j (omega (arith, n, f)) d.same (ap revision d.same) d.long (v.1).agrees h))
 
-  counting-behind : (k : ℕ) (q : Ask) (z : ℤ) (ws : List Want) → r.phase ≡ Counting z ws → IsStanding s z × (q ≡ reading z ws) → carry s q ≡ Some (u, a) → (Covers s r.session z ws × (2 ≤ k)) ⊎ (5 ≤ k) → Done k (ReapBehind u r a)
-  counting-behind k q z ws e (st, is) h (inr n) =
+  counting-after : (k : ℕ) (q : Ask) (z : ℤ) (ws : List Want) → r.phase ≡ Counting z ws → IsStanding s z × (q ≡ reading z ws) → carry s q ≡ Some (u, a) → (Covers s r.session z ws × (2 ≤ k)) ⊎ (5 ≤ k) → Done k (ReapAfter u r a)
+  counting-after k q z ws e (st, is) h (inr n) =
       let ht : carry s (reading z ws) ≡ Some (u, a) = ap (carry s) (sym is) ∙ h in
       let d = is-read s u z ws a ht in
-      done-one k (ReapBehind u r a) (omega (arith, n)) (λ j f. by-steps (revision u) true d.parts (Counting z ws) j d.is e (λ phase step h. elim (h.1) [
+      done-one k (ReapAfter u r a) (omega (arith, n)) (λ j f. by-steps (revision u) true d.parts (Counting z ws) j d.is e (λ phase step h. elim (h.1) [
         | inl t ↦ decides-then u r.session (viewed z ws d.parts) phase step j (λ p plan. omega (arith, n, f, look-most (succeeds u (plan_txn p)))) t
         | inr l ↦ looked-at-then u r.session (viewed z ws d.parts) phase step j (omega (arith, n, f)) l
       ]))
-  counting-behind k q z ws e (st, is) h (inl (cover, n)) =
+  counting-after k q z ws e (st, is) h (inl (cover, n)) =
       let ht : carry s (reading z ws) ≡ Some (u, a) = ap (carry s) (sym is) ∙ h in
       let d = is-read s u z ws a ht in
       let last : st.number ≡ length s.revisions = (let at : pos st.number ≡ revision s = sym st.is ∙ cover.now in omega (arith, ints, at)) in
       let shown = later-shown s u (at_revision empty_view z) st.number ws (revision u) true d.parts st.is st.begun (nothing-agrees z (store_at s st.number)) (ht ∙ ap (λ y. Some (u, y)) d.is) in
       let agrees : Agrees (viewed z ws d.parts) (present s) = subst (λ n. Agrees (viewed z ws d.parts) (store_at s n)) last shown.agrees in
-      done-one k (ReapBehind u r a) (omega (arith, n)) (λ j f. by-steps (revision u) true d.parts (Counting z ws) j d.is e (λ phase step h. elim (h.1) [
+      done-one k (ReapAfter u r a) (omega (arith, n)) (λ j f. by-steps (revision u) true d.parts (Counting z ws) j d.is e (λ phase step h. elim (h.1) [
         | inl t ↦ decides-now (viewed z ws d.parts) phase step j (omega (arith, n, f)) d.same agrees t
         | inr l ↦ absurd (none-lacks z ws d.parts l.wants cover (omega (arith, d.long)) agrees l.lacking)
       ]))
 
-  removing-behind : (k : ℕ) (q : Ask) (again : List Want) (p : Plan) → r.phase ≡ Removing again → p.again ≡ again → q ≡ transaction p → carry s q ≡ Some (u, a) → 1 + look_again (is_done_now s q) ≤ k → Done k (ReapBehind u r a)
-  removing-behind k q again p e same_again is h n = done-one k (ReapBehind u r a) (omega (arith, n)) (λ j f. go j (omega (arith, f, n, ap (λ y. look_again (is_done_now s y)) is)) (succeeds s (plan_txn p)) refl)
+  removing-after : (k : ℕ) (q : Ask) (again : List Want) (p : Plan) → r.phase ≡ Removing again → p.again ≡ again → q ≡ transaction p → carry s q ≡ Some (u, a) → 1 + look_again (is_done_now s q) ≤ k → Done k (ReapAfter u r a)
+  removing-after k q again p e same_again is h n = done-one k (ReapAfter u r a) (omega (arith, n)) (λ j f. go j (omega (arith, f, n, ap (λ y. look_again (is_done_now s y)) is)) (succeeds s (plan_txn p)) refl)
     where
       ht : carry s (transaction p) ≡ Some (u, a)
       ht = ap (carry s) (sym is) ∙ h
 
-      go : (j : ℕ) → look_again (succeeds s (plan_txn p)) ≤ j → (b : Bool) → succeeds s (plan_txn p) ≡ b → ReapBehind u r a j
+      go : (j : ℕ) → look_again (succeeds s (plan_txn p)) ≤ j → (b : Bool) → succeeds s (plan_txn p) ≡ b → ReapAfter u r a j
       go j m true g =
           let b = txn-answered s u (plan_txn p) a ht in
           by-steps (revision u) true b.0 (Removing again) j (b.1 ∙ ap (λ y. answer.Txn (revision u) y b.0) g) e (λ phase step h. subst (λ t. ReapThen u r.session t phase j) (sym h.1) h.0)
@@ -329,9 +329,9 @@ module _ (s u : Store) (r : Reap) (a : Answer) where
             | inr l ↦ looked-at-then u r.session (viewed (revision u) again d.parts) phase step j three l
           ])
 
-  pub reap-behind : (k : ℕ) (q : Ask) (p : Phase) → r.phase ≡ p → IsReapAsk s r.session p q → carry s q ≡ Some (u, a) → ReapOut s r.session p q k → Done k (ReapBehind u r a)
-  reap-behind k q Unasked e w h n = absurd w
-  reap-behind k q Looking e w h n = looking-behind k q e w h n
-  reap-behind k q (Counting z ws) e w h n = counting-behind k q z ws e w h n
-  reap-behind k q (Removing again) e (p, same_again, is, bound) h n = removing-behind k q again p e same_again is h n
-  reap-behind k q Over e w h n = absurd w
+  pub reap-after : (k : ℕ) (q : Ask) (p : Phase) → r.phase ≡ p → IsReapAsk s r.session p q → carry s q ≡ Some (u, a) → ReapOut s r.session p q k → Done k (ReapAfter u r a)
+  reap-after k q Unasked e w h n = absurd w
+  reap-after k q Looking e w h n = looking-after k q e w h n
+  reap-after k q (Counting z ws) e w h n = counting-after k q z ws e w h n
+  reap-after k q (Removing again) e (p, same_again, is, bound) h n = removing-after k q again p e same_again is h n
+  reap-after k q Over e w h n = absurd w

@@ -40,7 +40,7 @@ use Rattle.zp_script.specs.Happens.{Happens, Settles, max_settling}
 use Rattle.zp_script.specs.Kinds.{kind_asked}
 use Rattle.zp_script.specs.Runs.{IsFirst}
 use Rattle.zp_script.specs.StepOutcomes.{StepOutcome, acts, acts_all, ended_by, leaves, quiet, reap_acts}
-use Rattle.zp_script.specs.Worlds.{Actor, Closed, Conn, Connection, Reaper, World, behind_reap, behind_step, conn_at, is_open_conn, is_over, with_conn, zxid_at}
+use Rattle.zp_script.specs.Worlds.{Actor, Closed, Conn, Connection, Reaper, World, after_reap, after_step, conn_at, is_open_conn, is_over, with_conn, zxid_at}
 use Rattle.zp_script.specs.declared.flight.Asking.{Asking}
 use Rattle.zp_script.specs.declared.flight.Flight.TheVariants.{Carried, Denied, Out}
 use Rattle.zp_script.specs.declared.flight.Flight.{Flight}
@@ -115,28 +115,28 @@ module _ (damage : Bool) where
 
   -- ---- a step
 
-  acts-fine : (c : ℕ) (kind : Option UpdateKind) (behind : List TranscriptLine) (out : List Action) (o : StepOutcome) → AllFine behind → AreFine damage out → AllFine o.lines → AllFine (fold (acts c kind behind) o out).lines
-  acts-fine c kind behind [] o b f k = k
-  acts-fine c kind behind (action.Send bytes ∷ out) o b f k = acts-fine c kind behind out (acts c kind behind o (action.Send bytes)) b f (more-fine o.lines (Send c bytes ∷ []) k (one-fine (Send c bytes) tt))
-  acts-fine c kind behind (action.Ask a ∷ out) o b f k = acts-fine c kind behind out (acts c kind behind o (action.Ask a)) b f k
-  acts-fine c kind behind (action.Close why ∷ out) o b f k =
-      acts-fine c kind behind out (acts c kind behind o (action.Close why)) b f.1
-      (more-fine (o.lines ++ behind) (Close c (ended.Cause why) ∷ []) (more-fine o.lines behind k b) (one-fine (Close c (ended.Cause why)) f.0))
+  acts-fine : (c : ℕ) (kind : Option UpdateKind) (after : List TranscriptLine) (out : List Action) (o : StepOutcome) → AllFine after → AreFine damage out → AllFine o.lines → AllFine (fold (acts c kind after) o out).lines
+  acts-fine c kind after [] o b f k = k
+  acts-fine c kind after (action.Send bytes ∷ out) o b f k = acts-fine c kind after out (acts c kind after o (action.Send bytes)) b f (more-fine o.lines (Send c bytes ∷ []) k (one-fine (Send c bytes) tt))
+  acts-fine c kind after (action.Ask a ∷ out) o b f k = acts-fine c kind after out (acts c kind after o (action.Ask a)) b f k
+  acts-fine c kind after (action.Close why ∷ out) o b f k =
+      acts-fine c kind after out (acts c kind after o (action.Close why)) b f.1
+      (more-fine (o.lines ++ after) (Close c (ended.Cause why) ∷ []) (more-fine o.lines after k b) (one-fine (Close c (ended.Cause why)) f.0))
 
-  step-actor : (next : Core) → IsFineIn damage next.stage → IsFineActor damage (behind_step next)
+  step-actor : (next : Core) → IsFineIn damage next.stage → IsFineActor damage (after_step next)
   step-actor next f = go (is_shut next.stage)
     where
       go : (b : Bool) → IsFineActor damage (if b then Closed else Connection next)
       go true = tt
       go false = f
 
-  handed-fine : (w w' : World) (c : ℕ) (behind : List TranscriptLine) (i : Input) (hd : Handed c behind w i w') → AllFine behind → is_feed i ≡ false → Undamaged damage hd.core i → IsFineWorld damage w → IsFineWorld damage w'
-  handed-fine w w' c behind i hd b q u k =
+  handed-fine : (w w' : World) (c : ℕ) (after : List TranscriptLine) (i : Input) (hd : Handed c after w i w') → AllFine after → is_feed i ≡ false → Undamaged damage hd.core i → IsFineWorld damage w → IsFineWorld damage w'
+  handed-fine w w' c after i hd b q u k =
       let was : IsFineActor damage (Connection hd.core) = subst (IsFineActor damage) hd.serving (k.actors c hd.conn hd.found) in
       let s = fine-steps damage hd.core hd.next i w.clock hd.out q u was hd.stepped in
-      fine-to (leaves c w hd.conn (behind_step hd.next) (acts_all c (kind_asked c (Connection hd.next)) behind hd.conn.flight hd.out)) w' hd.result
-      (leaves-fine w c hd.conn (behind_step hd.next) (acts_all c (kind_asked c (Connection hd.next)) behind hd.conn.flight hd.out)
-      (acts-fine c (kind_asked c (Connection hd.next)) behind hd.out (quiet hd.conn.flight) b s.acts none-fine) (step-actor hd.next s.stage) k)
+      fine-to (leaves c w hd.conn (after_step hd.next) (acts_all c (kind_asked c (Connection hd.next)) after hd.conn.flight hd.out)) w' hd.result
+      (leaves-fine w c hd.conn (after_step hd.next) (acts_all c (kind_asked c (Connection hd.next)) after hd.conn.flight hd.out)
+      (acts-fine c (kind_asked c (Connection hd.next)) after hd.out (quiet hd.conn.flight) b s.acts none-fine) (step-actor hd.next s.stage) k)
 
   -- ---- what is carried out
 
@@ -181,7 +181,7 @@ module _ (damage : Bool) where
   reap-lines c kind f (reaped.Kept z) = one-fine (Close c (ended.Kept z)) tt
   reap-lines c kind f (reaped.Gone z) = one-fine (Close c (ended.Gone z)) tt
 
-  reap-actor : (next : Reap) → IsFineActor damage (behind_reap next)
+  reap-actor : (next : Reap) → IsFineActor damage (after_reap next)
   reap-actor next = go (is_over next.phase)
     where
       go : (b : Bool) → IsFineActor damage (if b then Closed else Reaper next)
@@ -192,8 +192,8 @@ module _ (damage : Bool) where
   reaps-fine w w' c x r a u (inl e) k =
       fine-to (leaves c w x Closed (ended_by c (cause.Damaged e.key e.value) x.flight)) w' e.result (leaves-fine w c x Closed (ended_by c (cause.Damaged e.key e.value) x.flight) (one-fine (Close c (ended.Cause (cause.Damaged e.key e.value))) (u e.key e.value e.found)) tt k)
   reaps-fine w w' c x r a u (inr s) k =
-      fine-to (leaves c w x (behind_reap s.next) (reap_acts c (kind_asked c (Reaper s.next)) x.flight s.step)) w' s.result
-      (leaves-fine w c x (behind_reap s.next) (reap_acts c (kind_asked c (Reaper s.next)) x.flight s.step) (reap-lines c (kind_asked c (Reaper s.next)) x.flight s.step) (reap-actor s.next) k)
+      fine-to (leaves c w x (after_reap s.next) (reap_acts c (kind_asked c (Reaper s.next)) x.flight s.step)) w' s.result
+      (leaves-fine w c x (after_reap s.next) (reap_acts c (kind_asked c (Reaper s.next)) x.flight s.step) (reap-lines c (kind_asked c (Reaper s.next)) x.flight s.step) (reap-actor s.next) k)
 
   failure-fine : (w w' : World) (c : ℕ) (x : Conn) (actor : Actor) → FailureComesTo c w x w' actor → IsFineWorld damage w → IsFineWorld damage w'
   failure-fine w w' c x (Connection core) h k = handed-fine w w' c [] input.Failed h none-fine refl (λ key value f. absurd f) k

@@ -47,7 +47,7 @@ use Rattle.zp_script.specs.Happens.{Effect, Happens, Settles, max_settling, sett
 use Rattle.zp_script.specs.Kinds.{kind_asked}
 use Rattle.zp_script.specs.Runs.{IsFirst, Runs, RunsFrom, world_over}
 use Rattle.zp_script.specs.StepOutcomes.{StepOutcome, acts, acts_all, ended_by, leaves, quiet, reap_acts}
-use Rattle.zp_script.specs.Worlds.{Actor, Closed, Conn, Connection, Reaper, World, behind_reap, behind_step, conn_at, is_open_conn, is_over, with_conn, zxid_at}
+use Rattle.zp_script.specs.Worlds.{Actor, Closed, Conn, Connection, Reaper, World, after_reap, after_step, conn_at, is_open_conn, is_over, with_conn, zxid_at}
 use Rattle.zp_script.specs.declared.flight.Asking.{Asking}
 use Rattle.zp_script.specs.declared.flight.Flight.TheVariants.{Carried, Denied, Out}
 use Rattle.zp_script.specs.declared.flight.Flight.{Flight}
@@ -135,14 +135,14 @@ closed-roomy w c x o r = leaves-roomy w c x Closed o (λ core e. absurd (closed-
 -- ---- a step
 
 -- what is denied after a step was denied before it, and nothing was asked
-acts-denied : (c : ℕ) (kind : Option UpdateKind) (behind : List TranscriptLine) (out : List Action) (o : StepOutcome) → ends_well out ≡ true → closes out ≡ false → (fold (acts c kind behind) o out).flight ≡ Some Denied → o.flight ≡ Some Denied
-acts-denied c kind behind [] o h k e = e
-acts-denied c kind behind (action.Send bytes ∷ out) o h k e = acts-denied c kind behind out (acts c kind behind o (action.Send bytes)) h k e
-acts-denied c kind behind (action.Ask a ∷ out) o h k e = absurd (out-denied (record { ask = a; kind = kind }) (ap (λ l. (fold (acts c kind behind) (acts c kind behind o (action.Ask a)) l).flight) (sym (ended-out out h)) ∙ e))
+acts-denied : (c : ℕ) (kind : Option UpdateKind) (after : List TranscriptLine) (out : List Action) (o : StepOutcome) → ends_well out ≡ true → closes out ≡ false → (fold (acts c kind after) o out).flight ≡ Some Denied → o.flight ≡ Some Denied
+acts-denied c kind after [] o h k e = e
+acts-denied c kind after (action.Send bytes ∷ out) o h k e = acts-denied c kind after out (acts c kind after o (action.Send bytes)) h k e
+acts-denied c kind after (action.Ask a ∷ out) o h k e = absurd (out-denied (record { ask = a; kind = kind }) (ap (λ l. (fold (acts c kind after) (acts c kind after o (action.Ask a)) l).flight) (sym (ended-out out h)) ∙ e))
   where
     out-denied : (x : Asking) → Some (Out x) ≡ Some Denied → ⊥
     out-denied x f = cc
-acts-denied c kind behind (action.Close why ∷ out) o h k e = absurd (true-false k)
+acts-denied c kind after (action.Close why ∷ out) o h k e = absurd (true-false k)
 
 busy-waits : (core : Core) (e : Entry) (st : Stage) → is_busy st ≡ true → then_reply (entered core e) st ≡ entered core e
 busy-waits core e (Connecting x) h = refl
@@ -186,7 +186,7 @@ busy-stays core next i now out busy opens open' idle h = go i refl
     go input.FeedClosed e = ends cause.FeedClosed (ap end_by e)
     go (input.ClientEnd place) e = ends (cause.ClientEnd place) (ap end_by e)
 
-module _ (w w' : World) (c : ℕ) (behind : List TranscriptLine) (i : Input) (hd : Handed c behind w i w') (r : IsRoomy w) (idle : (a : Answer) → i ≡ input.Answer a → hd.conn.flight ≡ None) where
+module _ (w w' : World) (c : ℕ) (after : List TranscriptLine) (i : Input) (hd : Handed c after w i w') (r : IsRoomy w) (idle : (a : Answer) → i ≡ input.Answer a → hd.conn.flight ≡ None) where
   was : IsRoomyAt w.store hd.conn hd.core
   was = r.conns c hd.conn hd.core hd.found hd.serving
 
@@ -197,14 +197,14 @@ module _ (w w' : World) (c : ℕ) (behind : List TranscriptLine) (i : Input) (hd
       go false e = refl
       go true e = absurd (true-false (sym e ∙ ap (λ (d : Core). is_shut d.stage) (sym (shut-for-good hd.core hd.next i w.clock hd.out e hd.stepped).0) ∙ going))
 
-  denied-before : is_shut hd.next.stage ≡ false → (acts_all c (kind_asked c (Connection hd.next)) behind hd.conn.flight hd.out).flight ≡ Some Denied → (hd.conn.flight ≡ Some Denied) × (hd.next.stage ≡ hd.core.stage)
+  denied-before : is_shut hd.next.stage ≡ false → (acts_all c (kind_asked c (Connection hd.next)) after hd.conn.flight hd.out).flight ≡ Some Denied → (hd.conn.flight ≡ Some Denied) × (hd.next.stage ≡ hd.core.stage)
   denied-before going denied =
       let opens = opened-before going in
       let e = steps_end_well hd.core hd.next i w.clock hd.out opens hd.stepped in
-      let before = acts-denied c (kind_asked c (Connection hd.next)) behind hd.out (quiet hd.conn.flight) e.well (e.closes ∙ going) denied in
+      let before = acts-denied c (kind_asked c (Connection hd.next)) after hd.out (quiet hd.conn.flight) e.well (e.closes ∙ going) denied in
       (before, busy-stays hd.core hd.next i w.clock hd.out (was.busy before) opens going (λ a f. none_some (sym (idle a f) ∙ before)) hd.stepped)
 
-  next-roomy : is_shut hd.next.stage ≡ false → IsRoomyAt w.store (record (hd.conn) { actor = Connection hd.next; flight = (acts_all c (kind_asked c (Connection hd.next)) behind hd.conn.flight hd.out).flight }) hd.next
+  next-roomy : is_shut hd.next.stage ≡ false → IsRoomyAt w.store (record (hd.conn) { actor = Connection hd.next; flight = (acts_all c (kind_asked c (Connection hd.next)) after hd.conn.flight hd.out).flight }) hd.next
   next-roomy going = record {
     few = few-steps hd.core hd.next i w.clock hd.out was.few hd.stepped;
     busy = λ denied. (let b = denied-before going denied in ap is_busy b.1 ∙ was.busy b.0);
@@ -212,13 +212,13 @@ module _ (w w' : World) (c : ℕ) (behind : List TranscriptLine) (i : Input) (hd
   }
 
   left-roomy : (b : Bool) → is_shut hd.next.stage ≡ b
-      → IsRoomyAs w.store (record (hd.conn) { actor = if b then Closed else Connection hd.next; flight = (acts_all c (kind_asked c (Connection hd.next)) behind hd.conn.flight hd.out).flight })
+      → IsRoomyAs w.store (record (hd.conn) { actor = if b then Closed else Connection hd.next; flight = (acts_all c (kind_asked c (Connection hd.next)) after hd.conn.flight hd.out).flight })
   left-roomy true e core a = absurd (closed-core core a)
-  left-roomy false e core a = subst (IsRoomyAt w.store (record (hd.conn) { actor = Connection hd.next; flight = (acts_all c (kind_asked c (Connection hd.next)) behind hd.conn.flight hd.out).flight })) (core-same hd.next core a) (next-roomy e)
+  left-roomy false e core a = subst (IsRoomyAt w.store (record (hd.conn) { actor = Connection hd.next; flight = (acts_all c (kind_asked c (Connection hd.next)) after hd.conn.flight hd.out).flight })) (core-same hd.next core a) (next-roomy e)
 
   pub handed-roomy : IsRoomy w'
-  handed-roomy = roomy-to (leaves c w hd.conn (behind_step hd.next) (acts_all c (kind_asked c (Connection hd.next)) behind hd.conn.flight hd.out)) w' hd.result
-      (leaves-roomy w c hd.conn (behind_step hd.next) (acts_all c (kind_asked c (Connection hd.next)) behind hd.conn.flight hd.out) (left-roomy (is_shut hd.next.stage) refl) r)
+  handed-roomy = roomy-to (leaves c w hd.conn (after_step hd.next) (acts_all c (kind_asked c (Connection hd.next)) after hd.conn.flight hd.out)) w' hd.result
+      (leaves-roomy w c hd.conn (after_step hd.next) (acts_all c (kind_asked c (Connection hd.next)) after hd.conn.flight hd.out) (left-roomy (is_shut hd.next.stage) refl) r)
 
 -- ---- frames
 
@@ -350,8 +350,8 @@ landed-roomy w c r = go (conn_at c w) refl
 
 reaps-roomy : (w w' : World) (c : ℕ) (x : Conn) (q : Reap) (a : Option Answer) → Reaps c w a w' x q → IsRoomy w → IsRoomy w'
 reaps-roomy w w' c x q a (inl e) r = roomy-to (leaves c w x Closed (ended_by c (cause.Damaged e.key e.value) x.flight)) w' e.result (closed-roomy w c x (ended_by c (cause.Damaged e.key e.value) x.flight) r)
-reaps-roomy w w' c x q a (inr s) r = roomy-to (leaves c w x (behind_reap s.next) (reap_acts c (kind_asked c (Reaper s.next)) x.flight s.step)) w' s.result
-    (leaves-roomy w c x (behind_reap s.next) (reap_acts c (kind_asked c (Reaper s.next)) x.flight s.step) (by (is_over s.next.phase)) r)
+reaps-roomy w w' c x q a (inr s) r = roomy-to (leaves c w x (after_reap s.next) (reap_acts c (kind_asked c (Reaper s.next)) x.flight s.step)) w' s.result
+    (leaves-roomy w c x (after_reap s.next) (reap_acts c (kind_asked c (Reaper s.next)) x.flight s.step) (by (is_over s.next.phase)) r)
   where
     by : (b : Bool) (core : Core) → (if b then Closed else Reaper s.next) ≡ Connection core → IsRoomyAt w.store (record x { actor = if b then Closed else Reaper s.next; flight = (reap_acts c (kind_asked c (Reaper s.next)) x.flight s.step).flight }) core
     by true core e = absurd (closed-core core e)

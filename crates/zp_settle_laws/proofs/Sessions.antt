@@ -13,7 +13,7 @@ use Rattle.zk_model.specs.declared.request.Request.TheVariants as req
 use Rattle.zk_model.specs.declared.request.Request.{Request}
 use Rattle.zk_least.proofs.FirstPlaces.{first_place-at}
 use Rattle.zk_least.proofs.Rising.{state_at-end, state_at-line}
-use Rattle.zk_transcript.proofs.Attachments.{NoneBehind, attached-by_own_line}
+use Rattle.zk_transcript.proofs.Attachments.{NoneAfter, attached-by_own_line}
 use Rattle.zk_transcript.proofs.Conditions.{attach-shows}
 use Rattle.zk_transcript.proofs.Histories.{legal-begun, not-begin}
 use Rattle.zk_transcript.proofs.Lookups.{slice_get-front}
@@ -33,13 +33,13 @@ use Rattle.zp_laws.proofs.Updates.{legal-before}
 use Rattle.zp_world_laws.proofs.Kept.{true-false}
 use Rattle.zp_world_laws.proofs.Numbers.{number-same}
 use Rattle.zp_settle_laws.proofs.Open.{asked-sessions}
-use Rattle.zp_settle_laws.specs.Staying.{IsAttachedHere, closes_behind}
+use Rattle.zp_settle_laws.specs.Staying.{IsAttachedHere, closes_after}
 use Rattle.zp_settle_laws.specs.Undisturbed.{HasMildFrames, takes_session}
 
 -- ---- frames in a transcript
 
 abbrev pub IsMild : List ℕ → Type 0
-IsMild bytes = (has_header (read_request bytes) ≡ true) × (closes_behind (read_request bytes) ≡ false)
+IsMild bytes = (has_header (read_request bytes) ≡ true) × (closes_after (read_request bytes) ≡ false)
 
 -- what stands in the front stands there in the whole
 pub get-front : {A : Type 0} (xs ys : List A) (k : ℕ) (x : A) → slice_get xs k ≡ Some x → slice_get (xs ++ ys) k ≡ Some x
@@ -199,7 +199,7 @@ live-as id (Some e) h = let same = (Decides-int_eq id e.0).0 (and_parts (int_eq 
 closes-own : (before : List TranscriptLine) (s : State) (id : ℤ) (c i : ℕ) → MayClose before s id c i → (x : Session) × (attached_session c s ≡ Some (id, x))
 closes-own before s id c i m = live-as id (attached_session c s) m.live
 
-asked-close : (x : Frame) → is_closing (asked_in x) ≡ true → closes_behind x ≡ true
+asked-close : (x : Frame) → is_closing (asked_in x) ≡ true → closes_after x ≡ true
 asked-close NoHeader h = absurd (true-false (sym h))
 asked-close (Unreadable xid place) h = absurd (true-false (sym h))
 asked-close (Unknown xid kind) h = absurd (true-false (sym h))
@@ -209,16 +209,16 @@ asked-close (Asks xid r) h = absurd (other-close r h)
     other-close : (q : Request) → is_closing (Some q) ≡ true → ⊥
     other-close q g = cc
 
-pub close-frame : (c i : ℕ) (before : List TranscriptLine) → is_closing (request c i before) ≡ true → (bytes : List ℕ) × (frame c i before ≡ Some bytes) × (closes_behind (read_request bytes) ≡ true)
+pub close-frame : (c i : ℕ) (before : List TranscriptLine) → is_closing (request c i before) ≡ true → (bytes : List ℕ) × (frame c i before ≡ Some bytes) × (closes_after (read_request bytes) ≡ true)
 close-frame c i before h = go (frame c i before) h
   where
-    go : (o : Option (List ℕ)) → is_closing (option_and_then (λ bytes. asked_in (read_request bytes)) o) ≡ true → (bytes : List ℕ) × (o ≡ Some bytes) × (closes_behind (read_request bytes) ≡ true)
+    go : (o : Option (List ℕ)) → is_closing (option_and_then (λ bytes. asked_in (read_request bytes)) o) ≡ true → (bytes : List ℕ) × (o ≡ Some bytes) × (closes_after (read_request bytes) ≡ true)
     go None e = absurd (true-false (sym e))
     go (Some bytes) e = (bytes, refl, asked-close (read_request bytes) e)
 
 -- ---- in a transcript
 
-module _ (lines : List TranscriptLine) (c : ℕ) (k : ℕ) (a : Attachment) (legal : is_legal lines ≡ true) (own : attach_of c lines ≡ Some (k, a)) (least : pos 1 ≤ℤ a.session) (kept : NoneBehind (takes_session a.session) k lines) (mild : HasMildFrames c lines) where
+module _ (lines : List TranscriptLine) (c : ℕ) (k : ℕ) (a : Attachment) (legal : is_legal lines ≡ true) (own : attach_of c lines ≡ Some (k, a)) (least : pos 1 ≤ℤ a.session) (kept : NoneAfter (takes_session a.session) k lines) (mild : HasMildFrames c lines) where
   -- its own line
   the-line : (u : UpdateRec) × (slice_get lines k ≡ Some (Update u)) × IsOwnKind c u.zxid u.kind a
   the-line =
@@ -292,9 +292,9 @@ module _ (lines : List TranscriptLine) (c : ℕ) (k : ℕ) (a : Attachment) (leg
     next-held (Send d b) at = h
     next-held (Close d e) at = h
 
-  held-behind : (m : ℕ) → IsHeld (state_at lines (k + 1 + m)) a
-  held-behind zero = let e : k + 1 ≡ k + 1 + 0 = omega arith in subst (λ n. IsHeld (state_at lines n) a) e first-held
-  held-behind (suc m) = go (slice_get lines (k + 1 + m)) refl (held-behind m)
+  held-after : (m : ℕ) → IsHeld (state_at lines (k + 1 + m)) a
+  held-after zero = let e : k + 1 ≡ k + 1 + 0 = omega arith in subst (λ n. IsHeld (state_at lines n) a) e first-held
+  held-after (suc m) = go (slice_get lines (k + 1 + m)) refl (held-after m)
     where
       next : k + 1 + m + 1 ≡ k + 1 + suc m
       next = omega arith
@@ -305,7 +305,7 @@ module _ (lines : List TranscriptLine) (c : ℕ) (k : ℕ) (a : Attachment) (leg
 
   -- at each moment after its line
   pub held-at : (n : ℕ) → k < n → IsHeld (state_at lines n) a
-  held-at n lt = let e : k + 1 + (n - (k + 1)) ≡ n = omega (arith, lt) in subst (λ j. IsHeld (state_at lines j) a) e (held-behind (n - (k + 1)))
+  held-at n lt = let e : k + 1 + (n - (k + 1)) ≡ n = omega (arith, lt) in subst (λ j. IsHeld (state_at lines j) a) e (held-after (n - (k + 1)))
 
   -- the session lives now, and its last attachment is the connection's own
   pub here-now : IsAttachedHere lines (record { session = a.session; mine = a.zxid })

@@ -47,8 +47,8 @@ use Rattle.zp_laws.proofs.Keeping.{PlansBeside, first-or-anew, leaves-beside}
 use Rattle.zp_step.specs.Entries.{entered, then_reply, told_entry}
 use Rattle.zp_step.specs.Keepalives.{Checked, KeptAlive, Looked, StillMine, TakesUp, checks, keeps_alive}
 use Rattle.zp_step.specs.Looking.{IfRecords, Looks, asks_for, change_by, decided, max_ranges, moved, pending}
-use Rattle.zp_step.specs.Plans.{CommitAnswered, Committed, ReadOn, end_behind, finishes}
-use Rattle.zp_step.specs.Replies.{Is, is_due, replied, stage_behind, waits}
+use Rattle.zp_step.specs.Plans.{CommitAnswered, Committed, ReadOn, end_after, finishes}
+use Rattle.zp_step.specs.Replies.{Is, is_due, replied, stage_after, waits}
 use Rattle.zp_step.specs.Stages.{Core, Pending, Stage, Unconnected, Connecting, Ready, KeepingAlive, Checking, Reading, Committing, Waiting, Shut}
 use Rattle.zp_step.specs.Steps.{Answers, Goes, StepsOpen, rests, takes}
 use Rattle.zp_step.specs.Taking.{Takes, TakesReadable, end_of_plain, plainly}
@@ -56,7 +56,7 @@ use Rattle.zp_step.specs.declared.action.Action.{Action}
 use Rattle.zp_step.specs.declared.input.Input.TheVariants as input
 use Rattle.zp_world_laws.proofs.Kept.{true-false}
 use Rattle.zp_settle_laws.proofs.Places.{view_on}
-use Rattle.zp_settle_laws.specs.Staying.{AreLasting, IsLasting, IsLastingIn, asks_close, closes_behind, is_close, refuses}
+use Rattle.zp_settle_laws.specs.Staying.{AreLasting, IsLasting, IsLastingIn, asks_close, closes_after, is_close, refuses}
 
 -- ---- what an answer shows
 
@@ -88,7 +88,7 @@ or-both false b h = (refl, h)
 is-lasting : (x : Core × List Action) (c' : Core) (out : List Action) → IsLasting x.0 → Is x c' out → IsLasting c'
 is-lasting x c' out k i = subst IsLasting (sym i.0) k
 
-answered : (c d : Core) (o : Option Cause) → o ≡ None → AreLasting c.waiting → d.stage ≡ stage_behind o → d.waiting ≡ c.waiting → IsLasting d
+answered : (c d : Core) (o : Option Cause) → o ≡ None → AreLasting c.waiting → d.stage ≡ stage_after o → d.waiting ≡ c.waiting → IsLasting d
 answered c d (Some why) none w st same = absurd (none_some (sym none))
 answered c d None none w st same = record { work = subst IsLastingIn (sym st) tt; waiting = subst AreLasting (sym same) w }
 
@@ -132,7 +132,7 @@ module _ (c' : Core) (out : List Action) where
 
   -- ---- a frame is taken up
 
-  readable-lasting : (c : Core) (now : ℕ) (x : Frame) (o : Option Told) → plain_reply no_watches x ≡ o → closes_behind x ≡ false → AreLasting c.waiting → TakesReadable c now c' out x o → IsLasting c'
+  readable-lasting : (c : Core) (now : ℕ) (x : Frame) (o : Option Told) → plain_reply no_watches x ≡ o → closes_after x ≡ false → AreLasting c.waiting → TakesReadable c now c' out x o → IsLasting c'
   readable-lasting c now x (Some t) p k w h =
       let mild : is_auth_refusal t.reply ≡ false = sym (ap refuses p) ∙ (or-both (asks_close x) (refuses (plain_reply no_watches x)) k).1 in
       is-lasting (plainly c (xid_of x) t.reply) c' out (answered c (plainly c (xid_of x) t.reply).0 (end_of_plain (is_auth_refusal t.reply)) (ap end_of_plain mild) w refl refl) h
@@ -149,10 +149,10 @@ module _ (c' : Core) (out : List Action) where
       go (inr (inl y)) = is-lasting (asks_for c xid r empty_view (take max_ranges y.lacking)) c' out (record { work = stays; waiting = w }) y.is
       go (inr (inr y)) = absurd (y.whole.enough refl p head_want (inl refl) refl)
 
-  takes-lasting : (c : Core) (bytes : List ℕ) (now : ℕ) → closes_behind (read_request bytes) ≡ false → AreLasting c.waiting → Takes c bytes now c' out → IsLasting c'
+  takes-lasting : (c : Core) (bytes : List ℕ) (now : ℕ) → closes_after (read_request bytes) ≡ false → AreLasting c.waiting → Takes c bytes now c' out → IsLasting c'
   takes-lasting c bytes now k w h = readable-lasting c now (read_request bytes) (plain_reply no_watches (read_request bytes)) refl k w h
 
-  takes_up-lasting : (c : Core) (bytes : List ℕ) (now : ℕ) → closes_behind (read_request bytes) ≡ false → AreLasting c.waiting → TakesUp c bytes now c' out → IsLasting c'
+  takes_up-lasting : (c : Core) (bytes : List ℕ) (now : ℕ) → closes_after (read_request bytes) ≡ false → AreLasting c.waiting → TakesUp c bytes now c' out → IsLasting c'
   takes_up-lasting c bytes now k w h =
       either (is_alive_due c.kept now c.timeout) (Is (keeps_alive c bytes now) c' out) (Takes c bytes now c' out) (IsLasting c') h
       (is-lasting (keeps_alive c bytes now) c' out (record { work = k; waiting = w }))
@@ -160,7 +160,7 @@ module _ (c' : Core) (out : List Action) where
 
   -- ---- answers
 
-  still-lasting : (c : Core) (bytes : List ℕ) (v : View) (now : ℕ) (o : Option Kv) → ShowsLife c.who o → closes_behind (read_request bytes) ≡ false → AreLasting c.waiting → StillMine c bytes v now c' out o → IsLasting c'
+  still-lasting : (c : Core) (bytes : List ℕ) (v : View) (now : ℕ) (o : Option Kv) → ShowsLife c.who o → closes_after (read_request bytes) ≡ false → AreLasting c.waiting → StillMine c bytes v now c' out o → IsLasting c'
   still-lasting c bytes v now None s k w h = absurd (none_some s.there)
   still-lasting c bytes v now (Some kv) s k w h = go (int_eq kv.mod_revision c.who.mine) ((Decides-int_eq kv.mod_revision c.who.mine).1 (ap (λ (y : Kv). y.mod_revision) (some_is s.there) ∙ s.own)) h
     where
@@ -168,7 +168,7 @@ module _ (c' : Core) (out : List Action) where
       go true f t = takes-lasting c bytes now k w t
       go false f t = absurd (true-false (sym f))
 
-  checked-lasting : (c : Core) (bytes : List ℕ) (now : ℕ) (a : Answer) → Shows c.who (Checking bytes) a → closes_behind (read_request bytes) ≡ false → AreLasting c.waiting → Checked c bytes now c' out a → IsLasting c'
+  checked-lasting : (c : Core) (bytes : List ℕ) (now : ℕ) (a : Answer) → Shows c.who (Checking bytes) a → closes_after (read_request bytes) ≡ false → AreLasting c.waiting → Checked c bytes now c' out a → IsLasting c'
   checked-lasting c bytes now (answer.Txn z b parts) s k w h =
       let v = viewed z (attach_wants c.who.session) parts in
       records-lasting c (attach_wants c.who.session) parts (Looked c bytes now c' out v) s.0 (still-lasting c bytes v now (found_at v (life_key c.who.session)) s.1 k w) h
@@ -176,7 +176,7 @@ module _ (c' : Core) (out : List Action) where
   checked-lasting c bytes now (answer.Granted z id ttl) s k w h = absurd h
   checked-lasting c bytes now (answer.Alive z id ttl) s k w h = absurd h
 
-  alive-lasting : (c : Core) (bytes : List ℕ) (now : ℕ) (a : Answer) → closes_behind (read_request bytes) ≡ false → AreLasting c.waiting → KeptAlive c bytes now c' out a → IsLasting c'
+  alive-lasting : (c : Core) (bytes : List ℕ) (now : ℕ) (a : Answer) → closes_after (read_request bytes) ≡ false → AreLasting c.waiting → KeptAlive c bytes now c' out a → IsLasting c'
   alive-lasting c bytes now a k w h = of_alive a _ (IsLasting c') h (λ ttl f.
       either (int_eq ttl (pos 0)) (Is (checks c bytes) c' out) (Takes c bytes now c' out) (IsLasting c') f
       (is-lasting (checks c bytes) c' out (record { work = k; waiting = w }))
@@ -190,7 +190,7 @@ module _ (c' : Core) (out : List Action) where
   read-lasting c xid r v ws now (answer.Granted z id ttl) rises s k w h = absurd h
   read-lasting c xid r v ws now (answer.Alive z id ttl) rises s k w h = absurd h
 
-  ends-none : (r : Request) → is_close r ≡ false → end_behind r ≡ None
+  ends-none : (r : Request) → is_close r ≡ false → end_after r ≡ None
   ends-none req.Close k = absurd (true-false k)
   ends-none _ k = refl
 

@@ -5,7 +5,7 @@ use Rattle.std.specs.Prelude.{All, None, Option, Some, not, option_and_then, ◌
 use Rattle.ev_types.specs.Store.{last_revision, revision}
 use Rattle.zk_jute.specs.Frames.{bad_length}
 use Rattle.zk_jute.specs.JuteWriting.{with_length}
-use Rattle.zk_transcript.proofs.Attachments.{NoneBehind, attach_of-push}
+use Rattle.zk_transcript.proofs.Attachments.{NoneAfter, attach_of-push}
 use Rattle.zk_transcript.specs.Legal.{Attachment, Tick, attach_of}
 use Rattle.zp_script.specs.Arriving.{Arrives}
 use Rattle.zp_script.specs.Carrying.{Executes}
@@ -87,7 +87,7 @@ runs-ended c n w w' (h ∷ hs) ticks (mid, more, one, at, rest) e = runs-ended c
 
 -- ---- one that is open stays open
 
-module _ (c p : ℕ) (place : ℕ) (own : Attachment) (last : World) (kept : NoneBehind (takes_session own.session) place last.lines) (mild : HasMildFrames c last.lines) (room : revision last.store <ℤ last_revision) where
+module _ (c p : ℕ) (place : ℕ) (own : Attachment) (last : World) (kept : NoneAfter (takes_session own.session) place last.lines) (mild : HasMildFrames c last.lines) (room : revision last.store <ℤ last_revision) where
   module _ (w w' : World) (g : Grows w last) (g' : Grows w' last) (k : IsKept w) (attached : attach_of c w.lines ≡ Some (place, own)) (unbad : (n : ℤ) → IsEndedBadly c n w' → ⊥) (o : IsOpenAt c p w) where
     still-open : conn_at c w' ≡ conn_at c w → IsOpenAt c p w'
     still-open e = record { conn = o.conn; core = o.core; there = e ∙ o.there; actor = o.actor; proxy = o.proxy }

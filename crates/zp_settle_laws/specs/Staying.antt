@@ -41,21 +41,21 @@ asks_close (Asks xid r) = is_close r
 asks_close _ = false
 
 -- such a frame closes its connection: after its answer nothing follows
-abbrev pub closes_behind : Frame → Bool
-closes_behind x = asks_close x || refuses (plain_reply no_watches x)
+abbrev pub closes_after : Frame → Bool
+closes_after x = asks_close x || refuses (plain_reply no_watches x)
 
 -- none of these frames closes its connection
 abbrev pub AreLasting : List (List ℕ) → Type 0
 AreLasting [] = Unit {0}
-AreLasting (f ∷ fs) = (closes_behind (read_request f) ≡ false) × AreLasting fs
+AreLasting (f ∷ fs) = (closes_after (read_request f) ≡ false) × AreLasting fs
 
 -- a connection with a session is in this stage, and neither its frame or request at work closes it nor a reply that waits
 abbrev pub IsLastingIn : Stage → Type 0
 IsLastingIn (Unconnected fresh) = ⊥
 IsLastingIn (Connecting connect) = ⊥
 IsLastingIn Ready = Unit {0}
-IsLastingIn (KeepingAlive frame) = closes_behind (read_request frame) ≡ false
-IsLastingIn (Checking frame) = closes_behind (read_request frame) ≡ false
+IsLastingIn (KeepingAlive frame) = closes_after (read_request frame) ≡ false
+IsLastingIn (Checking frame) = closes_after (read_request frame) ≡ false
 IsLastingIn (Reading xid r v ws) = is_close r ≡ false
 IsLastingIn (Committing xid r v p time) = is_close r ≡ false
 IsLastingIn (Waiting p) = p.ends ≡ None
@@ -92,7 +92,7 @@ SettlesOpen = (w w' : World) (c n : ℕ) → IsAccounted w → StaysOpen c w →
 -- each of these frames has a header, and none closes its connection
 abbrev pub AreMild : List (List ℕ) → Type 0
 AreMild [] = Unit {0}
-AreMild (f ∷ fs) = (has_header (read_request f) ≡ true) × (closes_behind (read_request f) ≡ false) × AreMild fs
+AreMild (f ∷ fs) = (has_header (read_request f) ≡ true) × (closes_after (read_request f) ≡ false) × AreMild fs
 
 -- bytes that bring such frames and no length out of range leave it so
 abbrev pub FramesLeaveOpen : Type 0

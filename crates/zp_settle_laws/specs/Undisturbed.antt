@@ -17,7 +17,7 @@ use Rattle.zp_step.specs.Stages.{Core}
 use Rattle.zp_world_laws.specs.Accounting.{IsWithinCounts, OffersSession}
 use Rattle.zt_text.specs.declared.script.Happening.TheVariants as line
 use Rattle.zt_text.specs.declared.script.Happening.{Happening}
-use Rattle.zp_settle_laws.specs.Staying.{closes_behind}
+use Rattle.zp_settle_laws.specs.Staying.{closes_after}
 
 -- a connection that is open, with the line that attached a session to it
 pub record IsAttachedAt (c : ℕ) (w : World) : Type 0 where
@@ -52,7 +52,7 @@ takes_session id _ = false
 
 -- each frame of c after its connect has a header of 8 bytes, and is no closeSession and no authentication that is refused
 abbrev pub HasMildFrames : ℕ → List TranscriptLine → Type 0
-HasMildFrames c lines = (k i : ℕ) (zxid : ℤ) (bytes : List ℕ) → slice_get lines k ≡ Some (FrameLine c i zxid bytes) → 1 ≤ i → (has_header (read_request bytes) ≡ true) × (closes_behind (read_request bytes) ≡ false)
+HasMildFrames c lines = (k i : ℕ) (zxid : ℤ) (bytes : List ℕ) → slice_get lines k ≡ Some (FrameLine c i zxid bytes) → 1 ≤ i → (has_header (read_request bytes) ≡ true) × (closes_after (read_request bytes) ≡ false)
 
 -- the length at the front of what is no whole frame yet, where it is out of range
 abbrev pub bad_at : ℕ → World → Option ℤ

@@ -13,12 +13,12 @@ entered c e =
     (record c { zxid = e.zxid; cursor = e.number; watches = f.0 }, send_notices f.1)
 
 -- the same core, with these actions first
-abbrev pub behind : List Action → Core × List Action → Core × List Action
-behind first x = (x.0, first ++ x.1)
+abbrev pub with_first : List Action → Core × List Action → Core × List Action
+with_first first x = (x.0, first ++ x.1)
 
 -- a reply that waits in this stage is sent if it is due now
 abbrev pub then_reply : Core × List Action → Stage → Core × List Action
-then_reply x (Waiting p) = behind x.1 (waits x.0 p)
+then_reply x (Waiting p) = with_first x.1 (waits x.0 p)
 then_reply x _ = x
 
 abbrev pub told_entry : Core → Entry → Core × List Action

@@ -29,9 +29,9 @@ ReadOn c xid r v ws now c' out a = OfTxn a (λ revision succeeded parts.
 -- ---- a plan
 
 -- after a closeSession the connection is closed
-abbrev pub end_behind : Request → Option Cause
-end_behind req.Close = Some cause.Closed
-end_behind _ = None
+abbrev pub end_after : Request → Option Cause
+end_after req.Close = Some cause.Closed
+end_after _ = None
 
 -- the update was made at this revision, which is its zxid; the last part shows its number
 abbrev pub finishes : ℤ → Request → Plan → ℤ → List ActAns → Pending
@@ -41,7 +41,7 @@ finishes xid r p revision parts = record {
   xid = xid;
   answer = finished revision p.draft;
   change = AddsWatch None;
-  ends = end_behind r;
+  ends = end_after r;
 }
 
 -- the update was made: what it leaves of the view is kept, and the reply is sent or waits

@@ -26,20 +26,20 @@ send_notices ns = map (λ (n : Notice). action.Send (notice_packet n)) ns
 abbrev pub is_due : Core → Pending → Bool
 is_due c p = if is_unarmed c.watches then true else int_eq c.cursor p.number
 
-abbrev pub stage_behind : Option Cause → Stage
-stage_behind None = Ready
-stage_behind (Some why) = Shut
+abbrev pub stage_after : Option Cause → Stage
+stage_after None = Ready
+stage_after (Some why) = Shut
 
-abbrev pub close_behind : Option Cause → List Action
-close_behind None = []
-close_behind (Some why) = action.Close why ∷ []
+abbrev pub close_after : Option Cause → List Action
+close_after None = []
+close_after (Some why) = action.Close why ∷ []
 
 -- the notices of a setWatches, and then the reply
 abbrev pub replied : Core → Pending → Core × List Action
 replied c p =
     let s = seen_by p.change c.watches in (
-      record c { stage = stage_behind p.ends; zxid = p.zxid; cursor = p.number; watches = s.watches; next = counted_up (c.next + 1) },
-      send_notices s.notices ++ (action.Send (reply_packet p.xid p.zxid p.answer) ∷ close_behind p.ends),
+      record c { stage = stage_after p.ends; zxid = p.zxid; cursor = p.number; watches = s.watches; next = counted_up (c.next + 1) },
+      send_notices s.notices ++ (action.Send (reply_packet p.xid p.zxid p.answer) ∷ close_after p.ends),
     )
 
 -- a reply is sent if it is due; otherwise it waits

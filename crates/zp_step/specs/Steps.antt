@@ -37,7 +37,7 @@ pub record IsNextEntry (c : Core) (e : Entry) : Type 0 where
 -- an entry is awaited, and the one after the cursor is no longer kept
 pub record IsLag (c : Core) (cursor floor : ℤ) : Type 0 where
   pub awaited : awaits_entry (wants_of c) ≡ true
-  pub behind : cursor ≡ c.cursor
+  pub own : cursor ≡ c.cursor
   pub above : cursor <ℤ floor
 
 -- A frame is within the limit; an answer fits the ask that is out, and a failure needs one; an entry or a lag comes where an entry

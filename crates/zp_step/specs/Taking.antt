@@ -25,7 +25,7 @@ use Rattle.zn_view.specs.Keeping.{update_path}
 use Rattle.zp_step.specs.declared.action.Action.{Action}
 use Rattle.zp_step.specs.declared.action.Action.TheVariants as action
 use Rattle.zp_step.specs.Looking.{IsBacked, Looks, decided}
-use Rattle.zp_step.specs.Replies.{Is, close_behind, stage_behind}
+use Rattle.zp_step.specs.Replies.{Is, close_after, stage_after}
 use Rattle.zp_step.specs.Stages.{Core, counted_up}
 
 -- the connection is closed after it has refused an `auth`
@@ -37,7 +37,7 @@ end_of_plain false = None
 abbrev pub plainly : Core → ℤ → Reply → Core × List Action
 plainly c xid r =
     let ends = end_of_plain (is_auth_refusal r) in
-    (record c { stage = stage_behind ends; next = counted_up (c.next + 1) }, action.Send (reply_packet xid c.zxid r) ∷ close_behind ends)
+    (record c { stage = stage_after ends; next = counted_up (c.next + 1) }, action.Send (reply_packet xid c.zxid r) ∷ close_after ends)
 
 -- ---- an update that is planned on a kept view
 

@@ -15,12 +15,12 @@ use Rattle.zk_transcript.specs.declared.transcript.UpdateKind.{UpdateKind}
 use Rattle.zn_layout.specs.declared.entry.Entry.{Entry}
 use Rattle.zp_script.specs.Carrying.{CarriedBy, CarriesOut, Executes, ExecutesStray, HasStore, ShowsUpdate, update_line}
 use Rattle.zp_script.specs.Effects.{Delivers, EndsBy, EntersBy, IsEntry, LagsBy}
-use Rattle.zp_script.specs.Entries.{cursor_at, cursor_of, cursor_wanted, entry_behind, max_kept, next_entry}
+use Rattle.zp_script.specs.Entries.{cursor_at, cursor_of, cursor_wanted, entry_after, max_kept, next_entry}
 use Rattle.zp_script.specs.Faults.{flight_at}
 use Rattle.zp_script.specs.Handing.{AnswerComesTo, FailureComes, FailureComesTo, Reaps, landed, landed_conn}
 use Rattle.zp_script.specs.Kinds.{kind_asked}
 use Rattle.zp_script.specs.StepOutcomes.{ended_by, leaves, quiet, reap_acts}
-use Rattle.zp_script.specs.Worlds.{Actor, Closed, Conn, Connection, Reaper, World, behind_reap, conn_at, is_over, with_conn, zxid_at}
+use Rattle.zp_script.specs.Worlds.{Actor, Closed, Conn, Connection, Reaper, World, after_reap, conn_at, is_over, with_conn, zxid_at}
 use Rattle.zp_script.specs.declared.flight.Asking.{Asking}
 use Rattle.zp_script.specs.declared.flight.Flight.TheVariants.{Carried, Denied, Out}
 use Rattle.zp_script.specs.declared.flight.Flight.{Flight}
@@ -123,20 +123,20 @@ reap-own c kind f (reaped.Reaped z) = ends-own c [] (ended.Reaped z) (quiet f) r
 reap-own c kind f (reaped.Kept z) = ends-own c [] (ended.Kept z) (quiet f) refl refl
 reap-own c kind f (reaped.Gone z) = ends-own c [] (ended.Gone z) (quiet f) refl refl
 
-reap-in_step : (w : World) (c frames : ℕ) (kind : Option UpdateKind) (f : Option Flight) (r next : Reap) (step : ReapStep) → IsWaiting step next.phase → IsInStep w.lines c frames (Reaper r) → IsInStep (w.lines ++ (reap_acts c kind f step).lines) c frames (behind_reap next)
+reap-in_step : (w : World) (c frames : ℕ) (kind : Option UpdateKind) (f : Option Flight) (r next : Reap) (step : ReapStep) → IsWaiting step next.phase → IsInStep w.lines c frames (Reaper r) → IsInStep (w.lines ++ (reap_acts c kind f step).lines) c frames (after_reap next)
 reap-in_step w c frames kind f r next (reaped.Ask a) waits t = subst (λ b. IsInStep (w.lines ++ []) c frames (if b then Closed else Reaper next)) (sym (asked-open next.phase waits.0)) (in_step-aside w.lines [] c frames (Reaper next) (λ p. refl) t)
 reap-in_step w c frames kind f r next (reaped.Reaped z) over t = subst (λ p. IsInStep (w.lines ++ (reap_acts c kind f (reaped.Reaped z)).lines) c frames (if is_over p then Closed else Reaper next)) (sym over) (in_step-ends w c frames (Reaper r) (ended.Reaped z) (λ e. cc) t)
 reap-in_step w c frames kind f r next (reaped.Kept z) over t = subst (λ p. IsInStep (w.lines ++ (reap_acts c kind f (reaped.Kept z)).lines) c frames (if is_over p then Closed else Reaper next)) (sym over) (in_step-ends w c frames (Reaper r) (ended.Kept z) (λ e. cc) t)
 reap-in_step w c frames kind f r next (reaped.Gone z) over t = subst (λ p. IsInStep (w.lines ++ (reap_acts c kind f (reaped.Gone z)).lines) c frames (if is_over p then Closed else Reaper next)) (sym over) (in_step-ends w c frames (Reaper r) (ended.Gone z) (λ e. cc) t)
 
-reap-actor : (next : Reap) → IsNaturalPhase next.phase → IsNaturalActor (behind_reap next)
+reap-actor : (next : Reap) → IsNaturalPhase next.phase → IsNaturalActor (after_reap next)
 reap-actor next n = go (is_over next.phase)
   where
     go : (b : Bool) → IsNaturalActor (if b then Closed else Reaper next)
     go true = tt
     go false = n
 
-reap-leaves : (c : ℕ) (kind : Option UpdateKind) (f : Option Flight) (next : Reap) (step : ReapStep) → NaturallyReaps next.phase step → Leaves (behind_reap next) (reap_acts c kind f step)
+reap-leaves : (c : ℕ) (kind : Option UpdateKind) (f : Option Flight) (next : Reap) (step : ReapStep) → NaturallyReaps next.phase step → Leaves (after_reap next) (reap_acts c kind f step)
 reap-leaves c kind f next (reaped.Ask a) n = record { actor_is = reap-actor next n.phase_is; outcome = record { lines = no-lines; flight = tt } }
 reap-leaves c kind f next (reaped.Reaped z) n = record { actor_is = reap-actor next n.phase_is; outcome = (ends-leave c (ended.Reaped z) f n.step_is).outcome }
 reap-leaves c kind f next (reaped.Kept z) n = record { actor_is = reap-actor next n.phase_is; outcome = (ends-leave c (ended.Kept z) f n.step_is).outcome }
@@ -149,8 +149,8 @@ reaps-proceed P w w' c x r a phase fits was (inl e) =
     (λ p k. ends-leave c (ended.Cause (cause.Damaged e.key e.value)) x.flight tt)
     (λ t n. in_step-ends w c x.frames (Reaper r) (ended.Cause (cause.Damaged e.key e.value)) (λ f. cc) (was t)))
 reaps-proceed P w w' c x r a phase fits was (inr s) =
-    proceeds-to P w (leaves c w x (behind_reap s.next) (reap_acts c (kind_asked c (Reaper s.next)) x.flight s.step)) w' s.result
-    (leaves-proceeds P w c x (behind_reap s.next) (reap_acts c (kind_asked c (Reaper s.next)) x.flight s.step) (reap-own c (kind_asked c (Reaper s.next)) x.flight s.step)
+    proceeds-to P w (leaves c w x (after_reap s.next) (reap_acts c (kind_asked c (Reaper s.next)) x.flight s.step)) w' s.result
+    (leaves-proceeds P w c x (after_reap s.next) (reap_acts c (kind_asked c (Reaper s.next)) x.flight s.step) (reap-own c (kind_asked c (Reaper s.next)) x.flight s.step)
     (λ p k. reap-leaves c (kind_asked c (Reaper s.next)) x.flight s.next s.step (reaps-natural r s.next a s.step (fits p) (phase p k) s.stepped))
     (λ t n. reap-in_step w c x.frames (kind_asked c (Reaper s.next)) x.flight r s.next s.step (step-waits (s.next).phase s.step r a (s.stepped).moves) (was t)))
 
@@ -206,11 +206,11 @@ All-get P (y ∷ xs) (suc n) x h e = All-get P xs n x (All-tail P y xs h) e
 entry-natural : (w : World) (c : ℕ) (e : Entry) (i : Input) → next_entry c w ≡ Some e → IsEntry e i → IsNaturalWorld w → IsNaturalInput i
 entry-natural w c e (input.Entry s) there is k = subst IsNaturalEntry (sym is) (go (cursor_at c w) there)
   where
-    by-cursor : (z : ℤ) → entry_behind w.entries z ≡ Some e → IsNaturalEntry e
+    by-cursor : (z : ℤ) → entry_after w.entries z ≡ Some e → IsNaturalEntry e
     by-cursor (pos n) f = All-get IsNaturalEntry w.entries n e k.entries f
     by-cursor (negsuc n) f = absurd (none_some f)
 
-    go : (o : Option ℤ) → option_and_then (entry_behind w.entries) o ≡ Some e → IsNaturalEntry e
+    go : (o : Option ℤ) → option_and_then (entry_after w.entries) o ≡ Some e → IsNaturalEntry e
     go None f = absurd (none_some f)
     go (Some z) f = by-cursor z f
 entry-natural w c e (input.Frame b) there is k = absurd is

@@ -11,7 +11,7 @@ use Rattle.zk_transcript.specs.declared.transcript.UpdateKind.{UpdateKind}
 use Rattle.zp_script.specs.Handing.{Handed}
 use Rattle.zp_script.specs.Kinds.{kind_asked}
 use Rattle.zp_script.specs.StepOutcomes.{StepOutcome, acts_all, ends, leaves, quiet}
-use Rattle.zp_script.specs.Worlds.{Actor, Closed, Conn, Connection, Reaper, World, behind_step, conn_at}
+use Rattle.zp_script.specs.Worlds.{Actor, Closed, Conn, Connection, Reaper, World, after_step, conn_at}
 use Rattle.zp_script.specs.declared.flight.Flight.{Flight}
 use Rattle.zp_verdict_laws.proofs.Progress.{Broken, Ended, Opened, Progress, closes, either-same, frames_of-append, progress, progress-append, progress_from, unnamed-aside}
 use Rattle.zp_verdict_laws.proofs.Naturals.{AreNaturalLines, IsNaturalActor, IsNaturalEnd, IsNaturalWorld, LeavesNatural, acts-natural, no-lines, one-line}
@@ -93,31 +93,31 @@ said-opened : (c n : ℕ) (ps : List (List ℕ)) → progress_from c (Opened n) 
 said-opened c n [] = refl
 said-opened c n (p ∷ ps) = ap (λ q. progress_from c q (said c ps)) (either-same (c == c) (Opened n)) ∙ said-opened c n ps
 
-module _ (lines : List TranscriptLine) (c frames : ℕ) (behind : List TranscriptLine) (ps : List (List ℕ)) (opened : progress c lines ≡ Opened frames) (indexed : AreIndexed c frames behind) where
+module _ (lines : List TranscriptLine) (c frames : ℕ) (after : List TranscriptLine) (ps : List (List ℕ)) (opened : progress c lines ≡ Opened frames) (indexed : AreIndexed c frames after) where
   said-in_step : progress c (lines ++ said c ps) ≡ Opened frames
   said-in_step = progress-append c lines (said c ps) ∙ ap (λ p. progress_from c p (said c ps)) opened ∙ said-opened c frames ps
 
   -- it closes, after these frames
-  closed-in_step : (end : SomeEnd) → frames_of c (lines ++ ((said c ps ++ behind) ++ Close c end ∷ [])) < max_count → IsInStep (lines ++ ((said c ps ++ behind) ++ Close c end ∷ [])) c frames Closed
+  closed-in_step : (end : SomeEnd) → frames_of c (lines ++ ((said c ps ++ after) ++ Close c end ∷ [])) < max_count → IsInStep (lines ++ ((said c ps ++ after) ++ Close c end ∷ [])) c frames Closed
   closed-in_step end less =
       let count = in_step-count lines c frames opened in
-      let all = frames_of-append c lines ((said c ps ++ behind) ++ Close c end ∷ []) in
-      let front = frames_of-append c (said c ps ++ behind) (Close c end ∷ []) in
-      let packets = frames_of-append c (said c ps) behind in
+      let all = frames_of-append c lines ((said c ps ++ after) ++ Close c end ∷ []) in
+      let front = frames_of-append c (said c ps ++ after) (Close c end ∷ []) in
+      let packets = frames_of-append c (said c ps) after in
       let m = indexed (omega (arith, count, all, front, packets, less)) in
-      let at : progress c ((lines ++ said c ps) ++ behind) ≡ Opened m.0 = progress-append c (lines ++ said c ps) behind ∙ ap (λ p. progress_from c p behind) said-in_step ∙ m.1 in
-      let more = frames_of-append c (lines ++ said c ps) behind in
+      let at : progress c ((lines ++ said c ps) ++ after) ≡ Opened m.0 = progress-append c (lines ++ said c ps) after ∙ ap (λ p. progress_from c p after) said-in_step ∙ m.1 in
+      let more = frames_of-append c (lines ++ said c ps) after in
       let first = frames_of-append c lines (said c ps) in
-      subst (λ l. IsInStep l c frames Closed) (append_assoc (lines ++ said c ps) behind (Close c end ∷ []) ∙ append_assoc lines (said c ps) (behind ++ Close c end ∷ []) ∙ ap (λ l. lines ++ l) (sym (append_assoc (said c ps) behind (Close c end ∷ []))))
-      (ends-in_step ((lines ++ said c ps) ++ behind) c frames end (ap closes at) (omega (arith, count, more, first)))
+      subst (λ l. IsInStep l c frames Closed) (append_assoc (lines ++ said c ps) after (Close c end ∷ []) ∙ append_assoc lines (said c ps) (after ++ Close c end ∷ []) ∙ ap (λ l. lines ++ l) (sym (append_assoc (said c ps) after (Close c end ∷ []))))
+      (ends-in_step ((lines ++ said c ps) ++ after) c frames end (ap closes at) (omega (arith, count, more, first)))
 
-  tail-in_step : (kind : Option UpdateKind) (f : Option Flight) (t : Tail) (next : Core) → is_closing t ≡ is_shut next.stage → frames_of c (lines ++ (tail_outcome c kind behind f (said c ps) t).lines) < max_count
-      → IsInStep (lines ++ (tail_outcome c kind behind f (said c ps) t).lines) c frames (behind_step next)
+  tail-in_step : (kind : Option UpdateKind) (f : Option Flight) (t : Tail) (next : Core) → is_closing t ≡ is_shut next.stage → frames_of c (lines ++ (tail_outcome c kind after f (said c ps) t).lines) < max_count
+      → IsInStep (lines ++ (tail_outcome c kind after f (said c ps) t).lines) c frames (after_step next)
   tail-in_step kind f Rests next e less = subst (λ b. IsInStep (lines ++ said c ps) c frames (if b then Closed else Connection next)) e (sym e, said-in_step)
   tail-in_step kind f (Asks a) next e less = subst (λ b. IsInStep (lines ++ said c ps) c frames (if b then Closed else Connection next)) e (sym e, said-in_step)
-  tail-in_step kind f (Closes why) next e less = subst (λ b. IsInStep (lines ++ ((said c ps ++ behind) ++ Close c (ended.Cause why) ∷ [])) c frames (if b then Closed else Connection next)) e (closed-in_step (ended.Cause why) less)
+  tail-in_step kind f (Closes why) next e less = subst (λ b. IsInStep (lines ++ ((said c ps ++ after) ++ Close c (ended.Cause why) ∷ [])) c frames (if b then Closed else Connection next)) e (closed-in_step (ended.Cause why) less)
 
-step-actor : (next : Core) → IsNaturalCore next → IsNaturalActor (behind_step next)
+step-actor : (next : Core) → IsNaturalCore next → IsNaturalActor (after_step next)
 step-actor next n = go (is_shut next.stage)
   where
     go : (b : Bool) → IsNaturalActor (if b then Closed else Connection next)
@@ -125,32 +125,32 @@ step-actor next n = go (is_shut next.stage)
     go false = n
 
 -- it is handed something
-pub handed-proceeds : (P : Type 0) (w w' : World) (c : ℕ) (behind : List TranscriptLine) (i : Input) → (hd : Handed c behind w i w') → list_all (is_own c) behind ≡ true → AreNaturalLines behind → (P → IsNaturalWorld w → IsNaturalInput i) → AreIndexed c hd.conn.frames behind → Proceeds P w w'
-handed-proceeds P w w' c behind i hd own lines fits indexed =
-    proceeds-to P w (leaves c w hd.conn (behind_step hd.next) o) w' hd.result
-    (leaves-proceeds P w c hd.conn (behind_step hd.next) o (acts-own c kind behind hd.out (quiet hd.conn.flight) own refl) natural now)
+pub handed-proceeds : (P : Type 0) (w w' : World) (c : ℕ) (after : List TranscriptLine) (i : Input) → (hd : Handed c after w i w') → list_all (is_own c) after ≡ true → AreNaturalLines after → (P → IsNaturalWorld w → IsNaturalInput i) → AreIndexed c hd.conn.frames after → Proceeds P w w'
+handed-proceeds P w w' c after i hd own lines fits indexed =
+    proceeds-to P w (leaves c w hd.conn (after_step hd.next) o) w' hd.result
+    (leaves-proceeds P w c hd.conn (after_step hd.next) o (acts-own c kind after hd.out (quiet hd.conn.flight) own refl) natural now)
   where
-    natural : P → IsNaturalWorld w → Leaves (behind_step hd.next) (acts_all c (kind_asked c (Connection hd.next)) behind hd.conn.flight hd.out)
+    natural : P → IsNaturalWorld w → Leaves (after_step hd.next) (acts_all c (kind_asked c (Connection hd.next)) after hd.conn.flight hd.out)
     natural p k =
         let was : IsNaturalCore hd.core = subst IsNaturalActor hd.serving (k.conns c hd.conn hd.found).actor in
         let s = natural-steps hd.core hd.next i w.clock hd.out (fits p k) was hd.stepped in
         record {
           actor_is = step-actor hd.next s.core;
-          outcome = acts-natural c (kind_asked c (Connection hd.next)) behind hd.out (quiet hd.conn.flight) lines s.acts (record { lines = no-lines; flight = (k.conns c hd.conn hd.found).flight });
+          outcome = acts-natural c (kind_asked c (Connection hd.next)) after hd.out (quiet hd.conn.flight) lines s.acts (record { lines = no-lines; flight = (k.conns c hd.conn hd.found).flight });
         }
 
     kind : Option UpdateKind
     kind = kind_asked c (Connection hd.next)
 
     o : StepOutcome
-    o = acts_all c (kind_asked c (Connection hd.next)) behind hd.conn.flight hd.out
+    o = acts_all c (kind_asked c (Connection hd.next)) after hd.conn.flight hd.out
 
-    now : IsTidy w → AreCounted (w.lines ++ (acts_all c (kind_asked c (Connection hd.next)) behind hd.conn.flight hd.out).lines) → IsInStep (w.lines ++ (acts_all c (kind_asked c (Connection hd.next)) behind hd.conn.flight hd.out).lines) c hd.conn.frames (behind_step hd.next)
+    now : IsTidy w → AreCounted (w.lines ++ (acts_all c (kind_asked c (Connection hd.next)) after hd.conn.flight hd.out).lines) → IsInStep (w.lines ++ (acts_all c (kind_asked c (Connection hd.next)) after hd.conn.flight hd.out).lines) c hd.conn.frames (after_step hd.next)
     now t n =
         let in_step : IsInStep w.lines c hd.conn.frames (Connection hd.core) = subst (IsInStep w.lines c hd.conn.frames) hd.serving (t.used c hd.conn hd.found) in
         let end = steps_end_well hd.core hd.next i w.clock hd.out in_step.0 hd.stepped in
         let parts = split hd.out end.well in
-        let is = split-outcome c (kind_asked c (Connection hd.next)) behind hd.conn.flight hd.out parts in
-        subst (λ (q : StepOutcome). IsInStep (w.lines ++ q.lines) c hd.conn.frames (behind_step hd.next)) (sym is)
-        (tail-in_step w.lines c hd.conn.frames behind parts.packets in_step.1 indexed (kind_asked c (Connection hd.next)) hd.conn.flight parts.tail hd.next (sym (split-closes hd.out parts) ∙ end.closes)
+        let is = split-outcome c (kind_asked c (Connection hd.next)) after hd.conn.flight hd.out parts in
+        subst (λ (q : StepOutcome). IsInStep (w.lines ++ q.lines) c hd.conn.frames (after_step hd.next)) (sym is)
+        (tail-in_step w.lines c hd.conn.frames after parts.packets in_step.1 indexed (kind_asked c (Connection hd.next)) hd.conn.flight parts.tail hd.next (sym (split-closes hd.out parts) ∙ end.closes)
         (subst (λ (q : StepOutcome). frames_of c (w.lines ++ q.lines) < max_count) is (n.frames c)))

@@ -95,12 +95,12 @@ pub record LeavesNatural (o : StepOutcome) : Type 0 where
   pub lines : AreNaturalLines o.lines
   pub flight : IsNaturalFlight o.flight
 
-pub ends-natural : (c : ℕ) (behind : List TranscriptLine) (end : Ended) (o : StepOutcome) → AreNaturalLines behind → IsNaturalEnd end → LeavesNatural o → LeavesNatural (ends c behind end o)
-ends-natural c behind end o b n k =
-    record { lines = All-append IsNaturalLine (o.lines ++ behind) (Close c end ∷ []) (All-append IsNaturalLine o.lines behind k.lines b) (one-line (Close c end) n); flight = tt }
+pub ends-natural : (c : ℕ) (after : List TranscriptLine) (end : Ended) (o : StepOutcome) → AreNaturalLines after → IsNaturalEnd end → LeavesNatural o → LeavesNatural (ends c after end o)
+ends-natural c after end o b n k =
+    record { lines = All-append IsNaturalLine (o.lines ++ after) (Close c end ∷ []) (All-append IsNaturalLine o.lines after k.lines b) (one-line (Close c end) n); flight = tt }
 
-pub acts-natural : (c : ℕ) (kind : Option UpdateKind) (behind : List TranscriptLine) (out : List Action) (o : StepOutcome) → AreNaturalLines behind → AreNatural out → LeavesNatural o → LeavesNatural (fold (acts c kind behind) o out)
-acts-natural c kind behind [] o b n k = k
-acts-natural c kind behind (action.Send bytes ∷ out) o b n k = acts-natural c kind behind out (acts c kind behind o (action.Send bytes)) b n (record { lines = All-append IsNaturalLine o.lines (Send c bytes ∷ []) k.lines (one-line (Send c bytes) tt); flight = k.flight })
-acts-natural c kind behind (action.Ask a ∷ out) o b n k = acts-natural c kind behind out (acts c kind behind o (action.Ask a)) b n (record { lines = k.lines; flight = tt })
-acts-natural c kind behind (action.Close why ∷ out) o b n k = acts-natural c kind behind out (acts c kind behind o (action.Close why)) b n.1 (ends-natural c behind (ended.Cause why) o b n.0 k)
+pub acts-natural : (c : ℕ) (kind : Option UpdateKind) (after : List TranscriptLine) (out : List Action) (o : StepOutcome) → AreNaturalLines after → AreNatural out → LeavesNatural o → LeavesNatural (fold (acts c kind after) o out)
+acts-natural c kind after [] o b n k = k
+acts-natural c kind after (action.Send bytes ∷ out) o b n k = acts-natural c kind after out (acts c kind after o (action.Send bytes)) b n (record { lines = All-append IsNaturalLine o.lines (Send c bytes ∷ []) k.lines (one-line (Send c bytes) tt); flight = k.flight })
+acts-natural c kind after (action.Ask a ∷ out) o b n k = acts-natural c kind after out (acts c kind after o (action.Ask a)) b n (record { lines = k.lines; flight = tt })
+acts-natural c kind after (action.Close why ∷ out) o b n k = acts-natural c kind after out (acts c kind after o (action.Close why)) b n.1 (ends-natural c after (ended.Cause why) o b n.0 k)

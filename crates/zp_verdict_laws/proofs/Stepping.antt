@@ -47,8 +47,8 @@ use Rattle.zp_step.specs.Entries.{entered, then_reply}
 use Rattle.zp_step.specs.Keepalives.{StillMine, TakesUp, checks, keeps_alive}
 use Rattle.zp_step.specs.Kept.{keeps}
 use Rattle.zp_step.specs.Looking.{IfRecords, Looks, asks_for, change_by, decided, expired, max_ranges, moved, pending}
-use Rattle.zp_step.specs.Plans.{Committed, end_behind, finishes}
-use Rattle.zp_step.specs.Replies.{Is, close_behind, closed_by, is_due, replied, send_notices, stage_behind, waits}
+use Rattle.zp_step.specs.Plans.{Committed, end_after, finishes}
+use Rattle.zp_step.specs.Replies.{Is, close_after, closed_by, is_due, replied, send_notices, stage_after, waits}
 use Rattle.zp_step.specs.Stages.{Checking, Committing, Connecting, Core, KeepingAlive, Pending, Reading, Ready, Shut, Stage, Unconnected, Waiting, is_shut, seen_by}
 use Rattle.zp_step.specs.Steps.{Answers, Comes, Goes, Handles, Steps, counted, queued, rests, takes}
 use Rattle.zp_step.specs.Taking.{Takes, TakesReadable, end_of_plain, plainly}
@@ -115,13 +115,13 @@ natural-notices : (ns : List Notice) → AreNatural (send_notices ns)
 natural-notices [] = tt
 natural-notices (n ∷ ns) = natural-notices ns
 
-natural-close : (o : Option Cause) → EndsNatural o → AreNatural (close_behind o)
+natural-close : (o : Option Cause) → EndsNatural o → AreNatural (close_after o)
 natural-close None f = tt
 natural-close (Some why) f = (f, tt)
 
-natural-behind : (o : Option Cause) → IsNaturalIn (stage_behind o)
-natural-behind None = tt
-natural-behind (Some why) = tt
+natural-after : (o : Option Cause) → IsNaturalIn (stage_after o)
+natural-after None = tt
+natural-after (Some why) = tt
 
 -- the stage changes, and nothing else that counts
 staged : (c : Core) (st : Stage) → IsNaturalCore c → IsNaturalIn st → IsNaturalCore (record c { stage = st })
@@ -129,7 +129,7 @@ staged c st k in' = record { stage = in'; cursor = k.cursor; mine = k.mine }
 
 natural-replied : (c : Core) (p : Pending) → IsNaturalCore c → IsNaturalPending p → Naturally (replied c p).0 (replied c p).1
 natural-replied c p k n = record {
-  core = record { stage = natural-behind p.ends; cursor = n.number; mine = k.mine };
+  core = record { stage = natural-after p.ends; cursor = n.number; mine = k.mine };
   acts = natural-append (send_notices (seen_by p.change c.watches).notices) _ (natural-notices (seen_by p.change c.watches).notices) (natural-close p.ends n.ends);
 }
 
@@ -157,7 +157,7 @@ natural-decided c xid r v now (Planned p) tree k h d = record { core = staged c 
 natural-decided c xid r v now Expired tree k h d = natural-waits c (expired v xid) k (natural-expired v xid h)
 natural-decided c xid r v now (Moved found) tree k h d = natural-waits c (moved c.who v found xid) k (record { number = view-number v h; ends = (k.mine, d) })
 
-natural-end : (r : Request) → EndsNatural (end_behind r)
+natural-end : (r : Request) → EndsNatural (end_after r)
 natural-end (req.Create p d a f) = tt
 natural-end (req.Delete p n) = tt
 natural-end (req.SetData p d n) = tt
@@ -225,7 +225,7 @@ module _ (now : ℕ) (c' : Core) (out : List Action) where
   natural-readable : (c : Core) (x : Frame) (o : Option Told) → plain_reply no_watches x ≡ o → IsNaturalCore c → TakesReadable c now c' out x o → Naturally c' out
   natural-readable c x (Some t) e k h =
       let ends = end_of_plain (is_auth_refusal t.reply) in
-      natural-is (plainly c (xid_of x) t.reply) (record { core = record { stage = natural-behind ends; cursor = k.cursor; mine = k.mine }; acts = natural-close ends (natural-plain (is_auth_refusal t.reply)) }) h
+      natural-is (plainly c (xid_of x) t.reply) (record { core = record { stage = natural-after ends; cursor = k.cursor; mine = k.mine }; acts = natural-close ends (natural-plain (is_auth_refusal t.reply)) }) h
   natural-readable c NoHeader None e k h = absurd h
   natural-readable c (Unreadable xid place) None e k h = absurd h
   natural-readable c (Unknown xid kind) None e k h = absurd h

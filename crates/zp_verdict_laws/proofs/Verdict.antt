@@ -66,7 +66,7 @@ served-fresh lines c s = record {
 clocks-within : (hs : List Happening) (ticks : List Tick) (w : World) → Runs hs ticks w → IsServedRun ticks w.lines → (k c i now : ℕ) (z : ℤ) → slice_get w.lines k ≡ Some (Update (record { zxid = z; kind = Asked c i now })) → now ≤ max_time
 clocks-within hs ticks w runs served k c i now z at =
     let f = asked-framed w.lines k z c i now served.history.legal at in
-    let (j, t, there, clock, behind, before) = served.punctual k f.0 c i now z at (ap (option_map (λ (x : ℕ × List ℕ). x.0)) f.2) in
+    let (j, t, there, clock, after, before) = served.punctual k f.0 c i now z at (ap (option_map (λ (x : ℕ × List ℕ). x.0)) f.2) in
     subst (λ n. n ≤ max_time) clock (run-clocks hs ticks w runs j t there)
 
 pub every-replay-lawful : EveryReplayIsLawful

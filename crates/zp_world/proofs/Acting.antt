@@ -145,7 +145,7 @@ fit-acting c kind first zxid frames core w flight out w' now rest left acting =
 -- ---- after the last one
 
 pub record HasActed (c : ℕ) (kind : Option UpdateKind) (first : ℕ) (zxid : ℤ) (frames : List (List ℕ)) (core : Core) (w : World) (flight : Option Flight) (out : List Action) (w' : World) (now : Option Flight) (left : List (List ℕ)) : Type 0 where
-  pub behind : left ≡ (if is_shut core.stage then [] else frames)
+  pub after : left ≡ (if is_shut core.stage then [] else frames)
   pub out_is : now ≡ (acts_all c kind (frame_lines c first zxid frames) flight out).flight
   pub fit : IsFitFlight now
   pub flies : is_shut core.stage ≡ false → IsFlyingOf core now
@@ -154,9 +154,9 @@ pub record HasActed (c : ℕ) (kind : Option UpdateKind) (first : ℕ) (zxid : �
 true_false : true ≡ false → ⊥
 true_false e = cc
 
-left-behind : (core : Core) (frames : List (List ℕ)) (now : Option Flight) (left : List (List ℕ)) → Goes core frames now [] left → left ≡ (if is_shut core.stage then [] else frames)
-left-behind core frames now left (inl on) = on.2 ∙ ap (λ b. if b then [] else frames) on.0.closes
-left-behind core frames now left (inr over) = over.3 ∙ sym (ap (λ b. if b then [] else frames) over.0)
+left-after : (core : Core) (frames : List (List ℕ)) (now : Option Flight) (left : List (List ℕ)) → Goes core frames now [] left → left ≡ (if is_shut core.stage then [] else frames)
+left-after core frames now left (inl on) = on.2 ∙ ap (λ b. if b then [] else frames) on.0.closes
+left-after core frames now left (inr over) = over.3 ∙ sym (ap (λ b. if b then [] else frames) over.0)
 
 flies-then : (core : Core) (frames : List (List ℕ)) (now : Option Flight) (left : List (List ℕ)) → Goes core frames now [] left → is_shut core.stage ≡ false → IsFlyingOf core now
 flies-then core frames now left (inl on) live = on.0.stays live refl
@@ -169,7 +169,7 @@ end-acting c kind first zxid frames core w flight out w' now rest left none acti
     let goes : Goes core frames now [] left = subst (λ (r : List Action). Goes core frames now r left) none acting.goes in
     let done : acting.done ≡ acts_all c kind (frame_lines c first zxid frames) flight out = sym (ap (fold (acts c kind (frame_lines c first zxid frames)) acting.done) none) ∙ acting.later in
     record {
-      behind = left-behind core frames now left goes;
+      after = left-after core frames now left goes;
       out_is = acting.flight_is ∙ ap (λ (o : StepOutcome). o.flight) done;
       fit = fit-acting c kind first zxid frames core w flight out w' now rest left acting;
       flies = flies-then core frames now left goes;
@@ -184,16 +184,16 @@ acted-at c kind kind' first zxid zxid' frames core w flight out w' now left same
 
 -- ---- what is put back
 
-pub active-behind : (core : Core) (now : Option Flight) (b : Bool) → is_shut core.stage ≡ b → IsFitFlight now → (is_shut core.stage ≡ false → IsFlyingOf core now) → IsActive (if b then Closed else Connection core) now
-active-behind core now true is fit flies = fit
-active-behind core now false is fit flies = record { live = is; flies = flies is }
+pub active-after : (core : Core) (now : Option Flight) (b : Bool) → is_shut core.stage ≡ b → IsFitFlight now → (is_shut core.stage ≡ false → IsFlyingOf core now) → IsActive (if b then Closed else Connection core) now
+active-after core now true is fit flies = fit
+active-after core now false is fit flies = record { live = is; flies = flies is }
 
 seated-same : (seat : Seat) (a b : Actor) (f g : Option Flight) → a ≡ b → f ≡ g → seated seat a f ≡ seated seat b g
 seated-same seat a b f g e h = λ i. seated seat (e i) (h i)
 
-pub put-behind : (c : ℕ) (w mid : World) (seat : Seat) (a b : Actor) (now : Option Flight) (o : StepOutcome) (conns : Conns) → mid ≡ added w o → conns ≡ insert mid.conns c (seated seat a now) → a ≡ b → now ≡ o.flight
+pub put-after : (c : ℕ) (w mid : World) (seat : Seat) (a b : Actor) (now : Option Flight) (o : StepOutcome) (conns : Conns) → mid ≡ added w o → conns ≡ insert mid.conns c (seated seat a now) → a ≡ b → now ≡ o.flight
     → record mid { conns = conns } ≡ leaves c w (left seat) b o
-put-behind c w mid seat a b now o conns is put actor_is out_is =
+put-after c w mid seat a b now o conns is put actor_is out_is =
     ap (λ (m : Conns). record mid { conns = m }) (put ∙ ap (insert mid.conns c) (seated-same seat a b now o.flight actor_is out_is))
     ∙ ap (λ (v : World). record v { conns = insert v.conns c (seated seat b o.flight) }) is
 

@@ -3,7 +3,7 @@ use Rattle.std.proofs.Common.{◌≡◌, ℕ, refl, sym, ap, ◌∙◌, Bool, tr
 use Rattle.std.specs.Prelude.{Some, None, List, ℤ, pos, negsuc, ◌+ℤ◌}
 use Rattle.std.specs.Option.{option_and_then}
 use Rattle.zk_model.specs.Watches.{is_unarmed}
-use Rattle.zp_script.specs.Entries.{cursor_at, cursor_of, cursor_wanted, entry_behind}
+use Rattle.zp_script.specs.Entries.{cursor_at, cursor_of, cursor_wanted, entry_after}
 use Rattle.zp_script.specs.Faults.{flight_at}
 use Rattle.zp_script.specs.Worlds.{Conn, Connection, World, conn_at}
 use Rattle.zn_layout.specs.declared.entry.Entry.{Entry}
@@ -50,6 +50,6 @@ cursor-wanted w c x core cursor there is at = sym (ap (option_and_then (λ (y : 
 pub flight-none : (w : World) (c : ℕ) (x : Conn) → conn_at c w ≡ Some x → flight_at c w ≡ None → x.flight ≡ None
 flight-none w c x there none = sym (ap (option_and_then (λ (y : Conn). y.flight)) there) ∙ none
 
-pub next-number : (es : List Entry) (cursor : ℤ) (e : Entry) → AreNumbered es → entry_behind es cursor ≡ Some e → e.number ≡ cursor +ℤ pos 1
+pub next-number : (es : List Entry) (cursor : ℤ) (e : Entry) → AreNumbered es → entry_after es cursor ≡ Some e → e.number ≡ cursor +ℤ pos 1
 next-number es (pos n) e numbered h = (numbered n e h).number
 next-number es (negsuc n) e numbered h = absurd (none_some h)

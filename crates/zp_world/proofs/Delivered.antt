@@ -18,7 +18,7 @@ use Rattle.zp_script.specs.Faults.{flight_at}
 use Rattle.zp_script.specs.Handing.{AnswerComes, AnswerComesTo, FailureComes, FailureComesTo, Handed, Reaps, landed, landed_conn}
 use Rattle.zp_script.specs.Kinds.{kind_asked, kind_of_reap}
 use Rattle.zp_script.specs.StepOutcomes.{acts_all, ended_by, ends, leaves, left_by, quiet, reap_acts}
-use Rattle.zp_script.specs.Worlds.{Actor, Closed, Conn, Conns, Connection, Reaper, World, behind_reap, behind_step, conn_at, with_conn}
+use Rattle.zp_script.specs.Worlds.{Actor, Closed, Conn, Conns, Connection, Reaper, World, after_reap, after_step, conn_at, with_conn}
 use Rattle.zp_step.specs.Stages.{Core}
 use Rattle.zp_step.specs.declared.input.Input.{Input}
 use Rattle.zp_step.specs.declared.input.Input.TheVariants as input
@@ -52,7 +52,7 @@ hands c w w' seat core flight x s =
       next = s.next;
       out = s.out;
       stepped = s.stepped;
-      result = s.result ∙ sym (leaves-with_conn c w conn conn (behind_step s.next) (acts_all c (kind_asked c (Connection s.next)) [] flight s.out));
+      result = s.result ∙ sym (leaves-with_conn c w conn conn (after_step s.next) (acts_all c (kind_asked c (Connection s.next)) [] flight s.out));
     }
 
 -- ---- a reaper
@@ -60,7 +60,7 @@ hands c w w' seat core flight x s =
 reaps-with_conn : (c : ℕ) (w w' : World) (x y : Conn) (reap : Reap) (a : Option Answer) → Reaps c w a w' x reap → Reaps c (with_conn w c y) a w' x reap
 reaps-with_conn c w w' x y reap a h = elim h [
   | inl e ↦ inl (record { key = e.key; value = e.value; found = e.found; result = e.result ∙ sym (leaves-with_conn c w x y Closed (ended_by c (cause.Damaged e.key e.value) x.flight)) })
-  | inr s ↦ inr (record { step = s.step; next = s.next; stepped = s.stepped; result = s.result ∙ sym (leaves-with_conn c w x y (behind_reap s.next) (reap_acts c (kind_asked c (Reaper s.next)) x.flight s.step)) })
+  | inr s ↦ inr (record { step = s.step; next = s.next; stepped = s.stepped; result = s.result ∙ sym (leaves-with_conn c w x y (after_reap s.next) (reap_acts c (kind_asked c (Reaper s.next)) x.flight s.step)) })
 ]
 
 -- a record of this seat
@@ -73,15 +73,15 @@ pub record IsAt (x : Conn) (seat : Seat) : Type 0 where
 same-seat : (x : Conn) (seat : Seat) (a : Actor) (f : Option Flight) → IsAt x seat → (record x { actor = a; flight = f }) ≡ seated seat a f
 same-seat x seat a f at = λ i. record { proxy = at.proxy i; actor = a; stream = at.stream i; frames = at.frames i; flight = f }
 
-behind-asked : (reap : Reap) (p : Phase) → reap.phase ≡ p → IsAsked p → behind_reap reap ≡ Reaper reap
-behind-asked reap Unasked e h = absurd h
-behind-asked reap Looking e h = rw e refl
-behind-asked reap (Counting revision wants) e h = rw e refl
-behind-asked reap (Removing again) e h = rw e refl
-behind-asked reap Over e h = absurd h
+after-asked : (reap : Reap) (p : Phase) → reap.phase ≡ p → IsAsked p → after_reap reap ≡ Reaper reap
+after-asked reap Unasked e h = absurd h
+after-asked reap Looking e h = rw e refl
+after-asked reap (Counting revision wants) e h = rw e refl
+after-asked reap (Removing again) e h = rw e refl
+after-asked reap Over e h = absurd h
 
-behind-over : (reap : Reap) → reap.phase ≡ Over → behind_reap reap ≡ Closed
-behind-over reap e = rw e refl
+after-over : (reap : Reap) → reap.phase ≡ Over → after_reap reap ≡ Closed
+after-over reap e = rw e refl
 
 -- it asks, and goes on
 reap-asks : (c : ℕ) (w w' : World) (x : Conn) (seat : Seat) (reap next : Reap) (a : Option Answer) (q : Ask) (kind : Option UpdateKind) → IsAt x seat
@@ -89,12 +89,12 @@ reap-asks : (c : ℕ) (w w' : World) (x : Conn) (seat : Seat) (reap next : Reap)
     → w' ≡ with_conn w c (seated seat (Reaper next) (Some (Out (record { ask = q; kind = kind })))) → Reaps c w a w' x reap
 reap-asks c w w' x seat reap next a q kind at steps waits kind-is is =
     let f : Option Flight = Some (Out (record { ask = q; kind = kind })) in
-    let goes : behind_reap next ≡ Reaper next = behind-asked next next.phase refl waits.0 in
+    let goes : after_reap next ≡ Reaper next = after-asked next next.phase refl waits.0 in
     let asked : ◌≡◌ {A = Option Flight} (Some (Out (record { ask = q; kind = kind_of_reap next.session next.phase }))) f = ap (λ (k : Option UpdateKind). Some (Out (record { ask = q; kind = k }))) (sym kind-is) in
-    let first : ◌≡◌ {A = Conn} (record x { actor = behind_reap next; flight = Some (Out (record { ask = q; kind = kind_of_reap next.session next.phase })) }) (record x { actor = Reaper next; flight = f }) =
+    let first : ◌≡◌ {A = Conn} (record x { actor = after_reap next; flight = Some (Out (record { ask = q; kind = kind_of_reap next.session next.phase })) }) (record x { actor = Reaper next; flight = f }) =
     (λ i. record x { actor = goes i; flight = asked i }) in
-    let conn : ◌≡◌ {A = Conn} (record x { actor = behind_reap next; flight = Some (Out (record { ask = q; kind = kind_of_reap next.session next.phase })) }) (seated seat (Reaper next) f) = first ∙ same-seat x seat (Reaper next) f at in
-    let goal : leaves c w x (behind_reap next) (reap_acts c (kind_asked c (Reaper next)) x.flight (reaped.Ask q)) ≡ with_conn w c (seated seat (Reaper next) f) =
+    let conn : ◌≡◌ {A = Conn} (record x { actor = after_reap next; flight = Some (Out (record { ask = q; kind = kind_of_reap next.session next.phase })) }) (seated seat (Reaper next) f) = first ∙ same-seat x seat (Reaper next) f at in
+    let goal : leaves c w x (after_reap next) (reap_acts c (kind_asked c (Reaper next)) x.flight (reaped.Ask q)) ≡ with_conn w c (seated seat (Reaper next) f) =
     (λ i. record (with_conn w c (conn i)) { lines = append-nil w.lines i; strays = append-nil w.strays i }) in
     inr (record { step = reaped.Ask q; next = next; stepped = steps; result = is ∙ sym goal })
 
@@ -110,7 +110,7 @@ reap-is-over c w w' x seat reap next a step e at steps over acts is = inr (recor
   step = step;
   next = next;
   stepped = steps;
-  result = is ∙ sym (ap (leaves c w x (behind_reap next)) (acts x.flight) ∙ ended-is c w x seat (behind_reap next) e at (behind-over next over));
+  result = is ∙ sym (ap (leaves c w x (after_reap next)) (acts x.flight) ∙ ended-is c w x seat (after_reap next) e at (after-over next over));
 })
 
 reap-is-damaged : (c : ℕ) (w w' : World) (x : Conn) (seat : Seat) (reap : Reap) (a : Option Answer) (key value : Bytes) → IsAt x seat → IsReapFault reap a (Damaged key value)

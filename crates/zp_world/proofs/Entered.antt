@@ -4,7 +4,7 @@ use Rattle.std.specs.Prelude.{Some, OnOk, Result, pos}
 use Rattle.std.proofs.lemmas.Result.{on_ok_weaker}
 use Rattle.zn_layout.specs.declared.entry.Entry.{Entry}
 use Rattle.zp_script.specs.Effects.{EndsBy, EntersBy, IsEntry, LagsBy}
-use Rattle.zp_script.specs.Entries.{cursor_at, entry_behind, max_kept, next_entry}
+use Rattle.zp_script.specs.Entries.{cursor_at, entry_after, max_kept, next_entry}
 use Rattle.zp_script.specs.Handing.{Handed}
 use Rattle.zp_script.specs.Worlds.{Conn, Connection, World, conn_at}
 use Rattle.zp_step.specs.Stages.{Core, counted_up}
@@ -20,10 +20,10 @@ to-serving : (c : ℕ) (w w' : World) (x : Input) → IsServing c w → HandsTo 
 to-serving c w w' x s all = all s.conn s.core s.found s.serving
 
 module _ {E : Type 0} (c : ℕ) (w w' : World) (r : Result (Unit {0}) E) where
-  pub entered : (x : Input) (e : Entry) (cursor : ℤ) → IsServing c w → cursor_at c w ≡ Some cursor → entry_behind w.entries cursor ≡ Some e → IsEntry e x
+  pub entered : (x : Input) (e : Entry) (cursor : ℤ) → IsServing c w → cursor_at c w ≡ Some cursor → entry_after w.entries cursor ≡ Some e → IsEntry e x
       → OnOk r (HandsTo c w x w') → OnOk r (EntersBy c w w' (next_entry c w))
-  entered x e cursor serving at behind is h = on_ok_weaker r (λ (all : HandsTo c w x w').
-      subst (EntersBy c w w') (sym (next-is c w (Some cursor) at ∙ behind)) (x, is, to-serving c w w' x serving all)) h
+  entered x e cursor serving at after is h = on_ok_weaker r (λ (all : HandsTo c w x w').
+      subst (EntersBy c w w') (sym (next-is c w (Some cursor) at ∙ after)) (x, is, to-serving c w w' x serving all)) h
 
   pub lagged : (cursor floor : ℤ) → IsServing c w → cursor_at c w ≡ Some cursor → floor ≡ pos (length w.entries - max_kept)
       → OnOk r (HandsTo c w (input.Lagged cursor floor) w') → OnOk r (LagsBy c w w' (cursor_at c w))

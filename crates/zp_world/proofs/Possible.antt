@@ -9,7 +9,7 @@ use Rattle.zn_layout.specs.declared.entry.Entry.{Entry}
 use Rattle.zp_script.specs.declared.flight.Asking.{Asking}
 use Rattle.zp_script.specs.declared.flight.Flight.{Flight}
 use Rattle.zp_script.specs.declared.flight.Flight.TheVariants.{Out}
-use Rattle.zp_script.specs.Entries.{cursor_at, entry_behind, is_lagging, next_entry}
+use Rattle.zp_script.specs.Entries.{cursor_at, entry_after, is_lagging, next_entry}
 use Rattle.zp_script.specs.Faults.{ask_fault, carry_fault, connection_fault, entry_fault, fault, flight_at, if_fails, is_reaper_at, is_to_carry_out, new_fault, open_fault}
 use Rattle.zp_script.specs.Worlds.{Actor, Closed, Conn, Connection, Reaper, World, conn_at, is_closed, is_reaper}
 use Rattle.zp_step.specs.Stages.{Core}
@@ -170,15 +170,15 @@ pub lag-serves : (c : ℕ) (w : World) → fault w (line.Lag c) ≡ None → IsE
 unfolding fault
 lag-serves c w h = let e = entry-taken c w (if_fails (not (is_lagging c w)) why.NoLag None) h in (e.0, lags (is_lagging c w) e.1)
 
-pub next-is : (c : ℕ) (w : World) (o : Option ℤ) → cursor_at c w ≡ o → next_entry c w ≡ option_and_then (entry_behind w.entries) o
-next-is c w o e = ap (option_and_then (entry_behind w.entries)) e
+pub next-is : (c : ℕ) (w : World) (o : Option ℤ) → cursor_at c w ≡ o → next_entry c w ≡ option_and_then (entry_after w.entries) o
+next-is c w o e = ap (option_and_then (entry_after w.entries)) e
 
 -- there is a cursor
 pub entry-cursor : (c : ℕ) (w : World) → IsEntered c w → cursor_at c w ≡ None → ⊥
 entry-cursor c w e none = none_some (sym (next-is c w None none) ∙ e.next)
 
 -- there is an entry after the cursor
-pub entry-missing : (c : ℕ) (w : World) (cursor : ℤ) → IsEntered c w → cursor_at c w ≡ Some cursor → entry_behind w.entries cursor ≡ None → ⊥
+pub entry-missing : (c : ℕ) (w : World) (cursor : ℤ) → IsEntered c w → cursor_at c w ≡ Some cursor → entry_after w.entries cursor ≡ None → ⊥
 entry-missing c w cursor e at none = none_some (sym (next-is c w (Some cursor) at ∙ none) ∙ e.next)
 
 -- ---- what is out

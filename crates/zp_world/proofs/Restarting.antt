@@ -57,17 +57,17 @@ untied k n apart = go (eq_by_cmp nat_cmp n k) refl
     go false e = refl
 
 -- one more in front
-found-behind : (e : ℕ × Conn) (more es : List (ℕ × Conn)) → AreOthers e.0 es → Stand (λ k. find nat_cmp k more) es → Stand (λ k. find nat_cmp k (e ∷ more)) es
-found-behind e more [] others stand = tt
-found-behind e more (d ∷ es) others stand =
-    (ap (λ b. cond b (Some e.1) (find nat_cmp d.0 more)) (untied e.0 d.0 others.0) ∙ stand.0, stand.1, found-behind e more es others.1 stand.2)
+found-after : (e : ℕ × Conn) (more es : List (ℕ × Conn)) → AreOthers e.0 es → Stand (λ k. find nat_cmp k more) es → Stand (λ k. find nat_cmp k (e ∷ more)) es
+found-after e more [] others stand = tt
+found-after e more (d ∷ es) others stand =
+    (ap (λ b. cond b (Some e.1) (find nat_cmp d.0 more)) (untied e.0 d.0 others.0) ∙ stand.0, stand.1, found-after e more es others.1 stand.2)
 
 all-found : (es : List (ℕ × Conn)) → is_sorted nat_cmp es ≡ true → Stand (λ k. find nat_cmp k es) es
 all-found [] h = tt
 all-found (e ∷ es) h =
     let q = and_parts (below_all nat_cmp e.0 es) (is_sorted nat_cmp es) h in
     let others = below-others e.0 es q.0 in
-    (ap (λ b. cond b (Some e.1) (find nat_cmp e.0 es)) (itself e.0), others, found-behind e es es others (all-found es q.1))
+    (ap (λ b. cond b (Some e.1) (find nat_cmp e.0 es)) (itself e.0), others, found-after e es es others (all-found es q.1))
 
 stand-as : (f g : ℕ → Option Conn) (es : List (ℕ × Conn)) → ((k : ℕ) → g k ≡ f k) → Stand f es → Stand g es
 stand-as f g [] same h = tt
@@ -136,12 +136,12 @@ begin-stopping p w numbers are = record {
   later = stopped-among p w (entries w.conns);
 }
 
-stand-behind : (w : World) (e : ℕ × Conn) (es : List (ℕ × Conn)) → AreOthers e.0 es → Stand (λ k. conn_at k w) es → Stand (λ k. conn_at k (ended w e)) es
-stand-behind w e [] others stand = tt
-stand-behind w e (d ∷ es) others stand = (
+stand-after : (w : World) (e : ℕ × Conn) (es : List (ℕ × Conn)) → AreOthers e.0 es → Stand (λ k. conn_at k w) es → Stand (λ k. conn_at k (ended w e)) es
+stand-after w e [] others stand = tt
+stand-after w e (d ∷ es) others stand = (
   get-insert nat_cmp_total w.conns e.0 (record e.1 { actor = Closed; flight = None }) d.0 ∙ ap (λ b. cond b (Some (record e.1 { actor = Closed; flight = None })) (get w.conns d.0)) (untied e.0 d.0 others.0) ∙ stand.0,
   stand.1,
-  stand-behind w e es others.1 stand.2,
+  stand-after w e es others.1 stand.2,
 )
 
 first-is : {A : Type 0} {x y : A} {xs ys : List A} → x ∷ xs ≡ y ∷ ys → x ≡ y
@@ -162,7 +162,7 @@ more-stopping p w w' w'' n more rest first s ends = go s.left (sym first ∙ s.n
         record {
           left = es;
           numbers_are = rest-is are;
-          stand = subst (λ (v : World). Stand (λ k. conn_at k v) es) (sym now) (stand-behind w' e es stand.1 stand.2);
+          stand = subst (λ (v : World). Stand (λ k. conn_at k v) es) (sym now) (stand-after w' e es stand.1 stand.2);
           open_are = open_are.1;
           later = ap (λ (v : World). fold (stopped p) v es) now ∙ ap (λ b. fold (stopped p) (if b then ended w' e else w') es) (sym open_are.0) ∙ later;
         }

@@ -14,7 +14,7 @@ use Rattle.zp_script.specs.Faults.{connection_fault, if_fails}
 use Rattle.zp_script.specs.Handing.{Handed}
 use Rattle.zp_script.specs.StepOutcomes.{StepOutcome, acts_all, leaves}
 use Rattle.zp_script.specs.Kinds.{kind_asked}
-use Rattle.zp_script.specs.Worlds.{Actor, Closed, Conn, Conns, Connection, Reaper, World, behind_step, conn_at, is_closed, is_open_conn, is_reaper, with_conn, zxid_at}
+use Rattle.zp_script.specs.Worlds.{Actor, Closed, Conn, Conns, Connection, Reaper, World, after_step, conn_at, is_closed, is_open_conn, is_reaper, with_conn, zxid_at}
 use Rattle.zp_script.specs.declared.flight.Flight.{Flight}
 use Rattle.zp_script.specs.declared.flight.Flight.TheVariants.{Out, Carried, Denied}
 use Rattle.zp_step.specs.declared.action.Action.{Action}
@@ -38,10 +38,10 @@ leaves-shown c w seat actor flight bytes a o =
     let lines : List TranscriptLine = w.lines ++ FrameLine c seat.frames (zxid_at w.store) bytes ∷ [] in
     ap (λ (m : Conns). record w { conns = m; lines = lines ++ o.lines; strays = w.strays ++ o.strays }) (insert-removed w.conns c y ∙ sym (insert-twice w.conns c x y))
 
-handed-seated : (c : ℕ) (w w' : World) (core : Core) (seat : Seat) (flight : Option Flight) (bytes : List ℕ) (behind : List (List ℕ))
-    → Stepped c (frame_lines c (counted_up (seat.frames + 1)) (zxid_at w.store) behind) (shown c (without c w) (zxid_at w.store) seat bytes) (left_next seat) core flight (input.Frame bytes) w'
-    → Handed c (frame_lines c (counted_up (seat.frames + 1)) (zxid_at w.store) behind) (shown_frame c w (seated seat (Connection core) flight) bytes) (input.Frame bytes) w'
-handed-seated c w w' core seat flight bytes behind s =
+handed-seated : (c : ℕ) (w w' : World) (core : Core) (seat : Seat) (flight : Option Flight) (bytes : List ℕ) (after : List (List ℕ))
+    → Stepped c (frame_lines c (counted_up (seat.frames + 1)) (zxid_at w.store) after) (shown c (without c w) (zxid_at w.store) seat bytes) (left_next seat) core flight (input.Frame bytes) w'
+    → Handed c (frame_lines c (counted_up (seat.frames + 1)) (zxid_at w.store) after) (shown_frame c w (seated seat (Connection core) flight) bytes) (input.Frame bytes) w'
+handed-seated c w w' core seat flight bytes after s =
     let x : Conn = record (seated seat (Connection core) flight) { frames = counted_up (seat.frames + 1) } in
     record {
       conn = x;
@@ -51,32 +51,32 @@ handed-seated c w w' core seat flight bytes behind s =
       next = s.next;
       out = s.out;
       stepped = s.stepped;
-      result = s.result ∙ leaves-shown c w seat (Connection core) flight bytes (behind_step s.next) (acts_all c (kind_asked c (Connection s.next)) (frame_lines c (counted_up (seat.frames + 1)) (zxid_at w.store) behind) flight s.out);
+      result = s.result ∙ leaves-shown c w seat (Connection core) flight bytes (after_step s.next) (acts_all c (kind_asked c (Connection s.next)) (frame_lines c (counted_up (seat.frames + 1)) (zxid_at w.store) after) flight s.out);
     }
 
-pub handed-frame : (c : ℕ) (w w' : World) (x : Conn) (core : Core) (seat : Seat) (flight : Option Flight) (zxid : ℤ) (bytes : List ℕ) (behind : List (List ℕ)) → seated seat (Connection core) flight ≡ x → zxid ≡ zxid_at w.store
-    → Stepped c (frame_lines c (counted_up (seat.frames + 1)) zxid behind) (shown c (without c w) zxid seat bytes) (left_next seat) core flight (input.Frame bytes) w'
-    → Handed c (frame_lines c (counted_up (x.frames + 1)) (zxid_at w.store) behind) (shown_frame c w x bytes) (input.Frame bytes) w'
-handed-frame c w w' x core seat flight zxid bytes behind is same s =
-    subst (λ (y : Conn). Handed c (frame_lines c (counted_up (y.frames + 1)) (zxid_at w.store) behind) (shown_frame c w y bytes) (input.Frame bytes) w') is
-    (handed-seated c w w' core seat flight bytes behind
-    (subst (λ (z : ℤ). Stepped c (frame_lines c (counted_up (seat.frames + 1)) z behind) (shown c (without c w) z seat bytes) (left_next seat) core flight (input.Frame bytes) w') same s))
+pub handed-frame : (c : ℕ) (w w' : World) (x : Conn) (core : Core) (seat : Seat) (flight : Option Flight) (zxid : ℤ) (bytes : List ℕ) (after : List (List ℕ)) → seated seat (Connection core) flight ≡ x → zxid ≡ zxid_at w.store
+    → Stepped c (frame_lines c (counted_up (seat.frames + 1)) zxid after) (shown c (without c w) zxid seat bytes) (left_next seat) core flight (input.Frame bytes) w'
+    → Handed c (frame_lines c (counted_up (x.frames + 1)) (zxid_at w.store) after) (shown_frame c w x bytes) (input.Frame bytes) w'
+handed-frame c w w' x core seat flight zxid bytes after is same s =
+    subst (λ (y : Conn). Handed c (frame_lines c (counted_up (y.frames + 1)) (zxid_at w.store) after) (shown_frame c w y bytes) (input.Frame bytes) w') is
+    (handed-seated c w w' core seat flight bytes after
+    (subst (λ (z : ℤ). Stepped c (frame_lines c (counted_up (seat.frames + 1)) z after) (shown c (without c w) z seat bytes) (left_next seat) core flight (input.Frame bytes) w') same s))
 
 -- ---- a connection stays one
 
-no-reaper : (core : Core) → is_reaper (behind_step core) ≡ false
+no-reaper : (core : Core) → is_reaper (after_step core) ≡ false
 no-reaper core = go (is_shut core.stage)
   where
     go : (b : Bool) → is_reaper (if b then Closed else Connection core) ≡ false
     go true = refl
     go false = refl
 
-pub handed-connection : (c : ℕ) (behind : List TranscriptLine) (w w' : World) (i : Input) → Handed c behind w i w' → IsConnectionAt c w' × (zxid_at w'.store ≡ zxid_at w.store)
-handed-connection c behind w w' i h =
-    let o : StepOutcome = acts_all c (kind_asked c (Connection h.next)) behind h.conn.flight h.out in (
+pub handed-connection : (c : ℕ) (after : List TranscriptLine) (w w' : World) (i : Input) → Handed c after w i w' → IsConnectionAt c w' × (zxid_at w'.store ≡ zxid_at w.store)
+handed-connection c after w w' i h =
+    let o : StepOutcome = acts_all c (kind_asked c (Connection h.next)) after h.conn.flight h.out in (
       record {
-        conn = record h.conn { actor = behind_step h.next; flight = o.flight };
-        found = ap (conn_at c) h.result ∙ conn-left c w h.conn (behind_step h.next) o;
+        conn = record h.conn { actor = after_step h.next; flight = o.flight };
+        found = ap (conn_at c) h.result ∙ conn-left c w h.conn (after_step h.next) o;
         served = no-reaper h.next;
       },
       ap (λ (v : World). zxid_at v.store) h.result,
@@ -93,22 +93,22 @@ arrived-connection (frame ∷ more) c w w' at (x, mid, there, handed, rest) =
 
 -- ---- one frame, and those after it
 
-pub serving-next : (c : ℕ) (zxid : ℤ) (w w' : World) (x : Conn) (frame : List ℕ) (behind left : List (List ℕ)) → zxid ≡ zxid_at w.store → Takes c w x frame behind w' left → IsServing c zxid left w'
-serving-next c zxid w w' x frame behind left same t =
+pub serving-next : (c : ℕ) (zxid : ℤ) (w w' : World) (x : Conn) (frame : List ℕ) (after left : List (List ℕ)) → zxid ≡ zxid_at w.store → Takes c w x frame after w' left → IsServing c zxid left w'
+serving-next c zxid w w' x frame after left same t =
     let stays = handed-connection c _ _ w' _ t.handed in
     let at = stays.0 in
     record {
       conn = at.conn;
       found = at.found;
       served = at.served;
-      none = λ closed. t.rest ∙ ap (λ (o : Option Conn). if is_open_conn o then behind else []) at.found ∙ ap (λ (b : Bool). if not b then behind else []) closed;
+      none = λ closed. t.rest ∙ ap (λ (o : Option Conn). if is_open_conn o then after else []) at.found ∙ ap (λ (b : Bool). if not b then after else []) closed;
       zxid_is = same ∙ sym stays.1;
     }
 
-pub arrives-next : (c : ℕ) (w mid w' : World) (x : Conn) (frame : List ℕ) (behind left : List (List ℕ)) → conn_at c w ≡ Some x → Takes c w x frame behind mid left → FramesArrive c mid left w' → FramesArrive c w (frame ∷ behind) w'
-arrives-next c w mid w' x frame behind left there t arrives = (x, mid, there, t.handed, go (is_open_conn (conn_at c mid)) t.rest)
+pub arrives-next : (c : ℕ) (w mid w' : World) (x : Conn) (frame : List ℕ) (after left : List (List ℕ)) → conn_at c w ≡ Some x → Takes c w x frame after mid left → FramesArrive c mid left w' → FramesArrive c w (frame ∷ after) w'
+arrives-next c w mid w' x frame after left there t arrives = (x, mid, there, t.handed, go (is_open_conn (conn_at c mid)) t.rest)
   where
-    go : (b : Bool) → left ≡ (if b then behind else []) → MatchBool b (FramesArrive c mid behind w') (w' ≡ mid)
+    go : (b : Bool) → left ≡ (if b then after else []) → MatchBool b (FramesArrive c mid after w') (w' ≡ mid)
     go true e = subst (λ (fs : List (List ℕ)). FramesArrive c mid fs w') e arrives
     go false e = subst (λ (fs : List (List ℕ)). FramesArrive c mid fs w') e arrives
 
@@ -147,21 +147,21 @@ short-left : (frames left : List (List ℕ)) → AreShort frames → IsLeft fram
 short-left frames left short (inl same) = subst AreShort (sym same) short
 short-left frames left short (inr none) = subst AreShort (sym none) (All-nil (λ (f : List ℕ). length f ≤ max_frame))
 
-pub coming-next : (c : ℕ) (zxid : ℤ) (start now next : World) (frames : List (List ℕ)) (frame : List ℕ) (behind left : List (List ℕ)) → AreComing c zxid start frames now (frame ∷ behind) → IsLeft behind left
-    → ((x : Conn) (core : Core) → conn_at c now ≡ Some x → x.actor ≡ Connection core → zxid ≡ zxid_at now.store → Takes c now x frame behind next left) → AreComing c zxid start frames next left
-coming-next c zxid start now next frames frame behind left coming is_left takes = record {
-  short = short-left behind left (All-tail (λ (f : List ℕ). length f ≤ max_frame) frame behind coming.short) is_left;
+pub coming-next : (c : ℕ) (zxid : ℤ) (start now next : World) (frames : List (List ℕ)) (frame : List ℕ) (after left : List (List ℕ)) → AreComing c zxid start frames now (frame ∷ after) → IsLeft after left
+    → ((x : Conn) (core : Core) → conn_at c now ≡ Some x → x.actor ≡ Connection core → zxid ≡ zxid_at now.store → Takes c now x frame after next left) → AreComing c zxid start frames next left
+coming-next c zxid start now next frames frame after left coming is_left takes = record {
+  short = short-left after left (All-tail (λ (f : List ℕ). length f ≤ max_frame) frame after coming.short) is_left;
   go = λ s.
       let so_far = coming.go s in
-      let open_one = serving-open c zxid frame behind now so_far.0 in
+      let open_one = serving-open c zxid frame after now so_far.0 in
       let t = takes open_one.0 open_one.1 open_one.2 open_one.3 so_far.0.zxid_is in
-      (serving-next c zxid now next open_one.0 frame behind left so_far.0.zxid_is t, λ w' arrives. so_far.1 w' (arrives-next c now next w' open_one.0 frame behind left open_one.2 t arrives));
+      (serving-next c zxid now next open_one.0 frame after left so_far.0.zxid_is t, λ w' arrives. so_far.1 w' (arrives-next c now next w' open_one.0 frame after left open_one.2 t arrives));
 }
 
 -- fewer are left each time
-pub fewer : (all behind left : List (List ℕ)) (frame : List ℕ) → all ≡ frame ∷ behind → IsLeft behind left → length left < length all
-fewer all behind left frame is (inl same) = omega (arith, ap length is, ap length same)
-fewer all behind left frame is (inr none) = omega (arith, ap length is, ap length none)
+pub fewer : (all after left : List (List ℕ)) (frame : List ℕ) → all ≡ frame ∷ after → IsLeft after left → length left < length all
+fewer all after left frame is (inl same) = omega (arith, ap length is, ap length same)
+fewer all after left frame is (inr none) = omega (arith, ap length is, ap length none)
 
 pub coming-end : (c : ℕ) (zxid : ℤ) (start now : World) (frames : List (List ℕ)) → AreComing c zxid start frames now [] → IsServing c zxid frames start → FramesArrive c start frames now
 coming-end c zxid start now frames coming s = (coming.go s).1 now refl
@@ -216,38 +216,38 @@ fit-flying core (Some (Carried a)) h = tt
 fit-flying core (Some Denied) h = tt
 
 -- what is left of it after the step
-pub left-behind : (c : ℕ) (w w' : World) (x : Conn) (next : Core) (o : StepOutcome) (left behind : List (List ℕ)) → left ≡ (if is_shut next.stage then [] else behind) → w' ≡ leaves c w x (behind_step next) o
-    → left ≡ (if is_open_conn (conn_at c w') then behind else [])
-left-behind c w w' x next o left behind is result =
-    is ∙ go (is_shut next.stage) ∙ sym (ap (λ (p : Option Conn). if is_open_conn p then behind else []) (ap (conn_at c) result ∙ conn-left c w x (behind_step next) o))
+pub left-after : (c : ℕ) (w w' : World) (x : Conn) (next : Core) (o : StepOutcome) (left after : List (List ℕ)) → left ≡ (if is_shut next.stage then [] else after) → w' ≡ leaves c w x (after_step next) o
+    → left ≡ (if is_open_conn (conn_at c w') then after else [])
+left-after c w w' x next o left after is result =
+    is ∙ go (is_shut next.stage) ∙ sym (ap (λ (p : Option Conn). if is_open_conn p then after else []) (ap (conn_at c) result ∙ conn-left c w x (after_step next) o))
   where
-    go : (b : Bool) → (if b then [] else behind) ≡ (if not (is_closed (if b then Closed else Connection next)) then behind else [])
+    go : (b : Bool) → (if b then [] else after) ≡ (if not (is_closed (if b then Closed else Connection next)) then after else [])
     go true = refl
     go false = refl
 
 -- (a zxid is as the callee has it)
-pub stepped-frame : (c : ℕ) (w w' : World) (seat : Seat) (core next : Core) (flight : Option Flight) (zxid z : ℤ) (bytes given : List ℕ) (behind : List (List ℕ)) (now : ℕ) (out : List Action) → z ≡ zxid → now ≡ w.clock → given ≡ bytes
+pub stepped-frame : (c : ℕ) (w w' : World) (seat : Seat) (core next : Core) (flight : Option Flight) (zxid z : ℤ) (bytes given : List ℕ) (after : List (List ℕ)) (now : ℕ) (out : List Action) → z ≡ zxid → now ≡ w.clock → given ≡ bytes
     → Steps core (input.Frame bytes) now next out
-    → w' ≡ leaves c (shown c w z seat given) (left_next seat) (behind_step next) (acts_all c (kind_asked c (Connection next)) (frame_lines c (counted_up (seat.frames + 1)) z behind) flight out)
-    → Stepped c (frame_lines c (counted_up (seat.frames + 1)) zxid behind) (shown c w zxid seat bytes) (left_next seat) core flight (input.Frame bytes) w'
-stepped-frame c w w' seat core next flight zxid z bytes given behind now out is at same steps result = record {
+    → w' ≡ leaves c (shown c w z seat given) (left_next seat) (after_step next) (acts_all c (kind_asked c (Connection next)) (frame_lines c (counted_up (seat.frames + 1)) z after) flight out)
+    → Stepped c (frame_lines c (counted_up (seat.frames + 1)) zxid after) (shown c w zxid seat bytes) (left_next seat) core flight (input.Frame bytes) w'
+stepped-frame c w w' seat core next flight zxid z bytes given after now out is at same steps result = record {
   next = next;
   out = out;
   stepped = subst (λ (n : ℕ). Steps core (input.Frame bytes) n next out) at steps;
   result = result
-      ∙ ap (λ (b : List ℕ). leaves c (shown c w z seat b) (left_next seat) (behind_step next) (acts_all c (kind_asked c (Connection next)) (frame_lines c (counted_up (seat.frames + 1)) z behind) flight out)) same
-      ∙ ap (λ (y : ℤ). leaves c (shown c w y seat bytes) (left_next seat) (behind_step next) (acts_all c (kind_asked c (Connection next)) (frame_lines c (counted_up (seat.frames + 1)) y behind) flight out)) is;
+      ∙ ap (λ (b : List ℕ). leaves c (shown c w z seat b) (left_next seat) (after_step next) (acts_all c (kind_asked c (Connection next)) (frame_lines c (counted_up (seat.frames + 1)) z after) flight out)) same
+      ∙ ap (λ (y : ℤ). leaves c (shown c w y seat bytes) (left_next seat) (after_step next) (acts_all c (kind_asked c (Connection next)) (frame_lines c (counted_up (seat.frames + 1)) y after) flight out)) is;
 }
 
-pub acted-on : (c : ℕ) (w mid w' : World) (seat next : Seat) (core : Core) (flight : Option Flight) (zxid z : ℤ) (bytes : List ℕ) (behind : List (List ℕ)) (out : List Action) (index : ℕ) → z ≡ zxid → index ≡ seat.frames
+pub acted-on : (c : ℕ) (w mid w' : World) (seat next : Seat) (core : Core) (flight : Option Flight) (zxid z : ℤ) (bytes : List ℕ) (after : List (List ℕ)) (out : List Action) (index : ℕ) → z ≡ zxid → index ≡ seat.frames
     → mid ≡ record w { lines = w.lines ++ FrameLine c index z bytes ∷ [] } → left next ≡ left_next seat
-    → w' ≡ leaves c mid (left next) (behind_step core) (acts_all c (kind_asked c (Connection core)) (frame_lines c next.frames z behind) flight out)
-    → w' ≡ leaves c (shown c w zxid seat bytes) (left_next seat) (behind_step core) (acts_all c (kind_asked c (Connection core)) (frame_lines c (counted_up (seat.frames + 1)) zxid behind) flight out)
-acted-on c w mid w' seat next core flight zxid z bytes behind out index is_zxid at is same result =
+    → w' ≡ leaves c mid (left next) (after_step core) (acts_all c (kind_asked c (Connection core)) (frame_lines c next.frames z after) flight out)
+    → w' ≡ leaves c (shown c w zxid seat bytes) (left_next seat) (after_step core) (acts_all c (kind_asked c (Connection core)) (frame_lines c (counted_up (seat.frames + 1)) zxid after) flight out)
+acted-on c w mid w' seat next core flight zxid z bytes after out index is_zxid at is same result =
     result
-    ∙ ap (λ (v : World). leaves c v (left next) (behind_step core) (acts_all c (kind_asked c (Connection core)) (frame_lines c next.frames z behind) flight out)) (is ∙ ap (λ (i : ℕ). record w { lines = w.lines ++ FrameLine c i z bytes ∷ [] }) at)
-    ∙ ap (λ (x : Conn). leaves c (shown c w z seat bytes) x (behind_step core) (acts_all c (kind_asked c (Connection core)) (frame_lines c x.frames z behind) flight out)) same
-    ∙ ap (λ (y : ℤ). leaves c (shown c w y seat bytes) (left_next seat) (behind_step core) (acts_all c (kind_asked c (Connection core)) (frame_lines c (counted_up (seat.frames + 1)) y behind) flight out)) is_zxid
+    ∙ ap (λ (v : World). leaves c v (left next) (after_step core) (acts_all c (kind_asked c (Connection core)) (frame_lines c next.frames z after) flight out)) (is ∙ ap (λ (i : ℕ). record w { lines = w.lines ++ FrameLine c i z bytes ∷ [] }) at)
+    ∙ ap (λ (x : Conn). leaves c (shown c w z seat bytes) x (after_step core) (acts_all c (kind_asked c (Connection core)) (frame_lines c x.frames z after) flight out)) same
+    ∙ ap (λ (y : ℤ). leaves c (shown c w y seat bytes) (left_next seat) (after_step core) (acts_all c (kind_asked c (Connection core)) (frame_lines c (counted_up (seat.frames + 1)) y after) flight out)) is_zxid
 
 pub on-ok-both : {T E P Q R : Type 0} (r : Result T E) → OnOk r P → OnOk r Q → (P → Q → R) → OnOk r R
 on-ok-both (Ok x) p q f = f p q
@@ -258,15 +258,15 @@ is-left true old new e = inl e
 is-left false old new e = inr e
 
 -- one that was held apart takes a frame
-pub takes-apart : (c : ℕ) (w apart w' : World) (x y : Conn) (seat : Seat) (role : Actor) (core : Core) (flight : Option Flight) (zxid : ℤ) (bytes : List ℕ) (behind left : List (List ℕ)) → conn_at c w ≡ Some x → conn_at c w ≡ Some y
+pub takes-apart : (c : ℕ) (w apart w' : World) (x y : Conn) (seat : Seat) (role : Actor) (core : Core) (flight : Option Flight) (zxid : ℤ) (bytes : List ℕ) (after left : List (List ℕ)) → conn_at c w ≡ Some x → conn_at c w ≡ Some y
     → seated seat role flight ≡ y → role ≡ Connection core → apart ≡ without c w → zxid ≡ zxid_at w.store
-    → left ≡ (if is_open_conn (conn_at c w') then behind else [])
-    → Stepped c (frame_lines c (counted_up (seat.frames + 1)) zxid behind) (shown c apart zxid seat bytes) (left_next seat) core flight (input.Frame bytes) w' → Takes c w x bytes behind w' left
-takes-apart c w apart w' x y seat role core flight zxid bytes behind left there taken is serves at same rest s =
+    → left ≡ (if is_open_conn (conn_at c w') then after else [])
+    → Stepped c (frame_lines c (counted_up (seat.frames + 1)) zxid after) (shown c apart zxid seat bytes) (left_next seat) core flight (input.Frame bytes) w' → Takes c w x bytes after w' left
+takes-apart c w apart w' x y seat role core flight zxid bytes after left there taken is serves at same rest s =
     let one : y ≡ x = some_is (sym taken ∙ there) in
     let sits : seated seat (Connection core) flight ≡ x = ap (λ (a : Actor). seated seat a flight) (sym serves) ∙ is ∙ one in
     record {
-      handed = handed-frame c w w' x core seat flight zxid bytes behind sits same
-          (subst (λ (v : World). Stepped c (frame_lines c (counted_up (seat.frames + 1)) zxid behind) (shown c v zxid seat bytes) (left_next seat) core flight (input.Frame bytes) w') at s);
+      handed = handed-frame c w w' x core seat flight zxid bytes after sits same
+          (subst (λ (v : World). Stepped c (frame_lines c (counted_up (seat.frames + 1)) zxid after) (shown c v zxid seat bytes) (left_next seat) core flight (input.Frame bytes) w') at s);
       rest = rest;
     }

@@ -9,7 +9,7 @@ use Rattle.zp_script.specs.declared.flight.Flight.{Flight}
 use Rattle.zp_script.specs.Handing.{Handed}
 use Rattle.zp_script.specs.Kinds.{kind_asked}
 use Rattle.zp_script.specs.StepOutcomes.{StepOutcome, acts_all, ends, leaves, left_by, quiet}
-use Rattle.zp_script.specs.Worlds.{Actor, Conn, Conns, Connection, Closed, World, behind_step, conn_at, with_conn}
+use Rattle.zp_script.specs.Worlds.{Actor, Conn, Conns, Connection, Closed, World, after_step, conn_at, with_conn}
 use Rattle.zp_step.specs.Stages.{Core, is_shut}
 use Rattle.zp_step.specs.Steps.{Steps}
 use Rattle.zp_step.specs.declared.action.Action.{Action}
@@ -30,9 +30,9 @@ pub leaves-seated : (c : ℕ) (w : World) (x : Conn) (seat : Seat) (actor : Acto
     → leaves c (without c w) (left seat) a o ≡ leaves c w x a o
 leaves-seated c w x seat actor flight a o is = leaves-without c w (left seat) a o ∙ ap (λ (y : Conn). leaves c w y a o) (sym is)
 
-pub handed-apart : (c : ℕ) (behind : List TranscriptLine) (w : World) (x : Conn) (seat : Seat) (actor : Actor) (core : Core) (flight : Option Flight) (input : Input) (w' : World)
-    → conn_at c w ≡ Some x → x ≡ seated seat actor flight → actor ≡ Connection core → Stepped c behind (without c w) (left seat) core flight input w' → Handed c behind w input w'
-handed-apart c behind w x seat actor core flight input w' there is serves s =
+pub handed-apart : (c : ℕ) (after : List TranscriptLine) (w : World) (x : Conn) (seat : Seat) (actor : Actor) (core : Core) (flight : Option Flight) (input : Input) (w' : World)
+    → conn_at c w ≡ Some x → x ≡ seated seat actor flight → actor ≡ Connection core → Stepped c after (without c w) (left seat) core flight input w' → Handed c after w input w'
+handed-apart c after w x seat actor core flight input w' there is serves s =
     let kept : flight ≡ x.flight = sym (ap (λ (y : Conn). y.flight) is) in
     record {
       conn = x;
@@ -42,8 +42,8 @@ handed-apart c behind w x seat actor core flight input w' there is serves s =
       next = s.next;
       out = s.out;
       stepped = s.stepped;
-      result = s.result ∙ leaves-seated c w x seat actor flight (behind_step s.next) (acts_all c (kind_asked c (Connection s.next)) behind flight s.out) is
-          ∙ ap (λ (f : Option Flight). leaves c w x (behind_step s.next) (acts_all c (kind_asked c (Connection s.next)) behind f s.out)) kept;
+      result = s.result ∙ leaves-seated c w x seat actor flight (after_step s.next) (acts_all c (kind_asked c (Connection s.next)) after flight s.out) is
+          ∙ ap (λ (f : Option Flight). leaves c w x (after_step s.next) (acts_all c (kind_asked c (Connection s.next)) after f s.out)) kept;
     }
 
 -- its end was shown, and nothing is done under its number any more
@@ -58,12 +58,12 @@ pub opened-apart : (c : ℕ) (w old : World) (conns : Conns) → old ≡ w → c
 opened-apart c w old conns is taken = ap (λ (m : Conns). record old { conns = m }) taken ∙ ap (without c) is
 
 pub stepped-by : (c : ℕ) (w old : World) (x : Conn) (core next : Core) (flight : Option Flight) (input : Input) (now : ℕ) (out : List Action) (lines : List TranscriptLine) (w' : World)
-    → old ≡ w → now ≡ w.clock → lines ≡ [] → Steps core input now next out → w' ≡ leaves c old x (behind_step next) (acts_all c (kind_asked c (Connection next)) lines flight out)
+    → old ≡ w → now ≡ w.clock → lines ≡ [] → Steps core input now next out → w' ≡ leaves c old x (after_step next) (acts_all c (kind_asked c (Connection next)) lines flight out)
     → Stepped c [] w x core flight input w'
 stepped-by c w old x core next flight input now out lines w' is at none steps done = record {
   next = next;
   out = out;
   stepped = subst (λ (n : ℕ). Steps core input n next out) at steps;
-  result = done ∙ ap (λ (v : World). leaves c v x (behind_step next) (acts_all c (kind_asked c (Connection next)) lines flight out)) is
-      ∙ ap (λ (ls : List TranscriptLine). leaves c w x (behind_step next) (acts_all c (kind_asked c (Connection next)) ls flight out)) none;
+  result = done ∙ ap (λ (v : World). leaves c v x (after_step next) (acts_all c (kind_asked c (Connection next)) lines flight out)) is
+      ∙ ap (λ (ls : List TranscriptLine). leaves c w x (after_step next) (acts_all c (kind_asked c (Connection next)) ls flight out)) none;
 }

@@ -7,7 +7,7 @@ use Rattle.zk_transcript.specs.declared.transcript.TranscriptLine.TheVariants as
 use Rattle.zp_script.specs.declared.flight.Flight.{Flight}
 use Rattle.zp_script.specs.Kinds.{kind_asked}
 use Rattle.zp_script.specs.StepOutcomes.{acts_all, leaves, left_by}
-use Rattle.zp_script.specs.Worlds.{Actor, Conn, Connection, Closed, World, behind_step, with_conn}
+use Rattle.zp_script.specs.Worlds.{Actor, Conn, Connection, Closed, World, after_step, with_conn}
 use Rattle.zp_step.specs.Stages.{Core}
 use Rattle.zp_step.specs.Steps.{Steps}
 use Rattle.zp_step.specs.declared.action.Action.{Action}
@@ -31,8 +31,8 @@ abbrev pub ended : ℕ → World → Seat → Ended → Option Flight → World
 ended c w seat end flight = with_conn (record w { lines = w.lines ++ line.Close c end ∷ []; strays = w.strays ++ left_by flight }) c (left seat)
 
 -- a connection of number c that is held apart, with this out, takes a step, and what it does is done; x is any record of its seat
-pub record Stepped (c : ℕ) (behind : List TranscriptLine) (w : World) (x : Conn) (core : Core) (flight : Option Flight) (input : Input) (w' : World) : Type 0 where
+pub record Stepped (c : ℕ) (after : List TranscriptLine) (w : World) (x : Conn) (core : Core) (flight : Option Flight) (input : Input) (w' : World) : Type 0 where
   pub next : Core
   pub out : List Action
   pub stepped : Steps core input w.clock next out
-  pub result : w' ≡ leaves c w x (behind_step next) (acts_all c (kind_asked c (Connection next)) behind flight out)
+  pub result : w' ≡ leaves c w x (after_step next) (acts_all c (kind_asked c (Connection next)) after flight out)

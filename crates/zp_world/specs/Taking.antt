@@ -20,9 +20,9 @@ abbrev pub left_next : Seat → Conn
 left_next seat = record (left seat) { frames = counted_up (seat.frames + 1) }
 
 -- it is shown and handed in; where that closes the connection, the frames after it are shown before its end, and none is left
-pub record Takes (c : ℕ) (w : World) (x : Conn) (bytes : List ℕ) (behind : List (List ℕ)) (w' : World) (left_behind : List (List ℕ)) : Type 0 where
-  pub handed : Handed c (frame_lines c (counted_up (x.frames + 1)) (zxid_at w.store) behind) (shown_frame c w x bytes) (input.Frame bytes) w'
-  pub rest : left_behind ≡ (if is_open_conn (conn_at c w') then behind else [])
+pub record Takes (c : ℕ) (w : World) (x : Conn) (bytes : List ℕ) (after : List (List ℕ)) (w' : World) (left_after : List (List ℕ)) : Type 0 where
+  pub handed : Handed c (frame_lines c (counted_up (x.frames + 1)) (zxid_at w.store) after) (shown_frame c w x bytes) (input.Frame bytes) w'
+  pub rest : left_after ≡ (if is_open_conn (conn_at c w') then after else [])
 
 -- all the frames after it are left, or none is
 abbrev pub IsLeft : List (List ℕ) → List (List ℕ) → Type 0

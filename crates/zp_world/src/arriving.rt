@@ -7,7 +7,7 @@ ghost use Rattle.zk_transcript.specs.declared.transcript.TranscriptLine.TheVaria
 ghost use Rattle.zp_script.specs.Arriving.{Arrives, Cuts, EndsBadly, FramesArrive, frame_lines};
 ghost use Rattle.zp_script.specs.Effects.{opened};
 ghost use Rattle.zp_script.specs.Faults.{connection_fault};
-ghost use Rattle.zp_script.specs.Worlds.{Conn, Connection, behind_step, conn_at, is_open_conn, with_conn, zxid_at};
+ghost use Rattle.zp_script.specs.Worlds.{Conn, Connection, after_step, conn_at, is_open_conn, with_conn, zxid_at};
 ghost use Rattle.zp_script.specs.Kinds.{kind_asked};
 ghost use Rattle.zp_script.specs.StepOutcomes.{acts_all, leaves};
 ghost use Rattle.zp_step.specs.Stages.{Core as AnyCore, counted_up, is_shut};
@@ -142,11 +142,11 @@ impl World {
         connection: u32,
         zxid: i64,
         bytes: Bytes,
-        behind: &mut IntoIter<Bytes>,
+        after: &mut IntoIter<Bytes>,
     ) -> Result<(), Memory>
         requires { length bytes ≤ max_frame }
-        ensures left { OnOk result (IsLeft (into_iter_items behind.old) (into_iter_items behind.new)) }
-        ensures takes { OnOk result ((x : Conn) (core : AnyCore) → conn_at connection self.old ≡ Some x → x.actor ≡ Connection core → zxid ≡ zxid_at self.old.store → Takes connection self.old x bytes (into_iter_items behind.old) self.new (into_iter_items behind.new)) }
+        ensures left { OnOk result (IsLeft (into_iter_items after.old) (into_iter_items after.new)) }
+        ensures takes { OnOk result ((x : Conn) (core : AnyCore) → conn_at connection self.old ≡ Some x → x.actor ≡ Connection core → zxid ≡ zxid_at self.old.store → Takes connection self.old x bytes (into_iter_items after.old) self.new (into_iter_items after.new)) }
     {
         let Some(activity) = self.activities.take(connection) else {
             return Ok(());
@@ -158,7 +158,7 @@ impl World {
         } = activity;
         match actor {
             Actor::Connection(core) => {
-                self.step_by_frame(connection, seat, core, flight, zxid, bytes, behind)
+                self.step_by_frame(connection, seat, core, flight, zxid, bytes, after)
             }
             Actor::Reaper(_) | Actor::Closed => self.activities.put(
                 connection,
@@ -180,16 +180,16 @@ impl World {
         flight: Option<Flight>,
         zxid: i64,
         bytes: Bytes,
-        behind: &mut IntoIter<Bytes>,
+        after: &mut IntoIter<Bytes>,
     ) -> Result<(), Memory>
         requires served { IsServed core flight }
         requires short { length bytes ≤ max_frame }
-        ensures behind { OnOk result (into_iter_items behind.new ≡ (if is_open_conn (conn_at connection self.new) then into_iter_items behind.old else [])) }
-        ensures done { OnOk result (Stepped connection (frame_lines connection (counted_up (seat.frames + 1)) zxid (into_iter_items behind.old)) (shown connection self.old zxid seat bytes) (left_next seat) core flight (input.Frame bytes) self.new) }
+        ensures after { OnOk result (into_iter_items after.new ≡ (if is_open_conn (conn_at connection self.new) then into_iter_items after.old else [])) }
+        ensures done { OnOk result (Stepped connection (frame_lines connection (counted_up (seat.frames + 1)) zxid (into_iter_items after.old)) (shown connection self.old zxid seat bytes) (left_next seat) core flight (input.Frame bytes) self.new) }
     {
         let mut core = core;
         let stepped = step_with(self.alloc, &mut core, bytes, self.clock)?;
-        self.act_on_frame(connection, seat, core, flight, stepped, zxid, behind)
+        self.act_on_frame(connection, seat, core, flight, stepped, zxid, after)
     }
 
     /// The frame is shown, and what the step by it does is done.
@@ -201,17 +201,17 @@ impl World {
         flight: Option<Flight>,
         stepped: SteppedFrame,
         zxid: i64,
-        behind: &mut IntoIter<Bytes>,
+        after: &mut IntoIter<Bytes>,
     ) -> Result<(), Memory>
         requires leaves { Leaves flight core stepped.out.items }
         requires fit { IsFitFlight flight }
-        ensures behind { OnOk result (into_iter_items behind.new ≡ (if is_shut core.stage then [] else into_iter_items behind.old)) }
-        ensures done { OnOk result (self.new ≡ leaves connection (shown connection self.old zxid seat stepped.bytes) (left_next seat) (behind_step core) (acts_all connection (kind_asked connection (Connection core)) (frame_lines connection (counted_up (seat.frames + 1)) zxid (into_iter_items behind.old)) flight stepped.out.items)) }
+        ensures after { OnOk result (into_iter_items after.new ≡ (if is_shut core.stage then [] else into_iter_items after.old)) }
+        ensures done { OnOk result (self.new ≡ leaves connection (shown connection self.old zxid seat stepped.bytes) (left_next seat) (after_step core) (acts_all connection (kind_asked connection (Connection core)) (frame_lines connection (counted_up (seat.frames + 1)) zxid (into_iter_items after.old)) flight stepped.out.items)) }
     {
         let SteppedFrame { bytes, out } = stepped;
         self.show_frame(connection, seat.frames.number(), zxid, bytes)?;
-        let seat = seat_behind(seat)?;
-        self.act(connection, seat, core, flight, out, zxid, behind)
+        let seat = seat_after(seat)?;
+        self.act(connection, seat, core, flight, out, zxid, after)
     }
 
     /// A frame is shown.
@@ -259,7 +259,7 @@ fn step_with(alloc: Global, core: &mut Core, bytes: Bytes, now: u64) -> Result<S
 }
 
 /// The seat of a connection after a frame.
-fn seat_behind(seat: Seat) -> Result<Seat, Memory>
+fn seat_after(seat: Seat) -> Result<Seat, Memory>
     ensures { IfOk result (λ next. left next ≡ left_next seat) }
 {
     let frames = seat.frames.next()?;

@@ -76,8 +76,8 @@ impl World {
     {
         let mut core = core;
         let out = core.step(input, self.clock)?;
-        let mut behind = Vec::new(self.alloc).into_iter();
-        self.act(connection, seat, core, flight, out, 0, &mut behind)
+        let mut after = Vec::new(self.alloc).into_iter();
+        self.act(connection, seat, core, flight, out, 0, &mut after)
     }
 
     /// The answer to an ask is delivered. That of a denied ask is a failure.
@@ -179,7 +179,7 @@ impl World {
             return Ok(());
         };
         self.entries.are_numbered();
-        match self.entries.behind(cursor)? {
+        match self.entries.after_cursor(cursor)? {
             Some(entry) => self.hand(connection, &Input::Entry(entry)),
             None => Ok(()),
         }

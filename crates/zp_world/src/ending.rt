@@ -9,7 +9,7 @@ ghost use Rattle.zp_script.specs.Arriving.{frame_lines};
 ghost use Rattle.zp_script.specs.Effects.{restarted};
 ghost use Rattle.zp_script.specs.Kinds.{kind_asked, kind_in_stage};
 ghost use Rattle.zp_script.specs.StepOutcomes.{acts, acts_all, ended_by, leaves, left_by, quiet};
-ghost use Rattle.zp_script.specs.Worlds.{Closed, Conn, Connection as AConnection, behind_step, conn_at, with_conn};
+ghost use Rattle.zp_script.specs.Worlds.{Closed, Conn, Connection as AConnection, after_step, conn_at, with_conn};
 ghost use Rattle.zp_step.specs.Stages.{is_shut};
 ghost use Rattle.zt_text.specs.Transcripts.{IsWellFormedKind};
 ghost use Rattle.zp_world.specs.Activities.{actor_of};
@@ -40,16 +40,16 @@ impl World {
         flight: Option<Flight>,
         out: Vec<Action>,
         zxid: i64,
-        behind: &mut IntoIter<Bytes>,
+        after: &mut IntoIter<Bytes>,
     ) -> Result<(), Memory>
         requires leaves { Leaves flight core out.items }
         requires fit { IsFitFlight flight }
-        ensures behind { OnOk result (into_iter_items behind.new ≡ (if is_shut core.stage then [] else into_iter_items behind.old)) }
-        ensures done { OnOk result (self.new ≡ leaves connection self.old (left seat) (behind_step core) (acts_all connection (kind_asked connection (AConnection core)) (frame_lines connection seat.frames zxid (into_iter_items behind.old)) flight out.items)) }
+        ensures after { OnOk result (into_iter_items after.new ≡ (if is_shut core.stage then [] else into_iter_items after.old)) }
+        ensures done { OnOk result (self.new ≡ leaves connection self.old (left seat) (after_step core) (acts_all connection (kind_asked connection (AConnection core)) (frame_lines connection seat.frames zxid (into_iter_items after.old)) flight out.items)) }
     {
         let first = seat.frames.number();
-        let flight = self.act_all(connection, &core, flight, out, first, zxid, behind)?;
-        let actor = actor_behind(core);
+        let flight = self.act_all(connection, &core, flight, out, first, zxid, after)?;
+        let actor = actor_after(core);
         self.activities.put(
             connection,
             Activity {
@@ -69,20 +69,20 @@ impl World {
         out: Vec<Action>,
         first: u64,
         zxid: i64,
-        behind: &mut IntoIter<Bytes>,
+        after: &mut IntoIter<Bytes>,
     ) -> Result<Option<Flight>, Memory>
         requires leaves { Leaves flight core.now out.items }
         requires fit { IsFitFlight flight }
-        ensures behind { OnOk result (into_iter_items behind.new ≡ (if is_shut core.now.stage then [] else into_iter_items behind.old)) }
-        ensures out { IfOk result (λ f. f ≡ (acts_all connection (kind_asked connection (AConnection core.now)) (frame_lines connection first zxid (into_iter_items behind.old)) flight out.items).flight) }
+        ensures after { OnOk result (into_iter_items after.new ≡ (if is_shut core.now.stage then [] else into_iter_items after.old)) }
+        ensures out { IfOk result (λ f. f ≡ (acts_all connection (kind_asked connection (AConnection core.now)) (frame_lines connection first zxid (into_iter_items after.old)) flight out.items).flight) }
         ensures fit { IfOk result IsFitFlight }
         ensures flies { IfOk result (λ f. is_shut core.now.stage ≡ false → IsFlyingOf core.now f) }
-        ensures done { OnOk result (self.new ≡ added self.old (acts_all connection (kind_asked connection (AConnection core.now)) (frame_lines connection first zxid (into_iter_items behind.old)) flight out.items)) }
+        ensures done { OnOk result (self.new ≡ added self.old (acts_all connection (kind_asked connection (AConnection core.now)) (frame_lines connection first zxid (into_iter_items after.old)) flight out.items)) }
     {
         let kind = kind_of(core, connection);
         let mut flight = flight;
         for action in out {
-            flight = self.act_once(connection, kind, flight, action, first, zxid, behind)?;
+            flight = self.act_once(connection, kind, flight, action, first, zxid, after)?;
         }
         Ok(flight)
     }
@@ -96,12 +96,12 @@ impl World {
         action: Action,
         first: u64,
         zxid: i64,
-        behind: &mut IntoIter<Bytes>,
+        after: &mut IntoIter<Bytes>,
     ) -> Result<Option<Flight>, Memory>
         requires { IsFitFlight flight }
-        ensures behind { OnOk result (into_iter_items behind.new ≡ frames_left action (into_iter_items behind.old)) }
-        ensures out { IfOk result (λ f. f ≡ (acts connection kind (frame_lines connection first zxid (into_iter_items behind.old)) (quiet flight) action).flight) }
-        ensures done { OnOk result (self.new ≡ added self.old (acts connection kind (frame_lines connection first zxid (into_iter_items behind.old)) (quiet flight) action)) }
+        ensures after { OnOk result (into_iter_items after.new ≡ frames_left action (into_iter_items after.old)) }
+        ensures out { IfOk result (λ f. f ≡ (acts connection kind (frame_lines connection first zxid (into_iter_items after.old)) (quiet flight) action).flight) }
+        ensures done { OnOk result (self.new ≡ added self.old (acts connection kind (frame_lines connection first zxid (into_iter_items after.old)) (quiet flight) action)) }
     {
         match action {
             Action::Send(bytes) => {
@@ -112,7 +112,7 @@ impl World {
             }
             Action::Ask(ask) => Ok(Some(Flight::Out(Asking { ask, kind }))),
             Action::Close(why) => {
-                show_frames(&mut self.transcript, connection, first, zxid, behind)?;
+                show_frames(&mut self.transcript, connection, first, zxid, after)?;
                 self.show_end(connection, Ended::Cause(why), flight)?;
                 Ok(None)
             }
@@ -203,8 +203,8 @@ fn show_frames(
 }
 
 /// What is left of a connection after a step.
-fn actor_behind(core: Core) -> Actor
-    ensures { actor_of result ≡ behind_step core }
+fn actor_after(core: Core) -> Actor
+    ensures { actor_of result ≡ after_step core }
 {
     match core.wants() {
         Wants::Nothing => Actor::Closed,

@@ -93,17 +93,17 @@ pub shown-own : (c : ℕ) (z : ℤ) (ls : List TranscriptLine) → AreShown c z 
 shown-own c z [] h = refl
 shown-own c z (l ∷ ls) (f, more) = both-true (is_own c l) (list_all (is_own c) ls) (ap (is_own c) f.is ∙ same-nat c) (shown-own c z ls more)
 
-pub ends-own : (c : ℕ) (behind : List TranscriptLine) (end : Ended) (o : StepOutcome) → list_all (is_own c) behind ≡ true → list_all (is_own c) o.lines ≡ true → list_all (is_own c) (ends c behind end o).lines ≡ true
-ends-own c behind end o b h = own-append c (o.lines ++ behind) (Close c end ∷ []) (own-append c o.lines behind h b) (one-own c)
+pub ends-own : (c : ℕ) (rest : List TranscriptLine) (end : Ended) (o : StepOutcome) → list_all (is_own c) rest ≡ true → list_all (is_own c) o.lines ≡ true → list_all (is_own c) (ends c rest end o).lines ≡ true
+ends-own c rest end o b h = own-append c (o.lines ++ rest) (Close c end ∷ []) (own-append c o.lines rest h b) (one-own c)
 
-act-own : (c : ℕ) (kind : Option UpdateKind) (behind : List TranscriptLine) (o : StepOutcome) (a : Action) → list_all (is_own c) behind ≡ true → list_all (is_own c) o.lines ≡ true → list_all (is_own c) (acts c kind behind o a).lines ≡ true
-act-own c kind behind o (action.Send bytes) b h = own-append c o.lines (Send c bytes ∷ []) h (one-own c)
-act-own c kind behind o (action.Ask a) b h = h
-act-own c kind behind o (action.Close why) b h = ends-own c behind (ended.Cause why) o b h
+act-own : (c : ℕ) (kind : Option UpdateKind) (rest : List TranscriptLine) (o : StepOutcome) (a : Action) → list_all (is_own c) rest ≡ true → list_all (is_own c) o.lines ≡ true → list_all (is_own c) (acts c kind rest o a).lines ≡ true
+act-own c kind rest o (action.Send bytes) b h = own-append c o.lines (Send c bytes ∷ []) h (one-own c)
+act-own c kind rest o (action.Ask a) b h = h
+act-own c kind rest o (action.Close why) b h = ends-own c rest (ended.Cause why) o b h
 
-pub acts-own : (c : ℕ) (kind : Option UpdateKind) (behind : List TranscriptLine) (out : List Action) (o : StepOutcome) → list_all (is_own c) behind ≡ true → list_all (is_own c) o.lines ≡ true → list_all (is_own c) (fold (acts c kind behind) o out).lines ≡ true
-acts-own c kind behind [] o b h = h
-acts-own c kind behind (a ∷ out) o b h = acts-own c kind behind out (acts c kind behind o a) b (act-own c kind behind o a b h)
+pub acts-own : (c : ℕ) (kind : Option UpdateKind) (rest : List TranscriptLine) (out : List Action) (o : StepOutcome) → list_all (is_own c) rest ≡ true → list_all (is_own c) o.lines ≡ true → list_all (is_own c) (fold (acts c kind rest) o out).lines ≡ true
+acts-own c kind rest [] o b h = h
+acts-own c kind rest (a ∷ out) o b h = acts-own c kind rest out (acts c kind rest o a) b (act-own c kind rest o a b h)
 
 -- ---- all that is known
 

@@ -89,20 +89,20 @@ split-closes out s = ap closes s.is ∙ tail-closes s.packets s.tail
 -- ---- what they leave
 
 abbrev pub tail_outcome : ℕ → Option UpdateKind → List TranscriptLine → Option Flight → List TranscriptLine → Tail → StepOutcome
-tail_outcome c kind behind flight lines Rests = record { flight = flight; lines = lines; strays = [] }
-tail_outcome c kind behind flight lines (Asks a) = record { flight = Some (Out (record { ask = a; kind = kind })); lines = lines; strays = [] }
-tail_outcome c kind behind flight lines (Closes why) = record { flight = None; lines = lines ++ behind ++ Close c (ended.Cause why) ∷ []; strays = left_by flight }
+tail_outcome c kind after flight lines Rests = record { flight = flight; lines = lines; strays = [] }
+tail_outcome c kind after flight lines (Asks a) = record { flight = Some (Out (record { ask = a; kind = kind })); lines = lines; strays = [] }
+tail_outcome c kind after flight lines (Closes why) = record { flight = None; lines = lines ++ after ++ Close c (ended.Cause why) ∷ []; strays = left_by flight }
 
-fold-sends : (c : ℕ) (kind : Option UpdateKind) (behind : List TranscriptLine) (flight : Option Flight) (lines : List TranscriptLine) (ps : List (List ℕ)) (t : Tail)
-    → fold (acts c kind behind) (record { flight = flight; lines = lines; strays = [] }) (sent_first ps ++ actions t) ≡ tail_outcome c kind behind flight (lines ++ said c ps) t
-fold-sends c kind behind flight lines [] Rests = ap (λ l. tail_outcome c kind behind flight l Rests) (sym (append-nil lines))
-fold-sends c kind behind flight lines [] (Asks a) = ap (λ l. tail_outcome c kind behind flight l (Asks a)) (sym (append-nil lines))
-fold-sends c kind behind flight lines [] (Closes why) = ap (λ l. tail_outcome c kind behind flight l (Closes why)) (sym (append-nil lines))
-fold-sends c kind behind flight lines (p ∷ ps) t =
-    fold-sends c kind behind flight (lines ++ Send c p ∷ []) ps t ∙ ap (λ l. tail_outcome c kind behind flight l t) (append_assoc lines (Send c p ∷ []) (said c ps))
+fold-sends : (c : ℕ) (kind : Option UpdateKind) (after : List TranscriptLine) (flight : Option Flight) (lines : List TranscriptLine) (ps : List (List ℕ)) (t : Tail)
+    → fold (acts c kind after) (record { flight = flight; lines = lines; strays = [] }) (sent_first ps ++ actions t) ≡ tail_outcome c kind after flight (lines ++ said c ps) t
+fold-sends c kind after flight lines [] Rests = ap (λ l. tail_outcome c kind after flight l Rests) (sym (append-nil lines))
+fold-sends c kind after flight lines [] (Asks a) = ap (λ l. tail_outcome c kind after flight l (Asks a)) (sym (append-nil lines))
+fold-sends c kind after flight lines [] (Closes why) = ap (λ l. tail_outcome c kind after flight l (Closes why)) (sym (append-nil lines))
+fold-sends c kind after flight lines (p ∷ ps) t =
+    fold-sends c kind after flight (lines ++ Send c p ∷ []) ps t ∙ ap (λ l. tail_outcome c kind after flight l t) (append_assoc lines (Send c p ∷ []) (said c ps))
 
-pub split-outcome : (c : ℕ) (kind : Option UpdateKind) (behind : List TranscriptLine) (flight : Option Flight) (out : List Action) (s : Split out) → acts_all c kind behind flight out ≡ tail_outcome c kind behind flight (said c s.packets) s.tail
-split-outcome c kind behind flight out s = ap (fold (acts c kind behind) (quiet flight)) s.is ∙ fold-sends c kind behind flight [] s.packets s.tail
+pub split-outcome : (c : ℕ) (kind : Option UpdateKind) (after : List TranscriptLine) (flight : Option Flight) (out : List Action) (s : Split out) → acts_all c kind after flight out ≡ tail_outcome c kind after flight (said c s.packets) s.tail
+split-outcome c kind after flight out s = ap (fold (acts c kind after) (quiet flight)) s.is ∙ fold-sends c kind after flight [] s.packets s.tail
 
 -- ---- its packets are what was sent
 

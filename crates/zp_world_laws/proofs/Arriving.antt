@@ -20,7 +20,7 @@ use Rattle.zp_script.specs.Arriving.{frame_lines, shown_frame}
 use Rattle.zp_script.specs.Handing.{Handed}
 use Rattle.zp_script.specs.Kinds.{kind_asked, kind_in_stage}
 use Rattle.zp_script.specs.StepOutcomes.{acts_all, leaves, quiet}
-use Rattle.zp_script.specs.Worlds.{Closed, Conn, Connection, World, behind_step, conn_at, is_closed, with_conn, zxid_at}
+use Rattle.zp_script.specs.Worlds.{Closed, Conn, Connection, World, after_step, conn_at, is_closed, with_conn, zxid_at}
 use Rattle.zp_script.specs.declared.flight.Asking.{Asking}
 use Rattle.zp_script.specs.declared.flight.Flight.TheVariants.{Carried, Denied, Out}
 use Rattle.zp_script.specs.declared.flight.Flight.{Flight}
@@ -266,18 +266,18 @@ queued-whole w c x core bytes there actor came h = sets-whole w c x (record x { 
     in-air a e = ap out_of there ∙ ap out_in e
 
 -- a connection that is at work: the frame waits, or has no header and ends it
-pub busy-whole : (w w' : World) (c : ℕ) (behind : List TranscriptLine) (z : ℤ) (bytes : List ℕ) (hd : Handed c behind w (input.Frame bytes) w') → is_busy hd.core.stage ≡ true → z ≡ (after w.lines).zxid → AreShown c z behind
+pub busy-whole : (w w' : World) (c : ℕ) (rest : List TranscriptLine) (z : ℤ) (bytes : List ℕ) (hd : Handed c rest w (input.Frame bytes) w') → is_busy hd.core.stage ≡ true → z ≡ (after w.lines).zxid → AreShown c z rest
     → (is_served hd.core.stage ≡ true → has_header (read_request bytes) ≡ true → IsFrameAt w.lines c (next_frame hd.core) bytes) → Whole w → Whole w'
-busy-whole w w' c behind z bytes hd busy last shown came h = go (arrived hd.core hd.next bytes w.clock hd.out busy hd.stepped)
+busy-whole w w' c rest z bytes hd busy last shown came h = go (arrived hd.core hd.next bytes w.clock hd.out busy hd.stepped)
   where
     go : Arrived hd.core hd.next bytes hd.out → Whole w'
-    go (Shuts shut why closed) = closing-whole w w' c behind (input.Frame bytes) why z hd shut closed last shown (but-of w c h)
+    go (Shuts shut why closed) = closing-whole w w' c rest (input.Frame bytes) why z hd shut closed last shown (but-of w c h)
     go (Queues is silent header) =
         let v : Conn = record (hd.conn) { actor = Connection (queued hd.core bytes) } in
         let opens : is_shut hd.core.stage ≡ false = busy-open hd.core.stage busy in
         let e : w' ≡ with_conn w c v =
-        hd.result ∙ ap (λ l. leaves c w hd.conn (behind_step hd.next) (acts_all c (kind_asked c (Connection hd.next)) behind hd.conn.flight l)) silent
-        ∙ ap (λ (d : Core). leaves c w hd.conn (behind_step d) (quiet hd.conn.flight)) is
+        hd.result ∙ ap (λ l. leaves c w hd.conn (after_step hd.next) (acts_all c (kind_asked c (Connection hd.next)) rest hd.conn.flight l)) silent
+        ∙ ap (λ (d : Core). leaves c w hd.conn (after_step d) (quiet hd.conn.flight)) is
         ∙ ap (λ b. leaves c w hd.conn (if b then Closed else Connection (queued hd.core bytes)) (quiet hd.conn.flight)) opens
         ∙ ap (λ l. record (with_conn w c v) { lines = l; strays = w.strays ++ [] }) (append-nil w.lines)
         ∙ ap (λ l. record (with_conn w c v) { strays = l }) (append-nil w.strays) in

@@ -255,7 +255,7 @@ module _ (w : World) (c : ℕ) (x : Conn) (end : Ended) (there : conn_at c w ≡
           flown (Some Denied) e p = absurd (none_some p)
 
 -- with frames that came at once shown before it
-pub ends-whole : (w : World) (c : ℕ) (x : Conn) (z : ℤ) (behind : List TranscriptLine) (end : Ended) → conn_at c w ≡ Some x → z ≡ (after w.lines).zxid → AreShown c z behind → But w c → Whole (leaves c w x Closed (ends c behind end (quiet x.flight)))
-ends-whole w c x z behind end there last shown h =
-    subst (λ l. Whole (record (with_conn w c (closed_conn x)) { lines = l; strays = w.strays ++ left_by x.flight })) (append_assoc w.lines behind (Close c end ∷ []))
-    (close-whole (with_lines w behind) c x end there (all-shown-but w c c z behind last shown h))
+pub ends-whole : (w : World) (c : ℕ) (x : Conn) (z : ℤ) (rest : List TranscriptLine) (end : Ended) → conn_at c w ≡ Some x → z ≡ (after w.lines).zxid → AreShown c z rest → But w c → Whole (leaves c w x Closed (ends c rest end (quiet x.flight)))
+ends-whole w c x z rest end there last shown h =
+    subst (λ l. Whole (record (with_conn w c (closed_conn x)) { lines = l; strays = w.strays ++ left_by x.flight })) (append_assoc w.lines rest (Close c end ∷ []))
+    (close-whole (with_lines w rest) c x end there (all-shown-but w c c z rest last shown h))

@@ -183,7 +183,7 @@ module _ (s u : Store) (lines : List TranscriptLine) (c : ℕ) (core : Core) (x 
         carried_out = h;
         is = precedes-self u;
         looked = length (lines ++ more);
-        behind = omega (arith, place, length-append lines more);
+        passed = omega (arith, place, length-append lines more);
         within = omega arith;
         risen = (let same = ap (λ (t : State). t.zxid) whole in omega (arith, ints, same));
         stands = subst (StandsFor (present u)) (sym whole) (stands-now u (lines ++ more) v);

@@ -16,7 +16,7 @@ use Rattle.zp_script.specs.Effects.{EndsBy, LagsBy}
 use Rattle.zp_script.specs.Handing.{FailureComes, FailureComesTo, Handed, landed, landed_conn}
 use Rattle.zp_script.specs.Kinds.{kind_asked}
 use Rattle.zp_script.specs.StepOutcomes.{acts_all, ends, leaves, quiet}
-use Rattle.zp_script.specs.Worlds.{Actor, Closed, Conn, Connection, Reaper, World, behind_step, conn_at, is_closed, with_conn}
+use Rattle.zp_script.specs.Worlds.{Actor, Closed, Conn, Connection, Reaper, World, after_step, conn_at, is_closed, with_conn}
 use Rattle.zp_script.specs.declared.flight.Asking.{Asking}
 use Rattle.zx_base.proofs.Options.{none_some, some_is}
 use Rattle.zp_world_laws.proofs.Closing.{AreShown, But, but-of, ends-whole}
@@ -30,12 +30,12 @@ use Rattle.zp_world_laws.specs.Holding.{Left, Of, Source, air}
 
 -- ---- a step that only closes
 
-pub closing-whole : (w w' : World) (c : ℕ) (behind : List TranscriptLine) (i : Input) (why : Cause) (z : ℤ) → (hd : Handed c behind w i w') → is_shut hd.next.stage ≡ true → hd.out ≡ action.Close why ∷ [] → z ≡ (after w.lines).zxid → AreShown c z behind → But w c → Whole w'
-closing-whole w w' c behind i why z hd shut out last shown h =
-    let is : w' ≡ leaves c w hd.conn Closed (ends c behind (ended.Cause why) (quiet hd.conn.flight)) =
-    hd.result ∙ ap (λ l. leaves c w hd.conn (behind_step hd.next) (acts_all c (kind_asked c (Connection hd.next)) behind hd.conn.flight l)) out
-    ∙ ap (λ b. leaves c w hd.conn (if b then Closed else Connection hd.next) (ends c behind (ended.Cause why) (quiet hd.conn.flight))) shut in
-    subst Whole (sym is) (ends-whole w c hd.conn z behind (ended.Cause why) hd.found last shown h)
+pub closing-whole : (w w' : World) (c : ℕ) (rest : List TranscriptLine) (i : Input) (why : Cause) (z : ℤ) → (hd : Handed c rest w i w') → is_shut hd.next.stage ≡ true → hd.out ≡ action.Close why ∷ [] → z ≡ (after w.lines).zxid → AreShown c z rest → But w c → Whole w'
+closing-whole w w' c rest i why z hd shut out last shown h =
+    let is : w' ≡ leaves c w hd.conn Closed (ends c rest (ended.Cause why) (quiet hd.conn.flight)) =
+    hd.result ∙ ap (λ l. leaves c w hd.conn (after_step hd.next) (acts_all c (kind_asked c (Connection hd.next)) rest hd.conn.flight l)) out
+    ∙ ap (λ b. leaves c w hd.conn (if b then Closed else Connection hd.next) (ends c rest (ended.Cause why) (quiet hd.conn.flight))) shut in
+    subst Whole (sym is) (ends-whole w c hd.conn z rest (ended.Cause why) hd.found last shown h)
 
 pub closes-whole : (w w' : World) (c : ℕ) (i : Input) (why : Cause) → end_by i ≡ Some why → (hd : Handed c [] w i w') → But w c → Whole w'
 closes-whole w w' c i why e hd h =

@@ -19,7 +19,7 @@ use Rattle.zp_step.specs.Stages.{Core, Stage, Unconnected, Connecting, Ready, Ke
 use Rattle.zp_laws.specs.Inputs.{IsEntryOf, IsTrueEntry, takes_entries}
 use Rattle.zp_laws.specs.Standing.{Knows}
 use Rattle.zk_transcript.specs.Walks.{Walker}
-use Rattle.zp_script.specs.Entries.{cursor_at, cursor_of, cursor_wanted, entry_behind, next_entry}
+use Rattle.zp_script.specs.Entries.{cursor_at, cursor_of, cursor_wanted, entry_after, next_entry}
 use Rattle.zp_script.specs.Worlds.{Conn, Connection, World, conn_at}
 use Rattle.zp_script.specs.declared.flight.Flight.{Flight}
 use Rattle.ev_types.specs.Denials.{carry}
@@ -80,9 +80,9 @@ awaits s lines c core w looked (Reading xid q v ws) z k h = absurd (none_some h)
 awaits s lines c core w looked (Committing xid q v p m) z k h = absurd (none_some h)
 awaits s lines c core w looked Shut z k h = absurd (none_some h)
 
-behind-true : (lines : List TranscriptLine) (entries : List Entry) (z : ℤ) (e : Entry) → AreEntries lines entries → entry_behind entries z ≡ Some e → IsEntryOf lines e × (e.number ≡ z +ℤ pos 1)
-behind-true lines entries (pos n) e all h = let a = all.each n e h in (a.0, a.1 ∙ ap pos (omega arith))
-behind-true lines entries (negsuc n) e all h = absurd (none_some h)
+after-true : (lines : List TranscriptLine) (entries : List Entry) (z : ℤ) (e : Entry) → AreEntries lines entries → entry_after entries z ≡ Some e → IsEntryOf lines e × (e.number ≡ z +ℤ pos 1)
+after-true lines entries (pos n) e all h = let a = all.each n e h in (a.0, a.1 ∙ ap pos (omega arith))
+after-true lines entries (negsuc n) e all h = absurd (none_some h)
 
 pub next-true : (w : World) (c : ℕ) (x : Conn) (core : Core) (e : Entry) → conn_at c w ≡ Some x → x.actor ≡ Connection core → IsServing w.store w.lines c core x.flight → AreEntries w.lines w.entries → next_entry c w ≡ Some e → IsTrueEntry w.lines core e
 next-true w c x core e there actor k all next = go (cursor_at c w) refl next
@@ -90,11 +90,11 @@ next-true w c x core e there actor k all next = go (cursor_at c w) refl next
     cursor_is : cursor_at c w ≡ cursor_wanted (wants_of core)
     cursor_is = ap (option_and_then (λ (y : Conn). cursor_of y.actor)) there ∙ ap cursor_of actor
 
-    go : (o : Option ℤ) → cursor_at c w ≡ o → option_and_then (entry_behind w.entries) o ≡ Some e → IsTrueEntry w.lines core e
+    go : (o : Option ℤ) → cursor_at c w ≡ o → option_and_then (entry_after w.entries) o ≡ Some e → IsTrueEntry w.lines core e
     go None f g = absurd (none_some g)
     go (Some z) f g =
         let a = awaits w.store w.lines c core k.walker k.looked core.stage z (k.stands).knows (sym cursor_is ∙ f) in
-        let b = behind-true w.lines w.entries z e all g in
+        let b = after-true w.lines w.entries z e all g in
         record { of = b.0; next = b.1 ∙ ap (λ n. n +ℤ pos 1) a.cursor; armed = a.armed; taken = a.taken }
 
 -- ---- lines more

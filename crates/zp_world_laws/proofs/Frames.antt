@@ -18,7 +18,7 @@ use Rattle.zk_transcript.specs.declared.transcript.TranscriptLine.{TranscriptLin
 use Rattle.zp_script.specs.Handing.{Handed}
 use Rattle.zp_script.specs.Kinds.{kind_asked}
 use Rattle.zp_script.specs.StepOutcomes.{StepOutcome, acts_all, leaves, quiet}
-use Rattle.zp_script.specs.Worlds.{Closed, Conn, Connection, World, behind_step}
+use Rattle.zp_script.specs.Worlds.{Closed, Conn, Connection, World, after_step}
 use Rattle.zp_script.specs.declared.flight.Flight.TheVariants.{Carried, Denied, Out}
 use Rattle.zp_script.specs.declared.flight.Flight.{Flight}
 use Rattle.zp_laws.proofs.Ending.{steps_end_well}
@@ -112,7 +112,7 @@ pub record HasJustCome (w : World) (c : ℕ) (conn : Conn) (core : Core) (bytes 
   pub framed : placed_frame c (next_frame core) w.lines ≡ Some (place, bytes)
   pub stage : IsInStage w.store w.lines c core conn.flight core.stage
 
-module _ (w w' : World) (c : ℕ) (behind : List TranscriptLine) (z : ℤ) (bytes : List ℕ) (hd : Handed c behind w (input.Frame bytes) w') (last : z ≡ (after w.lines).zxid) (shown : AreShown c z behind) (h : Whole w) (k : HasJustCome w c hd.conn hd.core bytes) where
+module _ (w w' : World) (c : ℕ) (onward : List TranscriptLine) (z : ℤ) (bytes : List ℕ) (hd : Handed c onward w (input.Frame bytes) w') (last : z ≡ (after w.lines).zxid) (shown : AreShown c z onward) (h : Whole w) (k : HasJustCome w c hd.conn hd.core bytes) where
   frames : is_shut hd.next.stage ≡ false → (more : List TranscriptLine) → AreAside more c → HasFrames (w.lines ++ more) c hd.conn.frames hd.next
   frames going more aside = counts-on w.lines more c hd.conn.frames hd.core hd.next (input.Frame bytes) w.clock hd.out (h.unshut c hd.conn hd.core hd.found hd.serving) hd.stepped k.numbered k.came k.most k.lined aside going
 
@@ -125,14 +125,14 @@ module _ (w w' : World) (c : ℕ) (behind : List TranscriptLine) (z : ℤ) (byte
   busy-acts busy = go (arrived hd.core hd.next bytes w.clock hd.out busy hd.stepped)
     where
       go : Arrived hd.core hd.next bytes hd.out → Acts w w' c
-      go (Shuts shut why closed) = closing-acts w w' c behind (input.Frame bytes) why z hd shut closed last shown (but-of w c h)
+      go (Shuts shut why closed) = closing-acts w w' c onward (input.Frame bytes) why z hd shut closed last shown (but-of w c h)
       go (Queues is silent header) =
           let o : StepOutcome = quiet hd.conn.flight in
           let e : w' ≡ leaves c w hd.conn (Connection (queued hd.core bytes)) (quiet hd.conn.flight) =
-          hd.result ∙ ap (λ l. leaves c w hd.conn (behind_step hd.next) (acts_all c (kind_asked c (Connection hd.next)) behind hd.conn.flight l)) silent
-          ∙ ap (λ (d : Core). leaves c w hd.conn (behind_step d) (quiet hd.conn.flight)) is
+          hd.result ∙ ap (λ l. leaves c w hd.conn (after_step hd.next) (acts_all c (kind_asked c (Connection hd.next)) onward hd.conn.flight l)) silent
+          ∙ ap (λ (d : Core). leaves c w hd.conn (after_step d) (quiet hd.conn.flight)) is
           ∙ ap (λ b. leaves c w hd.conn (if b then Closed else Connection (queued hd.core bytes)) (quiet hd.conn.flight)) (h.unshut c hd.conn hd.core hd.found hd.serving) in
-          leaves-acts w w' c hd.conn (Connection (queued hd.core bytes)) (quiet hd.conn.flight) hd.found e refl (busy-whole w w' c behind z bytes hd busy last shown (λ s header. frame-at header) h) (
+          leaves-acts w w' c hd.conn (Connection (queued hd.core bytes)) (quiet hd.conn.flight) hd.found e refl (busy-whole w w' c onward z bytes hd busy last shown (λ s header. frame-at header) h) (
             subst (HasFrames (w.lines ++ []) c hd.conn.frames) is (frames (ap (λ (d : Core). is_shut d.stage) is ∙ h.unshut c hd.conn hd.core hd.found hd.serving) [] (record { opens = refl; closes = λ j. refl; frames = λ i j. refl })),
             subst (λ l. IsInStage w.store l c (queued hd.core bytes) hd.conn.flight hd.core.stage) (sym (append-nil w.lines)) (stage-queued w.store w.lines c hd.core bytes hd.conn.flight hd.core.stage busy refl (frame-at header) k.stage),
           ) (within-same w.lines c)
@@ -140,7 +140,7 @@ module _ (w w' : World) (c : ℕ) (behind : List TranscriptLine) (z : ℤ) (byte
   -- ---- it is attached, and nothing is out
 
   idle-acts : is_served hd.core.stage ≡ true → hd.conn.flight ≡ None → Acts w w' c
-  idle-acts served none = handed-acts w w' c behind (input.Frame bytes) z hd end shown whole frames then_served says
+  idle-acts served none = handed-acts w w' c onward (input.Frame bytes) z hd end shown whole frames then_served says
     where
       says : IsInConnection w.lines c → IsInConnection (w.lines ++ said c (sends hd.out)) c
       says q = (let v = h.serving c hd.conn hd.core hd.found hd.serving served in within-more w.lines c hd.conn.frames (sends hd.out) k.lined (v.place, attachment hd.core.who) v.first v.packets_were v.attached v.welcomed q)
@@ -164,10 +164,10 @@ module _ (w w' : World) (c : ℕ) (behind : List TranscriptLine) (z : ℤ) (byte
       end = steps_end_well hd.core hd.next (input.Frame bytes) w.clock hd.out (h.unshut c hd.conn hd.core hd.found hd.serving) hd.stepped
 
       whole : Whole w'
-      whole = handed-whole w w' c behind (input.Frame bytes) hd ready z last shown
+      whole = handed-whole w w' c onward (input.Frame bytes) hd ready z last shown
 
       then_served : is_shut hd.next.stage ≡ false → is_served hd.next.stage ≡ true
-      then_served going = stays-served w w' c behind (input.Frame bytes) hd ready going
+      then_served going = stays-served w w' c onward (input.Frame bytes) hd ready going
 
   -- ---- it is the connect
 
@@ -191,7 +191,7 @@ module _ (w w' : World) (c : ℕ) (behind : List TranscriptLine) (z : ℤ) (byte
       shut-by : (why : Cause) → Is (closed_by (counted hd.core bytes) why) s.mid s.first → Acts w w' c
       shut-by why i =
           let t = still (record (counted hd.core bytes) { stage = Shut }) (action.Close why ∷ []) i.0 i.1 (λ f. absurd (cc)) in
-          closing-acts w w' c behind (input.Frame bytes) why z hd (ap (λ (y : Core). is_shut y.stage) t.0) t.1 last shown (but-of w c h)
+          closing-acts w w' c onward (input.Frame bytes) why z hd (ap (λ (y : Core). is_shut y.stage) t.0) t.1 last shown (but-of w c h)
 
       one : hd.core.next ≡ 1
       one = subst (IsNumbered hd.core) e k.numbered
@@ -214,7 +214,7 @@ module _ (w w' : World) (c : ℕ) (behind : List TranscriptLine) (z : ℤ) (byte
       by-step r reads p (steps.Ask q) (f, g) i =
           let kept = kept_by w.clock hd.core.kept q in
           let t = still (asking_core (counted hd.core bytes) kept (in_phase (begun r fresh) p)) (action.Ask q ∷ []) i.0 i.1 (λ u. absurd (cc)) in
-          asks-acts w w' c behind (input.Frame bytes) hd (begun r fresh) (counted hd.core bytes) h (at r reads) frames p kept q (ap (asked_in (begun r fresh)) f ∙ sym g) (subst (RestsOn w.store (after w.lines).zxid r) (sym f) tt) (mine.0).unattached t.0 t.1
+          asks-acts w w' c onward (input.Frame bytes) hd (begun r fresh) (counted hd.core bytes) h (at r reads) frames p kept q (ap (asked_in (begun r fresh)) f ∙ sym g) (subst (RestsOn w.store (after w.lines).zxid r) (sym f) tt) (mine.0).unattached t.0 t.1
       by-step r reads p (steps.Attached response who timeout number zxid) (f, g) i = absurd (none_some g)
       by-step r reads p (steps.Ahead client head) (f, g) i = absurd (none_some g)
       by-step r reads p steps.Unknown (f, g) i = absurd (none_some g)

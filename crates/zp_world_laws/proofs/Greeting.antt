@@ -25,7 +25,7 @@ use Rattle.zn_view.specs.declared.plan.Who.{Who}
 use Rattle.zp_script.specs.Handing.{Handed}
 use Rattle.zp_script.specs.Kinds.{kind_asked, kind_of_connect}
 use Rattle.zp_script.specs.StepOutcomes.{StepOutcome, acts_all, ends, leaves, left_by, quiet}
-use Rattle.zp_script.specs.Worlds.{Closed, Conn, Connection, World, behind_step, is_closed, with_conn}
+use Rattle.zp_script.specs.Worlds.{Closed, Conn, Connection, World, after_step, is_closed, with_conn}
 use Rattle.zp_script.specs.declared.flight.Asking.{Asking}
 use Rattle.zp_script.specs.declared.flight.Flight.TheVariants.{Carried, Out}
 use Rattle.zp_laws.proofs.Asking.{open-is}
@@ -107,7 +107,7 @@ pub record IsConnectAt (lines : List TranscriptLine) (c : ℕ) (core : Core) (x 
   pub framed : placed_frame c 0 lines ≡ Some (place, bytes)
   pub reads : read_connect bytes ≡ Some x.request
 
-module _ (w w' : World) (c : ℕ) (behind : List TranscriptLine) (i : Input) (hd : Handed c behind w i w') (x : Connect) (core : Core) (h : Whole w) (k : IsConnectAt w.lines c core x)
+module _ (w w' : World) (c : ℕ) (rest : List TranscriptLine) (i : Input) (hd : Handed c rest w i w') (x : Connect) (core : Core) (h : Whole w) (k : IsConnectAt w.lines c core x)
     (frames : is_shut hd.next.stage ≡ false → (more : List TranscriptLine) → AreAside more c → HasFrames (w.lines ++ more) c hd.conn.frames hd.next) where
   pub asks-acts : (p : Phase) (kept : ℕ) (q : Ask) → asked_in x p ≡ Some q → RestsOn w.store (after w.lines).zxid x.request p → attach_of c w.lines ≡ None → hd.next ≡ asking_core core kept (in_phase x p) → hd.out ≡ action.Ask q ∷ [] → Acts w w' c
   asks-acts p kept q asked rests none next out = leaves-acts w w' c hd.conn (Connection d) o hd.found is refl (subst Whole (sym plain) whole) known (within-same w.lines c)
@@ -125,8 +125,8 @@ module _ (w w' : World) (c : ℕ) (behind : List TranscriptLine) (i : Input) (hd
       o = record { flight = Some (Out (record { ask = q; kind = kind_of_connect c (in_phase x p) p })); lines = []; strays = [] }
 
       is : w' ≡ leaves c w hd.conn (Connection (asking_core core kept (in_phase x p))) (record { flight = Some (Out (record { ask = q; kind = kind_of_connect c (in_phase x p) p })); lines = []; strays = [] })
-      is = hd.result ∙ ap (λ l. leaves c w hd.conn (behind_step hd.next) (acts_all c (kind_asked c (Connection hd.next)) behind hd.conn.flight l)) out
-          ∙ ap (λ (e : Core). leaves c w hd.conn (behind_step e) (acts_all c (kind_asked c (Connection e)) behind hd.conn.flight (action.Ask q ∷ []))) next
+      is = hd.result ∙ ap (λ l. leaves c w hd.conn (after_step hd.next) (acts_all c (kind_asked c (Connection hd.next)) rest hd.conn.flight l)) out
+          ∙ ap (λ (e : Core). leaves c w hd.conn (after_step e) (acts_all c (kind_asked c (Connection e)) rest hd.conn.flight (action.Ask q ∷ []))) next
 
       plain : w' ≡ with_conn w c (record (hd.conn) { actor = Connection (asking_core core kept (in_phase x p)); flight = Some (Out (record { ask = q; kind = kind_of_connect c (in_phase x p) p })) })
       plain = is ∙ ap (λ l. record (with_conn w c (record (hd.conn) { actor = Connection (asking_core core kept (in_phase x p)); flight = Some (Out (record { ask = q; kind = kind_of_connect c (in_phase x p) p })) })) { lines = l; strays = w.strays ++ [] }) (append-nil w.lines)
@@ -211,7 +211,7 @@ module _ (w w' : World) (c : ℕ) (a : Answer) (hd : Handed c [] w (input.Answer
           (connect-is w.lines c k.bytes x.request (first_shown-place (frame_shown c 0) 0 w.lines (k.place, k.bytes) k.framed) k.reads) after_it before_now before_now may packet_is))
 
       is : w' ≡ leaves c w hd.conn Closed (record { flight = None; lines = Send c packet ∷ Close c (ended.Cause why) ∷ []; strays = left_by hd.conn.flight })
-      is = hd.result ∙ ap (λ l. leaves c w hd.conn (behind_step hd.next) (acts_all c (kind_asked c (Connection hd.next)) [] hd.conn.flight l)) out
+      is = hd.result ∙ ap (λ l. leaves c w hd.conn (after_step hd.next) (acts_all c (kind_asked c (Connection hd.next)) [] hd.conn.flight l)) out
           ∙ ap (λ b. leaves c w hd.conn (if b then Closed else Connection hd.next) (record { flight = None; lines = Send c packet ∷ Close c (ended.Cause why) ∷ []; strays = left_by hd.conn.flight })) (ap is_shut shut)
 
       own : list_all (is_own c) (Send c packet ∷ Close c (ended.Cause why) ∷ []) ≡ true
@@ -333,7 +333,7 @@ module _ (w w' : World) (c : ℕ) (a : Answer) (hd : Handed c [] w (input.Answer
   by-step p _ (taken r) i = shut-by (cause.Taken r) i
   by-step p _ (unknown none refused) i =
       let t = still (record (hd.core) { stage = Shut }) (action.Send (connect_packet (refusal x.request)) ∷ action.Close cause.Unknown ∷ []) i.0 i.1 (λ e. absurd (cc)) in
-      refuses (connect_packet (refusal x.request)) cause.Unknown refl flown.looked flown.behind flown.within refused none (ap (λ (y : Core). y.stage) t.0) t.1
+      refuses (connect_packet (refusal x.request)) cause.Unknown refl flown.looked flown.passed flown.within refused none (ap (λ (y : Core). y.stage) t.0) t.1
   by-step p _ (attached id timeout passwd zxid number own) i =
       welcomes (connect_packet (record { timeout = timeout; session = id; passwd = passwd; read_only = answered_read_only x.request })) (record { session = id; mine = zxid }) timeout number zxid id timeout passwd own refl (welcome-is x.request id timeout passwd own.session own.timeout_is own.passwd_is) s.later
       (s.joined ∙ ap (λ l. l ++ s.later) i.1) (subst (λ (y : Core). Goes w.clock y hd.next s.later) i.0 s.goes)

@@ -18,7 +18,7 @@ use Rattle.zn_view.specs.declared.plan.Who.{Who}
 use Rattle.zp_script.specs.Handing.{Handed}
 use Rattle.zp_script.specs.Kinds.{kind_asked, kind_in_stage}
 use Rattle.zp_script.specs.StepOutcomes.{ends, leaves, left_by, quiet}
-use Rattle.zp_script.specs.Worlds.{Actor, Closed, Conn, Connection, World, behind_step, is_closed, with_conn}
+use Rattle.zp_script.specs.Worlds.{Actor, Closed, Conn, Connection, World, after_step, is_closed, with_conn}
 use Rattle.zp_script.specs.declared.flight.Asking.{Asking}
 use Rattle.zp_script.specs.declared.flight.Flight.TheVariants.{Out}
 use Rattle.zp_script.specs.declared.flight.Flight.{Flight}
@@ -93,7 +93,7 @@ pub record GoesOn (w : World) (c : ℕ) (next : Core) (out : List Action) (ls : 
   pub packets_were : List Due
   pub welcomed : packets c (w.lines ++ ls) ≡ first ∷ packets_were
 
-module _ (w w' : World) (c : ℕ) (behind : List TranscriptLine) (i : Input) (hd : Handed c behind w i w') (but : But w c) (nothing_out : hd.conn.flight ≡ None) (parts : Split hd.out) (shut_is : is_shut hd.next.stage ≡ closes hd.out)
+module _ (w w' : World) (c : ℕ) (rest : List TranscriptLine) (i : Input) (hd : Handed c rest w i w') (but : But w c) (nothing_out : hd.conn.flight ≡ None) (parts : Split hd.out) (shut_is : is_shut hd.next.stage ≡ closes hd.out)
     (g : GoesOn w c hd.next hd.out (said c parts.packets)) where
   legal : is_legal w.lines ≡ true
   legal = ((but.holds).serves).legal
@@ -132,9 +132,9 @@ module _ (w w' : World) (c : ℕ) (behind : List TranscriptLine) (i : Input) (hd
   shut-is : is_shut hd.next.stage ≡ is_closing parts.tail
   shut-is = shut_is ∙ split-closes hd.out parts
 
-  outcome-is : w' ≡ leaves c w hd.conn (behind_step hd.next) (tail_outcome c (kind_asked c (Connection hd.next)) behind hd.conn.flight ls parts.tail)
+  outcome-is : w' ≡ leaves c w hd.conn (after_step hd.next) (tail_outcome c (kind_asked c (Connection hd.next)) rest hd.conn.flight ls parts.tail)
   unfolding ls
-  outcome-is = hd.result ∙ ap (leaves c w hd.conn (behind_step hd.next)) (split-outcome c (kind_asked c (Connection hd.next)) behind hd.conn.flight hd.out parts)
+  outcome-is = hd.result ∙ ap (leaves c w hd.conn (after_step hd.next)) (split-outcome c (kind_asked c (Connection hd.next)) rest hd.conn.flight hd.out parts)
 
   -- ---- it goes on
 
@@ -211,18 +211,18 @@ module _ (w w' : World) (c : ℕ) (behind : List TranscriptLine) (i : Input) (hd
               });
             })
 
-  open-behind : is_shut hd.next.stage ≡ false → behind_step hd.next ≡ Connection hd.next
-  open-behind e = ap (λ b. if b then Closed else Connection hd.next) e
+  open-after : is_shut hd.next.stage ≡ false → after_step hd.next ≡ Connection hd.next
+  open-after e = ap (λ b. if b then Closed else Connection hd.next) e
 
-  shut-behind : is_shut hd.next.stage ≡ true → behind_step hd.next ≡ Closed
-  shut-behind e = ap (λ b. if b then Closed else Connection hd.next) e
+  shut-after : is_shut hd.next.stage ≡ true → after_step hd.next ≡ Closed
+  shut-after e = ap (λ b. if b then Closed else Connection hd.next) e
 
   asks-out : is_shut hd.next.stage ≡ false → (a : Ask) → asked_by hd.out ≡ Some a → Contains hd.out (action.Ask a) → IsOut (w.lines ++ ls) c hd.next (record { ask = a; kind = kind_in_stage c hd.next hd.next.stage })
   asks-out going a asked there =
       let p = g.asks a going asked there in
       record { asked = p.0; kind = refl; ahead = ahead-speech c c hd.next.next w.lines ls speech (asked-ahead w.lines c hd.next a (served going) p.0 p.1) }
 
-  pub goes-on-whole : (z : ℤ) → z ≡ (after w.lines).zxid → AreShown c z behind → Whole w'
+  pub goes-on-whole : (z : ℤ) → z ≡ (after w.lines).zxid → AreShown c z rest → Whole w'
   goes-on-whole z last shown = go parts.tail refl
     where
       v : Actor → Option Flight → Conn
@@ -235,8 +235,8 @@ module _ (w w' : World) (c : ℕ) (behind : List TranscriptLine) (i : Input) (hd
       go Rests e =
           let going : is_shut hd.next.stage ≡ false = shut-is ∙ ap is_closing e in
           let is : w' ≡ with_conn (with_lines w ls) c (v (Connection hd.next) hd.conn.flight) =
-          outcome-is ∙ ap (λ t. leaves c w hd.conn (behind_step hd.next) (tail_outcome c (kind_asked c (Connection hd.next)) behind hd.conn.flight ls t)) e
-          ∙ ap (λ a. leaves c w hd.conn a (record { flight = hd.conn.flight; lines = ls; strays = [] })) (open-behind going) ∙ joined hd.conn.flight in
+          outcome-is ∙ ap (λ t. leaves c w hd.conn (after_step hd.next) (tail_outcome c (kind_asked c (Connection hd.next)) rest hd.conn.flight ls t)) e
+          ∙ ap (λ a. leaves c w hd.conn a (record { flight = hd.conn.flight; lines = ls; strays = [] })) (open-after going) ∙ joined hd.conn.flight in
           subst Whole (sym is) (set going hd.conn.flight (ap is_carried nothing_out) (subst (IsFlying w.store (w.lines ++ ls) c hd.next g.walker g.looked) (sym nothing_out) (g.rests going (split-asked hd.out parts ∙ ap asked_in e)))
           (λ a f. absurd (none_some (sym nothing_out ∙ f))))
       go (Asks a) e =
@@ -245,8 +245,8 @@ module _ (w w' : World) (c : ℕ) (behind : List TranscriptLine) (i : Input) (hd
           let o = asks-out going a (split-asked hd.out parts ∙ ap asked_in e) there in
           let f : Option Flight = Some (Out (record { ask = a; kind = kind_in_stage c hd.next hd.next.stage })) in
           let is : w' ≡ with_conn (with_lines w ls) c (v (Connection hd.next) f) =
-          outcome-is ∙ ap (λ t. leaves c w hd.conn (behind_step hd.next) (tail_outcome c (kind_asked c (Connection hd.next)) behind hd.conn.flight ls t)) e
-          ∙ ap (λ b. leaves c w hd.conn b (record { flight = f; lines = ls; strays = [] })) (open-behind going) ∙ joined f in
+          outcome-is ∙ ap (λ t. leaves c w hd.conn (after_step hd.next) (tail_outcome c (kind_asked c (Connection hd.next)) rest hd.conn.flight ls t)) e
+          ∙ ap (λ b. leaves c w hd.conn b (record { flight = f; lines = ls; strays = [] })) (open-after going) ∙ joined f in
           subst Whole (sym is) (set going f refl o (λ x e. subst (IsOut (w.lines ++ ls) c hd.next) (out-same _ x e) o))
         where
           one-there : (b : Ask) → Contains (action.Ask b ∷ []) (action.Ask b)
@@ -256,11 +256,11 @@ module _ (w w' : World) (c : ℕ) (behind : List TranscriptLine) (i : Input) (hd
           out-same x y g = cc
       go (Closes why) e =
           let gone : is_shut hd.next.stage ≡ true = shut-is ∙ ap is_closing e in
-          let is : w' ≡ leaves c (with_lines w ls) hd.conn Closed (ends c behind (ended.Cause why) (quiet hd.conn.flight)) =
-          outcome-is ∙ ap (λ t. leaves c w hd.conn (behind_step hd.next) (tail_outcome c (kind_asked c (Connection hd.next)) behind hd.conn.flight ls t)) e
-          ∙ ap (λ b. leaves c w hd.conn b (record { flight = None; lines = ls ++ behind ++ Close c (ended.Cause why) ∷ []; strays = left_by hd.conn.flight })) (shut-behind gone)
-          ∙ ap (λ l. record (with_conn w c (v Closed None)) { lines = l; strays = w.strays ++ left_by hd.conn.flight }) (sym (append_assoc w.lines ls (behind ++ Close c (ended.Cause why) ∷ []) ∙ ap (λ l. w.lines ++ l) (sym (append_assoc ls behind (Close c (ended.Cause why) ∷ []))))) in
-          subst Whole (sym is) (ends-whole (with_lines w ls) c hd.conn z behind (ended.Cause why) hd.found (last ∙ sym still-zxid) shown but1)
+          let is : w' ≡ leaves c (with_lines w ls) hd.conn Closed (ends c rest (ended.Cause why) (quiet hd.conn.flight)) =
+          outcome-is ∙ ap (λ t. leaves c w hd.conn (after_step hd.next) (tail_outcome c (kind_asked c (Connection hd.next)) rest hd.conn.flight ls t)) e
+          ∙ ap (λ b. leaves c w hd.conn b (record { flight = None; lines = ls ++ rest ++ Close c (ended.Cause why) ∷ []; strays = left_by hd.conn.flight })) (shut-after gone)
+          ∙ ap (λ l. record (with_conn w c (v Closed None)) { lines = l; strays = w.strays ++ left_by hd.conn.flight }) (sym (append_assoc w.lines ls (rest ++ Close c (ended.Cause why) ∷ []) ∙ ap (λ l. w.lines ++ l) (sym (append_assoc ls rest (Close c (ended.Cause why) ∷ []))))) in
+          subst Whole (sym is) (ends-whole (with_lines w ls) c hd.conn z rest (ended.Cause why) hd.found (last ∙ sym still-zxid) shown but1)
         where
           still-zxid : (after (w.lines ++ ls)).zxid ≡ (after w.lines).zxid
           still-zxid = speech-zxid c w.lines ls speech
@@ -297,7 +297,7 @@ pub record IsReadyFor (w : World) (c : ℕ) (conn : Conn) (core : Core) (i : Inp
   -- an answer is the one that was carried out
   pub answers : is_answer i ≡ true → is_carried flight ≡ true
 
-module _ (w w' : World) (c : ℕ) (behind : List TranscriptLine) (i : Input) (hd : Handed c behind w i w') (r : IsReadyFor w c hd.conn hd.core i) where
+module _ (w w' : World) (c : ℕ) (rest : List TranscriptLine) (i : Input) (hd : Handed c rest w i w') (r : IsReadyFor w c hd.conn hd.core i) where
   ready : IsReady w.store w.lines c hd.core (r.serves).walker (r.serves).looked i
   ready = record { legal = (((r.but).holds).serves).legal; least = (r.serves).least; most = (r.serves).most; rises = (r.serves).rises; served = r.served; stands = (r.serves).stands; true_input = r.true_input }
 
@@ -352,8 +352,8 @@ module _ (w w' : World) (c : ℕ) (behind : List TranscriptLine) (i : Input) (hd
     welcomed = packets-append c w.lines (said c sends-on.packets) ∙ ap (λ l. l ++ packets_from c (length w.lines) (said c sends-on.packets)) (r.serves).welcomed;
   }
 
-  pub handed-whole : (z : ℤ) → z ≡ (after w.lines).zxid → AreShown c z behind → Whole w'
-  handed-whole z last shown = goes-on-whole w w' c behind i hd r.but r.nothing_out sends-on (sym end.closes) on z last shown
+  pub handed-whole : (z : ℤ) → z ≡ (after w.lines).zxid → AreShown c z rest → Whole w'
+  handed-whole z last shown = goes-on-whole w w' c rest i hd r.but r.nothing_out sends-on (sym end.closes) on z last shown
 
   -- where it stays open it is attached still
   pub stays-served : is_shut hd.next.stage ≡ false → is_served hd.next.stage ≡ true

@@ -203,7 +203,7 @@ module _ (s u : Store) (lines more : List TranscriptLine) (c : ℕ) (g : GrowsBe
         carried_out = k.carried_out;
         is = precedes-trans k.then_store s u k.is g.longer;
         looked = k.looked;
-        behind = k.behind;
+        passed = k.passed;
         within = omega (arith, k.within, length-append lines more);
         risen = (let up = zxid-rises lines more g.legal g.still_legal in let same = ap (λ (t : State). t.zxid) later in omega (arith, ints, k.risen, up, same));
         stands = subst (StandsFor (present k.then_store)) (sym later) k.stands;
@@ -263,8 +263,8 @@ pub close-last : (lines : List TranscriptLine) (c : ℕ) (end : Ended) → Conta
 close-last lines c end = Contains-append_right lines (Close c end ∷ []) (Close c end) (0, omega arith, refl)
 
 -- its end puts its line there, after those that are said with it
-pub close-ends : (lines : List TranscriptLine) (c : ℕ) (behind : List TranscriptLine) (end : Ended) (o : StepOutcome) → HasClose (lines ++ (ends c behind end o).lines) c
-close-ends lines c behind end o = (end, Contains-append_right lines ((o.lines ++ behind) ++ Close c end ∷ []) (Close c end) (close-last (o.lines ++ behind) c end))
+pub close-ends : (lines : List TranscriptLine) (c : ℕ) (rest : List TranscriptLine) (end : Ended) (o : StepOutcome) → HasClose (lines ++ (ends c rest end o).lines) c
+close-ends lines c rest end o = (end, Contains-append_right lines ((o.lines ++ rest) ++ Close c end ∷ []) (Close c end) (close-last (o.lines ++ rest) c end))
 
 -- ---- any number
 

@@ -10,7 +10,7 @@ use Rattle.zk_transcript.specs.declared.transcript.Cause.TheVariants as cause
 use Rattle.zk_transcript.specs.declared.transcript.Ended.TheVariants as ended
 use Rattle.zn_layout.specs.declared.entry.Entry.{Entry}
 use Rattle.zp_script.specs.Effects.{Delivers, EndsBy, EntersBy, IsEntry, LagsBy, is_open_at, restarted, stopped}
-use Rattle.zp_script.specs.Entries.{cursor_of, cursor_wanted, entry_behind, next_entry}
+use Rattle.zp_script.specs.Entries.{cursor_of, cursor_wanted, entry_after, next_entry}
 use Rattle.zp_script.specs.Faults.{flight_at}
 use Rattle.zp_script.specs.Handing.{AnswerComes, AnswerComesTo, FailureComes, FailureComesTo, Handed, Reaps, landed, landed_conn}
 use Rattle.zp_script.specs.StepOutcomes.{ended_by, leaves, quiet}
@@ -234,16 +234,16 @@ record Awaiter (w : World) (c : ℕ) : Type 0 where
 awaiter : (w : World) (c : ℕ) (e : Entry) → next_entry c w ≡ Some e → Awaiter w c
 awaiter w c e h = by-conn (conn_at c w) refl h
   where
-    by-actor : (x : Conn) (a : Actor) → conn_at c w ≡ Some x → x.actor ≡ a → option_and_then (entry_behind w.entries) (cursor_of a) ≡ Some e → Awaiter w c
+    by-actor : (x : Conn) (a : Actor) → conn_at c w ≡ Some x → x.actor ≡ a → option_and_then (entry_after w.entries) (cursor_of a) ≡ Some e → Awaiter w c
     by-actor x (Reaper r) there f g = absurd (none_some g)
     by-actor x Closed there f g = absurd (none_some g)
     by-actor x (Connection core) there f g = by-cursor (cursor_wanted (wants_of core)) refl g
       where
-        by-cursor : (o : Option ℤ) → cursor_wanted (wants_of core) ≡ o → option_and_then (entry_behind w.entries) o ≡ Some e → Awaiter w c
+        by-cursor : (o : Option ℤ) → cursor_wanted (wants_of core) ≡ o → option_and_then (entry_after w.entries) o ≡ Some e → Awaiter w c
         by-cursor None p q = absurd (none_some q)
         by-cursor (Some z) p q = record { conn = x; core = core; there = there; actor = f; served = awaits-served core core.stage z p }
 
-    by-conn : (o : Option Conn) → conn_at c w ≡ o → option_and_then (entry_behind w.entries) (option_and_then (λ (x : Conn). cursor_of x.actor) o) ≡ Some e → Awaiter w c
+    by-conn : (o : Option Conn) → conn_at c w ≡ o → option_and_then (entry_after w.entries) (option_and_then (λ (x : Conn). cursor_of x.actor) o) ≡ Some e → Awaiter w c
     by-conn None f g = absurd (none_some g)
     by-conn (Some x) f g = by-actor x x.actor f refl g
 

@@ -30,7 +30,7 @@ use Rattle.zn_view.specs.declared.want.Want.{Want}
 use Rattle.zp_script.specs.Handing.{Reaps}
 use Rattle.zp_script.specs.Kinds.{kind_asked, kind_of_reap}
 use Rattle.zp_script.specs.StepOutcomes.{StepOutcome, ended_by, ends, leaves, quiet, reap_acts}
-use Rattle.zp_script.specs.Worlds.{Closed, Conn, Connection, Reaper, World, behind_reap, conn_at, is_closed, is_over, with_conn}
+use Rattle.zp_script.specs.Worlds.{Closed, Conn, Connection, Reaper, World, after_reap, conn_at, is_closed, is_over, with_conn}
 use Rattle.zp_script.specs.declared.flight.Asking.{Asking}
 use Rattle.zp_script.specs.declared.flight.Flight.TheVariants.{Out}
 use Rattle.zp_laws.proofs.Parts.{revision-kept}
@@ -236,13 +236,13 @@ module _ (w w' : World) (c : ℕ) (x : Conn) (reap : Reap) (a : Answer) (there :
       out-same : (y z : Asking) → Some (Out y) ≡ Some (Out z) → y ≡ z
       out-same y z e = cc
 
-  ends-as : (next : Reap) (end : Ended) → next.phase ≡ Over → w' ≡ leaves c w x (behind_reap next) (ends c [] end (quiet x.flight)) → Acts w w' c
+  ends-as : (next : Reap) (end : Ended) → next.phase ≡ Over → w' ≡ leaves c w x (after_reap next) (ends c [] end (quiet x.flight)) → Acts w w' c
   ends-as next end over is =
       let e : w' ≡ leaves c w x Closed (ends c [] end (quiet x.flight)) = is ∙ ap (λ p. leaves c w x (if is_over p then Closed else Reaper next) (ends c [] end (quiet x.flight))) over in
       leaves-acts w w' c x Closed (ends c [] end (quiet x.flight)) there e (ends-own c [] end (quiet x.flight) refl refl)
       (subst Whole (sym e) (ends-whole w c x ((after w.lines).zxid) [] end there refl tt (but-of w c h))) (close-ends w.lines c [] end (quiet x.flight)) (within-close w.lines c end)
 
-  goes-as : (next : Reap) (q : Ask) → next.session ≡ reap.session → IsReapAsk w.store reap.session next.phase q → w' ≡ leaves c w x (behind_reap next) (quiet (Some (Out (record { ask = q; kind = kind_of_reap next.session next.phase })))) → Acts w w' c
+  goes-as : (next : Reap) (q : Ask) → next.session ≡ reap.session → IsReapAsk w.store reap.session next.phase q → w' ≡ leaves c w x (after_reap next) (quiet (Some (Out (record { ask = q; kind = kind_of_reap next.session next.phase })))) → Acts w w' c
   goes-as next q same asks is =
       let o : StepOutcome = quiet (Some (Out (record { ask = q; kind = kind_of_reap next.session next.phase }))) in
       let mine : IsReapAsk w.store next.session next.phase q = subst (λ id. IsReapAsk w.store id next.phase q) (sym same) asks in
@@ -251,7 +251,7 @@ module _ (w w' : World) (c : ℕ) (x : Conn) (reap : Reap) (a : Answer) (there :
       e ∙ ap (λ l. record (with_conn w c (going next q)) { lines = l; strays = w.strays ++ [] }) (append-nil w.lines) ∙ ap (λ l. record (with_conn w c (going next q)) { strays = l }) (append-nil w.strays) in
       leaves-acts w w' c x (Reaper next) o there e refl (subst Whole (sym plain) (going-whole next q mine)) (record { asked = mine; kind = refl }) (within-same w.lines c)
 
-  comes-as : (next : Reap) (step : ReapStep) → next.session ≡ reap.session → ComesTo w.store reap.session next.phase step → w' ≡ leaves c w x (behind_reap next) (reap_acts c (kind_asked c (Reaper next)) x.flight step) → Acts w w' c
+  comes-as : (next : Reap) (step : ReapStep) → next.session ≡ reap.session → ComesTo w.store reap.session next.phase step → w' ≡ leaves c w x (after_reap next) (reap_acts c (kind_asked c (Reaper next)) x.flight step) → Acts w w' c
   comes-as next _ same (on q asks) is = goes-as next q same asks is
   comes-as next _ same (removed over z) is = ends-as next (ended.Reaped z) over is
   comes-as next _ same (kept over z) is = ends-as next (ended.Kept z) over is

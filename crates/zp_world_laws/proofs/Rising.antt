@@ -22,7 +22,7 @@ use Rattle.zp_script.specs.Faults.{fault, flight_at, if_fails}
 use Rattle.zp_script.specs.Handing.{AnswerComesTo, FailureComesTo, Handed, Reaps, landed, landed_conn}
 use Rattle.zp_script.specs.Kinds.{kind_asked}
 use Rattle.zp_script.specs.StepOutcomes.{StepOutcome, acts_all, ended_by, leaves, reap_acts}
-use Rattle.zp_script.specs.Worlds.{Actor, Closed, Conn, Connection, Reaper, World, behind_reap, behind_step, conn_at, is_open_conn, with_conn, zxid_at}
+use Rattle.zp_script.specs.Worlds.{Actor, Closed, Conn, Connection, Reaper, World, after_reap, after_step, conn_at, is_open_conn, with_conn, zxid_at}
 use Rattle.zp_script.specs.declared.flight.Asking.{Asking}
 use Rattle.zp_script.specs.declared.flight.Flight.TheVariants.{Carried, Denied, Out}
 use Rattle.zp_script.specs.declared.flight.Flight.{Flight}
@@ -80,9 +80,9 @@ leaves-grown w c x actor o there =
 grown-to : (w v w' : World) → w' ≡ v → Grown w v → Grown w w'
 grown-to w v w' e g = subst (Grown w) (sym e) g
 
-handed-grown : (w w' : World) (c : ℕ) (behind : List TranscriptLine) (i : Input) → Handed c behind w i w' → Grown w w'
-handed-grown w w' c behind i hd = grown-to w (leaves c w hd.conn (behind_step hd.next) (acts_all c (kind_asked c (Connection hd.next)) behind hd.conn.flight hd.out)) w' hd.result
-    (leaves-grown w c hd.conn (behind_step hd.next) (acts_all c (kind_asked c (Connection hd.next)) behind hd.conn.flight hd.out) hd.found)
+handed-grown : (w w' : World) (c : ℕ) (after : List TranscriptLine) (i : Input) → Handed c after w i w' → Grown w w'
+handed-grown w w' c after i hd = grown-to w (leaves c w hd.conn (after_step hd.next) (acts_all c (kind_asked c (Connection hd.next)) after hd.conn.flight hd.out)) w' hd.result
+    (leaves-grown w c hd.conn (after_step hd.next) (acts_all c (kind_asked c (Connection hd.next)) after hd.conn.flight hd.out) hd.found)
 
 -- ---- frames
 
@@ -162,7 +162,7 @@ landed-grown w c = go (conn_at c w) refl
 
 reaps-grown : (w w' : World) (c : ℕ) (x : Conn) (r : Reap) (a : Option Answer) → conn_at c w ≡ Some x → Reaps c w a w' x r → Grown w w'
 reaps-grown w w' c x r a there (inl e) = grown-to w (leaves c w x Closed (ended_by c (cause.Damaged e.key e.value) x.flight)) w' e.result (leaves-grown w c x Closed (ended_by c (cause.Damaged e.key e.value) x.flight) there)
-reaps-grown w w' c x r a there (inr s) = grown-to w (leaves c w x (behind_reap s.next) (reap_acts c (kind_asked c (Reaper s.next)) x.flight s.step)) w' s.result (leaves-grown w c x (behind_reap s.next) (reap_acts c (kind_asked c (Reaper s.next)) x.flight s.step) there)
+reaps-grown w w' c x r a there (inr s) = grown-to w (leaves c w x (after_reap s.next) (reap_acts c (kind_asked c (Reaper s.next)) x.flight s.step)) w' s.result (leaves-grown w c x (after_reap s.next) (reap_acts c (kind_asked c (Reaper s.next)) x.flight s.step) there)
 
 answer-grown : (w w' : World) (c : ℕ) (x : Conn) (a : Answer) (actor : Actor) → conn_at c w ≡ Some x → AnswerComesTo c w x a w' actor → Grown w w'
 answer-grown w w' c x a (Connection core) there h = handed-grown w w' c [] (input.Answer a) h

@@ -11,7 +11,7 @@ use Rattle.zk_model.specs.Watches.{is_unarmed}
 use Rattle.zk_transcript.specs.History.{State, after, state_at}
 use Rattle.zk_transcript.specs.declared.transcript.TranscriptLine.{TranscriptLine}
 use Rattle.zn_layout.specs.declared.entry.Entry.{Entry}
-use Rattle.zp_script.specs.Entries.{cursor_at, cursor_of, cursor_wanted, entry_behind, next_entry}
+use Rattle.zp_script.specs.Entries.{cursor_at, cursor_of, cursor_wanted, entry_after, next_entry}
 use Rattle.zp_script.specs.Happens.{entry_line, flight_line, is_waiting, settling, settling_conn, wants_entry}
 use Rattle.zp_script.specs.Worlds.{Actor, Closed, Conn, Connection, Reaper, World, conn_at, is_closed}
 use Rattle.zp_script.specs.declared.flight.Flight.{Flight}
@@ -40,14 +40,14 @@ same-due core p true e = refl
 same-due core p false e = (Decides-int_eq core.cursor p.number).1 e
 
 -- where no entry comes after its cursor, the cursor is at the last one
-at-end : (lines : List TranscriptLine) (entries : List Entry) (cursor line looked : ℕ) → AreEntries lines entries → entry_behind entries (pos cursor) ≡ None → cursor ≡ (state_at lines (line + 1)).updates
+at-end : (lines : List TranscriptLine) (entries : List Entry) (cursor line looked : ℕ) → AreEntries lines entries → entry_after entries (pos cursor) ≡ None → cursor ≡ (state_at lines (line + 1)).updates
     → (state_at lines (line + 1)).updates ≤ (state_at lines looked).updates → (state_at lines looked).updates ≤ (after lines).updates → (state_at lines looked).updates ≡ cursor
 at-end lines entries cursor line looked all none is up most = elim (slice_get_cases entries cursor).1 [
   | inl x ↦ absurd (none_some (sym none ∙ x.2))
   | inr q ↦ omega (arith, q.0, all.count, is, up, most)
 ]
 
-waits-on : (w : World) (c : ℕ) (core : Core) (p : Pending) (flight : Option Flight) → core.stage ≡ Waiting p → IsAccounted w → IsServing w.store w.lines c core flight → entry_behind w.entries core.cursor ≡ None → ⊥
+waits-on : (w : World) (c : ℕ) (core : Core) (p : Pending) (flight : Option Flight) → core.stage ≡ Waiting p → IsAccounted w → IsServing w.store w.lines c core flight → entry_after w.entries core.cursor ≡ None → ⊥
 waits-on w c core p flight e h k none =
     let legal = (h.whole.holds.serves).legal in
     let at = placed w.lines core k.walker legal (k.stands).matches in
@@ -57,7 +57,7 @@ waits-on w c core p flight e h k none =
     let up = not-below w.lines (at.line + 1) k.looked legal (omega (arith, at.since, m.told)) (omega (arith, raised.updates)) in
     let end : state_at w.lines (length w.lines) ≡ after w.lines = ap after (take-length w.lines) in
     let most = not-below w.lines k.looked (length w.lines) legal m.past (omega (arith, raised.updates, up.0)) in
-    let last = at-end w.lines w.entries (state_at w.lines (at.line + 1)).updates at.line k.looked h.entries (subst (λ z. entry_behind w.entries z ≡ None) at.cursor none) refl up.0
+    let last = at-end w.lines w.entries (state_at w.lines (at.line + 1)).updates at.line k.looked h.entries (subst (λ z. entry_after w.entries z ≡ None) at.cursor none) refl up.0
     (subst (λ (s : State). (state_at w.lines k.looked).updates ≤ s.updates) end most.0) in
     let due = same-due core p (is_unarmed core.watches) (at.cursor ∙ ap pos (sym last) ∙ (knows.0).number) in
     (let f : true ≡ false = sym due ∙ knows.1 in absurd (cc))
@@ -111,7 +111,7 @@ module _ (w : World) (c : ℕ) (x : Conn) (h : IsAccounted w) (there : conn_at c
         let waiting : is_waiting x.actor ≡ true = ap is_waiting actor ∙ ap (λ st. wants_entry (wanted_in core st)) e in
         let none = awaited (is_waiting x.actor) (next_entry c w) waiting (no-entry-line open_now) in
         let cursor : cursor_at c w ≡ Some core.cursor = ap (option_and_then (λ (y : Conn). cursor_of y.actor)) there ∙ ap cursor_of actor ∙ ap (λ st. cursor_wanted (wanted_in core st)) e in
-        waits-on w c core p x.flight e h k (sym (ap (option_and_then (entry_behind w.entries)) cursor) ∙ none)
+        waits-on w c core p x.flight e h k (sym (ap (option_and_then (entry_after w.entries)) cursor) ∙ none)
 
     answered : (st : Stage) → core.stage ≡ st → IsInStage w.store w.lines c core None st → IsAnswered core st
     answered (Unconnected fresh) e k = (k.0).none_waits

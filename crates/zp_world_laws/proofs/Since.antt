@@ -37,7 +37,7 @@ use Rattle.zp_script.specs.Handing.{AnswerComesTo, FailureComesTo, Handed, Reaps
 use Rattle.zp_script.specs.Happens.{Settles, settling}
 use Rattle.zp_script.specs.Kinds.{kind_in_stage, kind_of_connect, kind_of_reap, kind_of_request}
 use Rattle.zp_script.specs.StepOutcomes.{StepOutcome, ended_by, ends, leaves, left_by, reap_acts}
-use Rattle.zp_script.specs.Worlds.{Actor, Closed, Conn, Connection, Reaper, World, behind_reap, behind_step, conn_at, is_open_conn, with_conn, zxid_at}
+use Rattle.zp_script.specs.Worlds.{Actor, Closed, Conn, Connection, Reaper, World, after_reap, after_step, conn_at, is_open_conn, with_conn, zxid_at}
 use Rattle.zp_script.specs.declared.flight.Asking.{Asking}
 use Rattle.zp_script.specs.declared.flight.Flight.TheVariants.{Carried, Denied, Out}
 use Rattle.zp_script.specs.declared.flight.Flight.{Flight}
@@ -181,8 +181,8 @@ left-by w (Some (Out a)) zero x e = inl (ap (λ q. Some (Out q)) (some_is (some_
 left-by w (Some (Out a)) (suc k) x e = absurd (none_some e)
 
 -- a connection or a reaper ends
-pub ends-leaves : (w : World) (c : ℕ) (f : Option Flight) (behind : List TranscriptLine) (end : Ended) → list_all (is_own c) behind ≡ true → Leaves w f (ends c behind end (quiet f))
-ends-leaves w c f behind end h = record { flight = λ x e. absurd (none_some e); strays = λ k x e. left-by w f k x e; quiet = all-own-quiet c (behind ++ Close c end ∷ []) (own-append c behind (Close c end ∷ []) h (one-own c)) }
+pub ends-leaves : (w : World) (c : ℕ) (f : Option Flight) (after : List TranscriptLine) (end : Ended) → list_all (is_own c) after ≡ true → Leaves w f (ends c after end (quiet f))
+ends-leaves w c f after end h = record { flight = λ x e. absurd (none_some e); strays = λ k x e. left-by w f k x e; quiet = all-own-quiet c (after ++ Close c end ∷ []) (own-append c after (Close c end ∷ []) h (one-own c)) }
 
 -- ---- a connection's step
 
@@ -212,9 +212,9 @@ kind-now c core (Reading xid r v ws) now h d i m e = absurd (none_some e)
 kind-now c core (Waiting p) now h d i m e = absurd (none_some e)
 kind-now c core Shut now h d i m e = absurd (none_some e)
 
-tail-leaves : (w : World) (c : ℕ) (kind : Option UpdateKind) (behind : List TranscriptLine) (f : Option Flight) (ps : List (List ℕ)) (t : Tail) → list_all (is_own c) behind ≡ true → ((a : Ask) → t ≡ Asks a → IsOfNow w.clock kind) → Leaves w f (tail_outcome c kind behind f (said c ps) t)
-tail-leaves w c kind behind f ps Rests h k = record { flight = λ x e. inl e; strays = λ j x e. absurd (none_some e); quiet = all-quiet c (said c ps) (said-speech c ps) }
-tail-leaves w c kind behind f ps (Asks a) h k = record {
+tail-leaves : (w : World) (c : ℕ) (kind : Option UpdateKind) (after : List TranscriptLine) (f : Option Flight) (ps : List (List ℕ)) (t : Tail) → list_all (is_own c) after ≡ true → ((a : Ask) → t ≡ Asks a → IsOfNow w.clock kind) → Leaves w f (tail_outcome c kind after f (said c ps) t)
+tail-leaves w c kind after f ps Rests h k = record { flight = λ x e. inl e; strays = λ j x e. absurd (none_some e); quiet = all-quiet c (said c ps) (said-speech c ps) }
+tail-leaves w c kind after f ps (Asks a) h k = record {
   flight = λ x e. inr (subst (λ (y : Asking). IsOfNow w.clock y.kind) (out-same (record { ask = a; kind = kind }) x e) (k a refl));
   strays = λ j x e. absurd (none_some e);
   quiet = all-quiet c (said c ps) (said-speech c ps);
@@ -222,34 +222,34 @@ tail-leaves w c kind behind f ps (Asks a) h k = record {
   where
     out-same : (y z : Asking) → Some (Out y) ≡ Some (Out z) → y ≡ z
     out-same y z e = cc
-tail-leaves w c kind behind f ps (Closes why) h k = record {
+tail-leaves w c kind after f ps (Closes why) h k = record {
   flight = λ x e. absurd (none_some e);
   strays = λ j x e. left-by w f j x e;
-  quiet = all-quiet-more (said c ps ++ behind) (Close c (ended.Cause why) ∷ []) (all-quiet-more (said c ps) behind (all-quiet c (said c ps) (said-speech c ps)) (all-own-quiet c behind h)) refl;
+  quiet = all-quiet-more (said c ps ++ after) (Close c (ended.Cause why) ∷ []) (all-quiet-more (said c ps) after (all-quiet c (said c ps) (said-speech c ps)) (all-own-quiet c after h)) refl;
 }
   where
     all-quiet-more : (xs ys : List TranscriptLine) → list_all is_quiet xs ≡ true → list_all is_quiet ys ≡ true → list_all is_quiet (xs ++ ys) ≡ true
     all-quiet-more xs ys a b = list_all-append is_quiet xs ys ∙ both-true (list_all is_quiet xs) (list_all is_quiet ys) a b
 
 -- an input is handed to a connection, open or shut
-pub handed-since : (w w' : World) (c : ℕ) (behind : List TranscriptLine) (i : Input) → Handed c behind w i w' → list_all (is_own c) behind ≡ true → Since w w'
-handed-since w w' c behind i hd own = go (is_shut hd.core.stage) refl
+pub handed-since : (w w' : World) (c : ℕ) (after : List TranscriptLine) (i : Input) → Handed c after w i w' → list_all (is_own c) after ≡ true → Since w w'
+handed-since w w' c after i hd own = go (is_shut hd.core.stage) refl
   where
     kind : Option UpdateKind
     kind = kind_asked c (Connection hd.next)
 
-    result : (o : StepOutcome) → acts_all c (kind_asked c (Connection hd.next)) behind hd.conn.flight hd.out ≡ o → Leaves w hd.conn.flight o → Since w w'
-    result o e l = since-to w (leaves c w hd.conn (behind_step hd.next) o) w' (hd.result ∙ ap (leaves c w hd.conn (behind_step hd.next)) e) (leaves-since w c hd.conn (behind_step hd.next) o hd.found l)
+    result : (o : StepOutcome) → acts_all c (kind_asked c (Connection hd.next)) after hd.conn.flight hd.out ≡ o → Leaves w hd.conn.flight o → Since w w'
+    result o e l = since-to w (leaves c w hd.conn (after_step hd.next) o) w' (hd.result ∙ ap (leaves c w hd.conn (after_step hd.next)) e) (leaves-since w c hd.conn (after_step hd.next) o hd.found l)
 
     go : (b : Bool) → is_shut hd.core.stage ≡ b → Since w w'
     go true e =
         let s = shut-for-good hd.core hd.next i w.clock hd.out e hd.stepped in
-        result (quiet hd.conn.flight) (ap (acts_all c (kind_asked c (Connection hd.next)) behind hd.conn.flight) s.1) (record { flight = λ x f. inl f; strays = λ k x f. absurd (none_some f); quiet = refl })
+        result (quiet hd.conn.flight) (ap (acts_all c (kind_asked c (Connection hd.next)) after hd.conn.flight) s.1) (record { flight = λ x f. inl f; strays = λ k x f. absurd (none_some f); quiet = refl })
     go false e =
         let end = steps_end_well hd.core hd.next i w.clock hd.out e hd.stepped in
         let parts = split hd.out end.well in
-        result (tail_outcome c (kind_asked c (Connection hd.next)) behind hd.conn.flight (said c parts.packets) parts.tail) (split-outcome c (kind_asked c (Connection hd.next)) behind hd.conn.flight hd.out parts)
-        (tail-leaves w c (kind_asked c (Connection hd.next)) behind hd.conn.flight parts.packets parts.tail own
+        result (tail_outcome c (kind_asked c (Connection hd.next)) after hd.conn.flight (said c parts.packets) parts.tail) (split-outcome c (kind_asked c (Connection hd.next)) after hd.conn.flight hd.out parts)
+        (tail-leaves w c (kind_asked c (Connection hd.next)) after hd.conn.flight parts.packets parts.tail own
         (λ a is. made-now a (split-asked hd.out parts ∙ ap asked_in is) (plans_are_made_now hd.core hd.next i w.clock hd.out e hd.stepped)))
       where
         made-now : (a : Ask) → asked_by hd.out ≡ Some a → IsPlannedAt w.clock hd.next.stage ⊎ ((hd.next.stage ≡ hd.core.stage) × (asked_by hd.out ≡ None)) → IsOfNow w.clock (kind_in_stage c hd.next hd.next.stage)
@@ -341,7 +341,7 @@ reap-leaves w c next f (reaps.Gone z) = ends-leaves w c f [] (ended.Gone z) refl
 
 reaps-since : (w w' : World) (c : ℕ) (x : Conn) (r : Reap) (a : Option Answer) → conn_at c w ≡ Some x → Reaps c w a w' x r → Since w w'
 reaps-since w w' c x r a there (inl e) = since-to w (leaves c w x Closed (ended_by c (cause.Damaged e.key e.value) x.flight)) w' e.result (leaves-since w c x Closed (ended_by c (cause.Damaged e.key e.value) x.flight) there (ends-leaves w c x.flight [] (ended.Cause (cause.Damaged e.key e.value)) refl))
-reaps-since w w' c x r a there (inr s) = since-to w (leaves c w x (behind_reap s.next) (reap_acts c (kind_asked c (Reaper s.next)) x.flight s.step)) w' s.result (leaves-since w c x (behind_reap s.next) (reap_acts c (kind_asked c (Reaper s.next)) x.flight s.step) there (reap-leaves w c s.next x.flight s.step))
+reaps-since w w' c x r a there (inr s) = since-to w (leaves c w x (after_reap s.next) (reap_acts c (kind_asked c (Reaper s.next)) x.flight s.step)) w' s.result (leaves-since w c x (after_reap s.next) (reap_acts c (kind_asked c (Reaper s.next)) x.flight s.step) there (reap-leaves w c s.next x.flight s.step))
 
 answer-since : (w w' : World) (c : ℕ) (x : Conn) (a : Answer) (actor : Actor) → conn_at c w ≡ Some x → AnswerComesTo c w x a w' actor → Since w w'
 answer-since w w' c x a (Connection core) there h = handed-since w w' c [] (input.Answer a) h refl

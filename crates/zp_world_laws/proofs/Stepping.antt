@@ -12,7 +12,7 @@ use Rattle.zk_transcript.specs.declared.transcript.TranscriptLine.{TranscriptLin
 use Rattle.zp_script.specs.Handing.{Handed}
 use Rattle.zp_script.specs.Kinds.{kind_asked}
 use Rattle.zp_script.specs.StepOutcomes.{StepOutcome, acts_all, ends, leaves, quiet}
-use Rattle.zp_script.specs.Worlds.{Closed, Connection, World, behind_step}
+use Rattle.zp_script.specs.Worlds.{Closed, Connection, World, after_step}
 use Rattle.zp_script.specs.declared.flight.Flight.{Flight}
 use Rattle.zp_laws.proofs.Counting.{steps_count}
 use Rattle.zp_laws.specs.Ending.{EndsWell, IsNumbered, comes_in}
@@ -50,14 +50,14 @@ counts-on lines more c frames core next i now out opens steps numbered came most
 
 -- ---- a step that only closes
 
-pub closing-acts : (w w' : World) (c : ℕ) (behind : List TranscriptLine) (i : Input) (why : Cause) (z : ℤ) → (hd : Handed c behind w i w') → is_shut hd.next.stage ≡ true → hd.out ≡ action.Close why ∷ [] → z ≡ (after w.lines).zxid → AreShown c z behind → But w c → Acts w w' c
-closing-acts w w' c behind i why z hd shut out last shown h =
-    let o : StepOutcome = ends c behind (ended.Cause why) (quiet hd.conn.flight) in
+pub closing-acts : (w w' : World) (c : ℕ) (rest : List TranscriptLine) (i : Input) (why : Cause) (z : ℤ) → (hd : Handed c rest w i w') → is_shut hd.next.stage ≡ true → hd.out ≡ action.Close why ∷ [] → z ≡ (after w.lines).zxid → AreShown c z rest → But w c → Acts w w' c
+closing-acts w w' c rest i why z hd shut out last shown h =
+    let o : StepOutcome = ends c rest (ended.Cause why) (quiet hd.conn.flight) in
     let is : w' ≡ leaves c w hd.conn Closed o =
-    hd.result ∙ ap (λ l. leaves c w hd.conn (behind_step hd.next) (acts_all c (kind_asked c (Connection hd.next)) behind hd.conn.flight l)) out
+    hd.result ∙ ap (λ l. leaves c w hd.conn (after_step hd.next) (acts_all c (kind_asked c (Connection hd.next)) rest hd.conn.flight l)) out
     ∙ ap (λ b. leaves c w hd.conn (if b then Closed else Connection hd.next) o) shut in
-    leaves-acts w w' c hd.conn Closed o hd.found is (ends-own c behind (ended.Cause why) (quiet hd.conn.flight) (shown-own c z behind shown) refl)
-    (closing-whole w w' c behind i why z hd shut out last shown h) (close-ends w.lines c behind (ended.Cause why) (quiet hd.conn.flight)) (within-end w.lines c z behind (ended.Cause why) shown)
+    leaves-acts w w' c hd.conn Closed o hd.found is (ends-own c rest (ended.Cause why) (quiet hd.conn.flight) (shown-own c z rest shown) refl)
+    (closing-whole w w' c rest i why z hd shut out last shown h) (close-ends w.lines c rest (ended.Cause why) (quiet hd.conn.flight)) (within-end w.lines c z rest (ended.Cause why) shown)
 
 -- an input that ends it in whatever stage
 pub closes-acts : (w w' : World) (c : ℕ) (i : Input) (why : Cause) → end_by i ≡ Some why → (hd : Handed c [] w i w') → But w c → Acts w w' c
@@ -67,26 +67,26 @@ closes-acts w w' c i why e hd h =
 
 -- ---- a step of a connection that is attached then, or that has closed
 
-module _ (w w' : World) (c : ℕ) (behind : List TranscriptLine) (i : Input) (z : ℤ) (hd : Handed c behind w i w') (end : EndsWell hd.core hd.next i hd.out) (shown : AreShown c z behind) (whole : Whole w')
+module _ (w w' : World) (c : ℕ) (rest : List TranscriptLine) (i : Input) (z : ℤ) (hd : Handed c rest w i w') (end : EndsWell hd.core hd.next i hd.out) (shown : AreShown c z rest) (whole : Whole w')
     (frames : is_shut hd.next.stage ≡ false → (more : List TranscriptLine) → AreAside more c → HasFrames (w.lines ++ more) c hd.conn.frames hd.next) (served : is_shut hd.next.stage ≡ false → is_served hd.next.stage ≡ true) (says : IsInConnection w.lines c → IsInConnection (w.lines ++ said c (sends hd.out)) c) where
   parts : Split hd.out
   parts = split hd.out end.well
 
   o : StepOutcome
-  o = acts_all c (kind_asked c (Connection hd.next)) behind hd.conn.flight hd.out
+  o = acts_all c (kind_asked c (Connection hd.next)) rest hd.conn.flight hd.out
 
-  own : list_all (is_own c) (acts_all c (kind_asked c (Connection hd.next)) behind hd.conn.flight hd.out).lines ≡ true
-  own = acts-own c (kind_asked c (Connection hd.next)) behind hd.out (quiet hd.conn.flight) (shown-own c z behind shown) refl
+  own : list_all (is_own c) (acts_all c (kind_asked c (Connection hd.next)) rest hd.conn.flight hd.out).lines ≡ true
+  own = acts-own c (kind_asked c (Connection hd.next)) rest hd.out (quiet hd.conn.flight) (shown-own c z rest shown) refl
 
   -- where it doesn't close, its packets alone are added
-  tail-said : (t : Tail) → is_closing t ≡ false → (tail_outcome c (kind_asked c (Connection hd.next)) behind hd.conn.flight (said c parts.packets) t).lines ≡ said c parts.packets
+  tail-said : (t : Tail) → is_closing t ≡ false → (tail_outcome c (kind_asked c (Connection hd.next)) rest hd.conn.flight (said c parts.packets) t).lines ≡ said c parts.packets
   tail-said Rests h = refl
   tail-said (Asks a) h = refl
   tail-said (Closes why) h = absurd (true-false h)
 
-  lines-said : is_shut hd.next.stage ≡ false → (acts_all c (kind_asked c (Connection hd.next)) behind hd.conn.flight hd.out).lines ≡ said c parts.packets
+  lines-said : is_shut hd.next.stage ≡ false → (acts_all c (kind_asked c (Connection hd.next)) rest hd.conn.flight hd.out).lines ≡ said c parts.packets
   lines-said going =
-      ap (λ (x : StepOutcome). x.lines) (split-outcome c (kind_asked c (Connection hd.next)) behind hd.conn.flight hd.out parts)
+      ap (λ (x : StepOutcome). x.lines) (split-outcome c (kind_asked c (Connection hd.next)) rest hd.conn.flight hd.out parts)
       ∙ tail-said parts.tail (sym (split-closes hd.out parts) ∙ end.closes ∙ going)
 
   in-stage : (st : Stage) (f : Option Flight) (ls : List TranscriptLine) → is_served st ≡ true → IsInStage w.store ls c hd.next f st
@@ -100,30 +100,30 @@ module _ (w w' : World) (c : ℕ) (behind : List TranscriptLine) (i : Input) (z 
   in-stage (Waiting p) f ls h = tt
   in-stage Shut f ls h = absurd (true-false (sym h))
 
-  tail-closed : (t : Tail) → is_closing t ≡ true → HasClose (w.lines ++ (tail_outcome c (kind_asked c (Connection hd.next)) behind hd.conn.flight (said c parts.packets) t).lines) c
+  tail-closed : (t : Tail) → is_closing t ≡ true → HasClose (w.lines ++ (tail_outcome c (kind_asked c (Connection hd.next)) rest hd.conn.flight (said c parts.packets) t).lines) c
   tail-closed Rests h = absurd (true-false (sym h))
   tail-closed (Asks a) h = absurd (true-false (sym h))
-  tail-closed (Closes why) h = (ended.Cause why, Contains-append_right w.lines ((said c parts.packets ++ behind) ++ Close c (ended.Cause why) ∷ []) (Close c (ended.Cause why)) (close-last (said c parts.packets ++ behind) c (ended.Cause why)))
+  tail-closed (Closes why) h = (ended.Cause why, Contains-append_right w.lines ((said c parts.packets ++ rest) ++ Close c (ended.Cause why) ∷ []) (Close c (ended.Cause why)) (close-last (said c parts.packets ++ rest) c (ended.Cause why)))
 
-  known : (b : Bool) → is_shut hd.next.stage ≡ b → (f : Option Flight) → IsKnownAs w.store (w.lines ++ (acts_all c (kind_asked c (Connection hd.next)) behind hd.conn.flight hd.out).lines) c (record (hd.conn) { actor = if b then Closed else Connection hd.next; flight = f }) (if b then Closed else Connection hd.next)
-  known true e f = subst (λ (x : StepOutcome). HasClose (w.lines ++ x.lines) c) (sym (split-outcome c (kind_asked c (Connection hd.next)) behind hd.conn.flight hd.out parts))
+  known : (b : Bool) → is_shut hd.next.stage ≡ b → (f : Option Flight) → IsKnownAs w.store (w.lines ++ (acts_all c (kind_asked c (Connection hd.next)) rest hd.conn.flight hd.out).lines) c (record (hd.conn) { actor = if b then Closed else Connection hd.next; flight = f }) (if b then Closed else Connection hd.next)
+  known true e f = subst (λ (x : StepOutcome). HasClose (w.lines ++ x.lines) c) (sym (split-outcome c (kind_asked c (Connection hd.next)) rest hd.conn.flight hd.out parts))
       (tail-closed parts.tail (sym (split-closes hd.out parts) ∙ end.closes ∙ e))
   known false e f = (
     subst (λ l. HasFrames (w.lines ++ l) c hd.conn.frames hd.next) (sym (lines-said e)) (frames e (said c parts.packets) (said-aside c parts.packets c)),
-    in-stage hd.next.stage f (w.lines ++ (acts_all c (kind_asked c (Connection hd.next)) behind hd.conn.flight hd.out).lines) (served e),
+    in-stage hd.next.stage f (w.lines ++ (acts_all c (kind_asked c (Connection hd.next)) rest hd.conn.flight hd.out).lines) (served e),
   )
 
-  tail-within : (t : Tail) → IsInConnection (w.lines ++ said c parts.packets) c → IsInConnection (w.lines ++ (tail_outcome c (kind_asked c (Connection hd.next)) behind hd.conn.flight (said c parts.packets) t).lines) c
+  tail-within : (t : Tail) → IsInConnection (w.lines ++ said c parts.packets) c → IsInConnection (w.lines ++ (tail_outcome c (kind_asked c (Connection hd.next)) rest hd.conn.flight (said c parts.packets) t).lines) c
   tail-within Rests k = k
   tail-within (Asks a) k = k
   tail-within (Closes why) k =
-      subst (λ l. IsInConnection l c) (append_assoc w.lines (said c parts.packets) (behind ++ Close c (ended.Cause why) ∷ []) ∙ ap (λ l. w.lines ++ l) (sym (append_assoc (said c parts.packets) behind (Close c (ended.Cause why) ∷ []))))
-      (within-end (w.lines ++ said c parts.packets) c z behind (ended.Cause why) shown k)
+      subst (λ l. IsInConnection l c) (append_assoc w.lines (said c parts.packets) (rest ++ Close c (ended.Cause why) ∷ []) ∙ ap (λ l. w.lines ++ l) (sym (append_assoc (said c parts.packets) rest (Close c (ended.Cause why) ∷ []))))
+      (within-end (w.lines ++ said c parts.packets) c z rest (ended.Cause why) shown k)
 
-  within : IsInConnection w.lines c → IsInConnection (w.lines ++ (acts_all c (kind_asked c (Connection hd.next)) behind hd.conn.flight hd.out).lines) c
-  within k = subst (λ (x : StepOutcome). IsInConnection (w.lines ++ x.lines) c) (sym (split-outcome c (kind_asked c (Connection hd.next)) behind hd.conn.flight hd.out parts))
+  within : IsInConnection w.lines c → IsInConnection (w.lines ++ (acts_all c (kind_asked c (Connection hd.next)) rest hd.conn.flight hd.out).lines) c
+  within k = subst (λ (x : StepOutcome). IsInConnection (w.lines ++ x.lines) c) (sym (split-outcome c (kind_asked c (Connection hd.next)) rest hd.conn.flight hd.out parts))
       (tail-within parts.tail (subst (λ ps. IsInConnection (w.lines ++ said c ps) c) (split-sends hd.out parts) (says k)))
 
   pub handed-acts : Acts w w' c
-  handed-acts = leaves-acts w w' c hd.conn (behind_step hd.next) (acts_all c (kind_asked c (Connection hd.next)) behind hd.conn.flight hd.out) hd.found hd.result own whole
-      (known (is_shut hd.next.stage) refl (acts_all c (kind_asked c (Connection hd.next)) behind hd.conn.flight hd.out).flight) within
+  handed-acts = leaves-acts w w' c hd.conn (after_step hd.next) (acts_all c (kind_asked c (Connection hd.next)) rest hd.conn.flight hd.out) hd.found hd.result own whole
+      (known (is_shut hd.next.stage) refl (acts_all c (kind_asked c (Connection hd.next)) rest hd.conn.flight hd.out).flight) within

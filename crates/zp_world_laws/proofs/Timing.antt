@@ -58,7 +58,7 @@ abbrev pub IsTickAt : List Tick → ℕ → ℕ → Type 0
 IsTickAt ticks first now = (k : ℕ) × (t : Tick) × (slice_get ticks k ≡ Some t) × (t.clock ≡ now) × (first < t.lines)
 
 still-tick : (ticks more : List Tick) (first now : ℕ) → IsTickAt ticks first now → IsTickAt (ticks ++ more) first now
-still-tick ticks more first now (k, t, there, clock, behind) = (k, t, slice_get-front ticks more k (slice_get_within ticks k t there) ∙ there, clock, behind)
+still-tick ticks more first now (k, t, there, clock, after) = (k, t, slice_get-front ticks more k (slice_get_within ticks k t there) ∙ there, clock, after)
 
 last-tick : (ticks : List Tick) (t : Tick) → slice_get (ticks ++ t ∷ []) (length ticks) ≡ Some t
 last-tick ticks t = get-last ticks t
@@ -129,9 +129,9 @@ module _ (ticks : List Tick) (w w' : World) (k : IsAccounted w) (timed : IsTimed
   ]
 
   new-between : (c i m first place : ℕ) → IsTickAt (ticks ++ tick_of w' ∷ []) first m → length w.lines ≤ place → ((j : ℕ) (u : Tick) → slice_get (ticks ++ tick_of w' ∷ []) j ≡ Some u → j ≤ length ticks) → IsClockBetween (ticks ++ tick_of w' ∷ []) first place m
-  new-between c i m first place (j, u, there, clock, behind) le short =
+  new-between c i m first place (j, u, there, clock, after) le short =
       let s = short j u there in
-      (j, u, there, clock, behind, (let same = lines_before-front ticks (tick_of w' ∷ []) j s in let b = timed.before j s in omega (arith, same, b, le)))
+      (j, u, there, clock, after, (let same = lines_before-front ticks (tick_of w' ∷ []) j s in let b = timed.before j s in omega (arith, same, b, le)))
 
   short-tick : (j : ℕ) (u : Tick) → slice_get (ticks ++ tick_of w' ∷ []) j ≡ Some u → j ≤ length ticks
   short-tick j u e = let b = slice_get_within (ticks ++ tick_of w' ∷ []) j u e in omega (arith, b, length-append ticks (tick_of w' ∷ []))

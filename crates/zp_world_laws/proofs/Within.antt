@@ -82,10 +82,10 @@ refused-push lines more c p below h = go (placed_frame c 0 lines) refl (connect 
     go : (f : Option (ℕ × List ℕ)) → placed_frame c 0 lines ≡ f → (o : Option ConnectRequest) → connect c lines ≡ o → IsRefused lines c p f o → IsRefused (lines ++ more) c p (placed_frame c 0 (lines ++ more)) (connect c (lines ++ more))
     go None d o e g = absurd g
     go (Some f) d None e g = absurd g
-    go (Some f) d (Some r) e (m, behind, before, may, is) =
+    go (Some f) d (Some r) e (m, after, before, may, is) =
         subst (λ o. IsRefused (lines ++ more) c p (placed_frame c 0 (lines ++ more)) o) (sym (connect-push lines more c r e))
         (subst (λ o. IsRefused (lines ++ more) c p o (Some r)) (sym (first_place-push (frame_shown c 0) 0 lines more f d))
-        (m, behind, before, subst (λ s. IsTrue (may_refuse r s)) (sym (state_at-push lines more m (omega (arith, before, below)))) may, is))
+        (m, after, before, subst (λ s. IsTrue (may_refuse r s)) (sym (state_at-push lines more m (omega (arith, before, below)))) may, is))
 
 answered-push : (lines more : List TranscriptLine) (c : ℕ) (ps : List Due) (o : Option (ℕ × Attachment)) → All (IsBelow (length lines)) ps → IsConnectAnswered lines c ps o → IsConnectAnswered (lines ++ more) c ps o
 answered-push lines more c [] o below h = h
@@ -157,8 +157,8 @@ within-shown lines c z (l ∷ ls) (f, more) k =
     (within-shown (lines ++ l ∷ []) c z ls more (subst (λ m. IsInConnection (lines ++ m ∷ []) c) (sym f.is) (within-frame lines c f.index z f.bytes k)))
 
 -- its end, after the frames that came with the last one
-pub within-end : (lines : List TranscriptLine) (c : ℕ) (z : ℤ) (behind : List TranscriptLine) (end : Ended) → AreShown c z behind → IsInConnection lines c → IsInConnection (lines ++ (behind ++ Close c end ∷ [])) c
-within-end lines c z behind end h k = subst (λ l. IsInConnection l c) (append_assoc lines behind (Close c end ∷ [])) (within-close (lines ++ behind) c end (within-shown lines c z behind h k))
+pub within-end : (lines : List TranscriptLine) (c : ℕ) (z : ℤ) (after : List TranscriptLine) (end : Ended) → AreShown c z after → IsInConnection lines c → IsInConnection (lines ++ (after ++ Close c end ∷ [])) c
+within-end lines c z after end h k = subst (λ l. IsInConnection l c) (append_assoc lines after (Close c end ∷ [])) (within-close (lines ++ after) c end (within-shown lines c z after h k))
 
 pub within-same : (lines : List TranscriptLine) (c : ℕ) → IsInConnection lines c → IsInConnection (lines ++ []) c
 within-same lines c k = subst (λ l. IsInConnection l c) (sym (append-nil lines)) k
@@ -208,13 +208,13 @@ module _ (lines : List TranscriptLine) (c n : ℕ) (ps : List (List ℕ)) (lined
   -- the refusal alone
   pub within-refusal : (p : Due) (f : ℕ × List ℕ) (r : ConnectRequest) (m : ℕ) → attach_of c lines ≡ None → packets c (lines ++ said c ps) ≡ p ∷ [] → placed_frame c 0 lines ≡ Some f → connect c lines ≡ Some r → f.0 < m → m ≤ length lines → m ≤ p.0
       → may_refuse r (state_at lines m) ≡ true → p.1 ≡ connect_packet (refusal r) → IsInConnection (lines ++ said c ps) c
-  within-refusal p f r m none sent framed connected behind within before may is = record {
+  within-refusal p f r m none sent framed connected after within before may is = record {
     silent = λ e. absurd (is-open e);
     connected = subst (λ o. IsConnectAnswered (lines ++ said c ps) c (packets c (lines ++ said c ps)) o) (sym (attach-same ∙ none))
         (subst (λ l. IsConnectAnswered (lines ++ said c ps) c l None) (sym sent) (
           subst (λ o. IsRefused (lines ++ said c ps) c p o (connect c (lines ++ said c ps))) (sym (first_place-push (frame_shown c 0) 0 lines (said c ps) f framed))
               (subst (λ o. IsRefused (lines ++ said c ps) c p (Some f) o) (sym (connect-push lines (said c ps) c r connected))
-              (m, behind, before, subst (λ s. IsTrue (may_refuse r s)) (sym (state_at-push lines (said c ps) m within)) may, is)),
+              (m, after, before, subst (λ s. IsTrue (may_refuse r s)) (sym (state_at-push lines (said c ps) m within)) may, is)),
           refl,
         ));
     in_time = in-time;

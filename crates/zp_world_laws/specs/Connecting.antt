@@ -106,7 +106,7 @@ pub record IsConnectAnswer (store : Store) (lines : List TranscriptLine) (c plac
   pub carried_out : carry before asked ≡ Some (then_store, a)
   pub is : Precedes then_store store
   pub looked : ℕ
-  pub behind : place < looked
+  pub passed : place < looked
   pub within : looked ≤ length lines
   -- the last zxid has not fallen since
   pub risen : (state_at lines looked).zxid ≤ℤ (after lines).zxid

@@ -39,7 +39,7 @@ use Rattle.zn_view.proofs.AsSeen.{agrees-seen, commits-as_seen}
 use Rattle.zn_view.proofs.Members.{In, contains_in, in_mapped}
 use Rattle.zn_view.proofs.Narrowing.{narrowed-commits, picked-told}
 use Rattle.zn_view.proofs.Sizes.{again-present}
-use Rattle.zs_close.specs.Closing.{AreWritesBehind, IsTold, TellsCounts, TellsCountsOf, IsEndPlan}
+use Rattle.zs_close.specs.Closing.{AreWritesAfter, IsTold, TellsCounts, TellsCountsOf, IsEndPlan}
 use Rattle.zs_close.specs.Ending.{end_changes, end_triggers, parents}
 use Rattle.zs_close.specs.Wanting.{end_keys, read_keys}
 use Rattle.zs_close.proofs.EndFits.{end-fits}
@@ -52,7 +52,7 @@ use Rattle.zs_close.proofs.Written.{written-head}
 pub plan-made : (alive : Bool) (id : ℤ) (v : View) (ps : List Bytes) (p : Plan) (acts : List Act) → All (λ q. IsTrue (is_path q)) ps → length ps ≤ max_owned
     → p.guards ≡ guards_of (picked v (read_keys id ps)) → p.again ≡ again_of (picked v (read_keys id ps))
     → p.success ≡ (acts ++ act_of (head_put p.triggers) ∷ []) ++ read_key (key_bytes HeadKey) ∷ [] → p.draft ≡ reply.Good body.Empty → p.triggers ≡ end_triggers ps
-    → AreWritesBehind [] acts → ((counts : Bytes → Option CountRec) → TellsCounts v counts (parents ps) → acts ≡ acts_of (end_changes alive id counts ps)) → IsEndPlan alive id v ps p
+    → AreWritesAfter [] acts → ((counts : Bytes → Option CountRec) → TellsCounts v counts (parents ps) → acts ≡ acts_of (end_changes alive id counts ps)) → IsEndPlan alive id v ps p
 plan-made alive id v ps p acts valid few guards again success draft triggers written made = record {
   guards = guards;
   again = again;

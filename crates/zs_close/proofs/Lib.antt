@@ -11,6 +11,6 @@ pub mod Membership
 pub mod KeysRead
 pub mod Reaps
 pub mod Distinct
-pub mod WritesBehind
+pub mod WritesAfter
 pub mod Sizes
 pub mod Taken

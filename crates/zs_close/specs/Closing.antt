@@ -41,8 +41,8 @@ TellsCounts v counts qs = All (TellsCountsOf v counts) qs
 -- ---- the plan of an end
 
 -- the new operations are the old ones, and after them some that write keys without a lease
-abbrev pub AreWritesBehind : List Act → List Act → Type 0
-AreWritesBehind old new = (cs : List Change) × All IsLeaseless cs × (new ≡ old ++ acts_of cs)
+abbrev pub AreWritesAfter : List Act → List Act → Type 0
+AreWritesAfter old new = (cs : List Change) × All IsLeaseless cs × (new ≡ old ++ acts_of cs)
 
 -- A plan with the operations of the end of a session with these nodes, the last of which reads the head. It guards what the end
 -- reads, but for the head, as the view saw it, and reads that and the head again where a guard fails. It writes keys of the service

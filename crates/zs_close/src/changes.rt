@@ -9,7 +9,7 @@ ghost use Rattle.zn_layout.specs.Keys.{CountsKey};
 ghost use Rattle.zn_layout.specs.Records.{counts_value, IsCountRec};
 ghost use Rattle.zx_base.specs.Maps.{Bytes as ByteList};
 ghost use Rattle.zn_view.specs.Lookups.{HasSeen};
-ghost use Rattle.zs_close.specs.Closing.{AreWritesBehind, TellsCounts, TellsCountsOf};
+ghost use Rattle.zs_close.specs.Closing.{AreWritesAfter, TellsCounts, TellsCountsOf};
 ghost use Rattle.zs_close.specs.Ending.{delete_nodes, delete_session, end_changes, end_triggers as triggers_of_end, fewer as fewer_of, parents as parents_once, put_parents};
 
 use crate::parents::{children_among, parents};
@@ -94,7 +94,7 @@ fn push_counts(
 ) -> Result<(), Memory>
     requires valid { IsTrue (is_path parent.now) }
     requires seen { HasSeen view.now (CountsKey parent.now) }
-    ensures behind { OnOk result (AreWritesBehind acts.old acts.new) }
+    ensures after { OnOk result (AreWritesAfter acts.old acts.new) }
     ensures told { OnOk result ((counts : ByteList → Option AnyCounts) → TellsCountsOf view.now counts parent.now → (rest : List ByteList) → acts.new ++ acts_of (put_parents counts paths.now rest) ≡ acts.old ++ acts_of (put_parents counts paths.now (parent.now ∷ rest))) }
 {
     let Some((counts, _)) = view.counts_at(parent.bytes())? else {
@@ -113,7 +113,7 @@ fn push_parents(
 ) -> Result<(), Memory>
     requires valid { All (λ q. IsTrue (is_path q)) parents.now }
     requires seen { All (λ q. HasSeen view.now (CountsKey q)) parents.now }
-    ensures behind { OnOk result (AreWritesBehind acts.old acts.new) }
+    ensures after { OnOk result (AreWritesAfter acts.old acts.new) }
     ensures told { OnOk result ((counts : ByteList → Option AnyCounts) → TellsCounts view.now counts parents.now → acts.new ≡ acts.old ++ acts_of (put_parents counts paths.now parents.now)) }
 {
     for parent in parents {
@@ -134,7 +134,7 @@ pub(crate) fn end_acts(
     requires real { pos 1 ≤ℤ session }
     requires valid { All (λ p. IsTrue (is_path p)) paths.now }
     requires seen { All (λ q. HasSeen view.now (CountsKey q)) (parents_once paths.now) }
-    ensures written { IfOk result (AreWritesBehind []) }
+    ensures written { IfOk result (AreWritesAfter []) }
     ensures told { IfOk result (λ acts. (counts : ByteList → Option AnyCounts) → TellsCounts view.now counts (parents_once paths.now) → acts ≡ acts_of (end_changes alive session counts paths.now)) }
 {
     let parents = parents(alloc, paths)?;

@@ -13,7 +13,7 @@
 //! (what decides a close, and the plan of an end), `Reaping` (what decides the end of a session that has lapsed). In
 //! `proofs/` by topic: `Removed`, `Members` and `ParentPaths` (a tree after many deletes), `Written` and `EndFits` (the
 //! changes are those of the end), `EndPlans`, `Closes` and `Reaps` (decisions and plans), `KeysRead` (needs and guards),
-//! `Distinct`, `WritesBehind`, `Sizes` and `Taken` (an etcd takes the plan).
+//! `Distinct`, `WritesAfter`, `Sizes` and `Taken` (an etcd takes the plan).
 //!
 //! For n nodes below m parents, the comparisons of paths that a plan takes grow with n · m.
 #![tactic(auto)]

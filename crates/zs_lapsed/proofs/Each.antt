@@ -50,10 +50,10 @@ each-more : (ns : List ℤ) (n : ℤ) (d also : Bool) (cs own : List Call) → R
 each-more [] n d also cs own h r = (Ok also, own, [], ap (λ (l : List Call). l ++ own) h.1 ∙ sym (append-nil own), r, (Ok false, (refl, refl), ap Ok (ap (λ (b : Bool). b || also) (ok-is d false h.0) ∙ sym (or_none also))))
 each-more (m ∷ ms) n d also cs own h r = more-first m n ms d also cs own h.1 h.2 h.0 (λ rest e. each-more ms n rest also h.2 own e r) h.3 h.4 h.5
 
-cut-others : (m n : ℤ) (ms behind : List ℤ) (d damaged : Bool) (f : TurnFault) (cs own mine later : List Call) (others : Result Bool TurnFault)
-    → ((rest : Bool) → ReapsEach ms (Ok rest) later → ReapsEach (ms ++ n ∷ behind) (Err f) (later ++ own))
-    → cs ≡ mine ++ later → Reaps m (Ok damaged) mine → ReapsEach ms others later → Ok d ≡ or_damaged damaged others → ReapsEach (m ∷ (ms ++ n ∷ behind)) (Err f) (cs ++ own)
-cut-others m n ms behind d damaged f cs own mine later (Ok rest) on is one e same = (
+cut-others : (m n : ℤ) (ms onward : List ℤ) (d damaged : Bool) (f : TurnFault) (cs own mine later : List Call) (others : Result Bool TurnFault)
+    → ((rest : Bool) → ReapsEach ms (Ok rest) later → ReapsEach (ms ++ n ∷ onward) (Err f) (later ++ own))
+    → cs ≡ mine ++ later → Reaps m (Ok damaged) mine → ReapsEach ms others later → Ok d ≡ or_damaged damaged others → ReapsEach (m ∷ (ms ++ n ∷ onward)) (Err f) (cs ++ own)
+cut-others m n ms onward d damaged f cs own mine later (Ok rest) on is one e same = (
   Ok damaged,
   mine,
   later ++ own,
@@ -61,17 +61,17 @@ cut-others m n ms behind d damaged f cs own mine later (Ok rest) on is one e sam
   one,
   (Err f, on rest e, refl),
 )
-cut-others m n ms behind d damaged f cs own mine later (Err g) on is one e same = absurd (ok-err d g same)
+cut-others m n ms onward d damaged f cs own mine later (Err g) on is one e same = absurd (ok-err d g same)
 
-cut-first : (m n : ℤ) (ms behind : List ℤ) (d : Bool) (f : TurnFault) (cs own mine later : List Call) (first : Result Bool TurnFault)
-    → ((rest : Bool) → ReapsEach ms (Ok rest) later → ReapsEach (ms ++ n ∷ behind) (Err f) (later ++ own))
-    → cs ≡ mine ++ later → Reaps m first mine → AfterReap first (Ok d) later (λ others. ReapsEach ms others later) → ReapsEach (m ∷ (ms ++ n ∷ behind)) (Err f) (cs ++ own)
-cut-first m n ms behind d f cs own mine later (Ok damaged) on is one after = cut-others m n ms behind d damaged f cs own mine later after.0 on is one after.1 after.2
-cut-first m n ms behind d f cs own mine later (Err g) on is one after = absurd (ok-err d g after.0)
+cut-first : (m n : ℤ) (ms onward : List ℤ) (d : Bool) (f : TurnFault) (cs own mine later : List Call) (first : Result Bool TurnFault)
+    → ((rest : Bool) → ReapsEach ms (Ok rest) later → ReapsEach (ms ++ n ∷ onward) (Err f) (later ++ own))
+    → cs ≡ mine ++ later → Reaps m first mine → AfterReap first (Ok d) later (λ others. ReapsEach ms others later) → ReapsEach (m ∷ (ms ++ n ∷ onward)) (Err f) (cs ++ own)
+cut-first m n ms onward d f cs own mine later (Ok damaged) on is one after = cut-others m n ms onward d damaged f cs own mine later after.0 on is one after.1 after.2
+cut-first m n ms onward d f cs own mine later (Err g) on is one after = absurd (ok-err d g after.0)
 
-each-cut : (ns : List ℤ) (n : ℤ) (behind : List ℤ) (d : Bool) (f : TurnFault) (cs own : List Call) → ReapsEach ns (Ok d) cs → Reaps n (Err f) own → ReapsEach (ns ++ n ∷ behind) (Err f) (cs ++ own)
-each-cut [] n behind d f cs own h r = (Err f, own, [], ap (λ (l : List Call). l ++ own) h.1 ∙ sym (append-nil own), r, (refl, refl))
-each-cut (m ∷ ms) n behind d f cs own h r = cut-first m n ms behind d f cs own h.1 h.2 h.0 (λ rest e. each-cut ms n behind rest f h.2 own e r) h.3 h.4 h.5
+each-cut : (ns : List ℤ) (n : ℤ) (onward : List ℤ) (d : Bool) (f : TurnFault) (cs own : List Call) → ReapsEach ns (Ok d) cs → Reaps n (Err f) own → ReapsEach (ns ++ n ∷ onward) (Err f) (cs ++ own)
+each-cut [] n onward d f cs own h r = (Err f, own, [], ap (λ (l : List Call). l ++ own) h.1 ∙ sym (append-nil own), r, (refl, refl))
+each-cut (m ∷ ms) n onward d f cs own h r = cut-first m n ms onward d f cs own h.1 h.2 h.0 (λ rest e. each-cut ms n onward rest f h.2 own e r) h.3 h.4 h.5
 
 -- ---- in the list
 

@@ -15,8 +15,8 @@ use Rattle.zs_lapsed.specs.Listing.{AreListed, IsLastOpen, IsOpen, Lives, is_amo
 first : {X : Type 0} → (x : X) (xs : List X) → Contains (x ∷ xs) x
 first x xs = (0, omega arith, refl)
 
-behind : {X : Type 0} → (x : X) (xs : List X) (y : X) → Contains xs y → Contains (x ∷ xs) y
-behind x xs y (k, below, is) = (suc k, omega (arith, below), is)
+contains_later : {X : Type 0} → (x : X) (xs : List X) (y : X) → Contains xs y → Contains (x ∷ xs) y
+contains_later x xs y (k, below, is) = (suc k, omega (arith, below), is)
 
 one-of : {X : Type 0} → (x : X) (xs : List X) (y : X) → Contains (x ∷ xs) y → (x ≡ y) ⊎ Contains xs y
 one-of x xs y (zero, below, is) = inl is
@@ -31,7 +31,7 @@ abbrev HasKey : List ℕ → List Kv → ℤ → Type 0
 HasKey kind kvs n = (kv : Kv) × Contains kvs kv × (session_in kind kv ≡ Some n)
 
 later-key : (kind : List ℕ) (kv : Kv) (kvs : List Kv) (n : ℤ) → HasKey kind kvs n → HasKey kind (kv ∷ kvs) n
-later-key kind kv kvs n h = (h.0, behind kv kvs h.0 h.1, h.2)
+later-key kind kv kvs n h = (h.0, contains_later kv kvs h.0 h.1, h.2)
 
 by-place : (kind : List ℕ) (kv : Kv) (kvs : List Kv) (n m : ℤ) → (Contains (numbers_in kind kvs) n → HasKey kind kvs n) → session_in kind kv ≡ Some m → (m ≡ n) ⊎ Contains (numbers_in kind kvs) n → HasKey kind (kv ∷ kvs) n
 by-place kind kv kvs n m rest is (inl same) = (kv, first kv kvs, is ∙ ap (λ (k : ℤ). Some k) same)
@@ -47,7 +47,7 @@ from-numbers kind (kv ∷ kvs) n c = by-key kind kv kvs n (from-numbers kind kvs
 
 skips : (o : Option ℤ) (ns : List ℤ) (n : ℤ) → Contains ns n → Contains (cons_option o ns) n
 skips None ns n c = c
-skips (Some m) ns n c = behind m ns n c
+skips (Some m) ns n c = contains_later m ns n c
 
 to-place : (kind : List ℕ) (k : Kv) (kvs : List Kv) (n : ℤ) (kv : Kv) → (Contains kvs kv → Contains (numbers_in kind kvs) n) → session_in kind kv ≡ Some n → (k ≡ kv) ⊎ Contains kvs kv → Contains (cons_option (session_in kind k) (numbers_in kind kvs)) n
 to-place kind k kvs n kv rest is (inl same) = subst (λ (o : Option ℤ). Contains (cons_option o (numbers_in kind kvs)) n) (sym (ap (session_in kind) same ∙ is)) (first n (numbers_in kind kvs))
@@ -66,7 +66,7 @@ kept-was : (p : ℤ → Bool) (ns : List ℤ) (n : ℤ) → Contains (filter p n
 kept-was p ns n c = All-contains (Contains ns) (filter p ns) n (All-filter p (Contains ns) ns (All-contains_itself ns)) c
 
 keeps : (b : Bool) (m : ℤ) (ns : List ℤ) (n : ℤ) → Contains ns n → Contains (cond b (m ∷ ns) ns) n
-keeps true m ns n c = behind m ns n c
+keeps true m ns n c = contains_later m ns n c
 keeps false m ns n c = c
 
 kept-place : (p : ℤ → Bool) (m : ℤ) (ns : List ℤ) (n : ℤ) → (Contains ns n → Contains (filter p ns) n) → p n ≡ true → (m ≡ n) ⊎ Contains ns n → Contains (cond (p m) (m ∷ filter p ns) (filter p ns)) n
@@ -119,7 +119,7 @@ open_is_lapsed opened alive n there dead =
 
 less-place : (k : ℕ) (x : ℤ) (xs : List ℤ) (n : ℤ) → (Contains (take k xs) n → Contains (take (suc k) xs) n) → (x ≡ n) ⊎ Contains (take k xs) n → Contains (take (suc (suc k)) (x ∷ xs)) n
 less-place k x xs n rest (inl same) = subst (λ (y : ℤ). Contains (x ∷ take (suc k) xs) y) same (first x (take (suc k) xs))
-less-place k x xs n rest (inr d) = behind x (take (suc k) xs) n (rest d)
+less-place k x xs n rest (inr d) = contains_later x (take (suc k) xs) n (rest d)
 
 less-is-there : (k : ℕ) (xs : List ℤ) (n : ℤ) → Contains (take k xs) n → Contains (take (suc k) xs) n
 less-is-there zero xs n c = none-in n c
@@ -127,7 +127,7 @@ less-is-there (suc k) [] n c = none-in n c
 less-is-there (suc k) (x ∷ xs) n c = less-place k x xs n (less-is-there k xs n) (one-of x (take k xs) n c)
 
 by-test : (b : Bool) (k : ℕ) (x : ℤ) (xs : List ℤ) (n : ℤ) → Contains (take k xs) n → Contains (take (suc k) (cond b (x ∷ xs) xs)) n
-by-test true k x xs n c = behind x (take k xs) n c
+by-test true k x xs n c = contains_later x (take k xs) n c
 by-test false k x xs n c = less-is-there k xs n c
 
 passing-place : (p : ℤ → Bool) (k : ℕ) (x : ℤ) (xs : List ℤ) (n : ℤ) → (Contains (take k xs) n → Contains (take k (filter p xs)) n) → p n ≡ true → (x ≡ n) ⊎ Contains (take k xs) n → Contains (take (suc k) (cond (p x) (x ∷ filter p xs) (filter p xs))) n
@@ -183,7 +183,7 @@ from-last true o last from is e = absurd (none-some from e)
 from-last false None last from is e = absurd (none-last last is)
 from-last false (Some kv) last from is e = sym (same-list (drop 5 kv.key ++ 0 ∷ []) from e) ∙ ap (λ (k : Kv). drop 5 k.key ++ 0 ∷ []) (same-kv kv last is)
 
-pub behind_the_last : (opened : List Kv) (last : Kv) (from : List ℕ) → IsLastOpen opened last → next_from opened ≡ Some from → codes "zk/s/" ++ from ≡ last.key ++ 0 ∷ []
-behind_the_last opened last from is next =
+pub after_the_last : (opened : List Kv) (last : Kv) (from : List ℕ) → IsLastOpen opened last → next_from opened ≡ Some from → codes "zk/s/" ++ from ≡ last.key ++ 0 ∷ []
+after_the_last opened last from is next =
     let tail = from-last (nat_lt (length opened) max_listed) (slice_get opened (length opened - 1)) last from is.ends next in
     ap (λ (l : List ℕ). l ++ from) (sym is.kind) ∙ ap (λ (l : List ℕ). take 5 last.key ++ l) tail ∙ sym (append_assoc (take 5 last.key) (drop 5 last.key) (0 ∷ [])) ∙ ap (λ (l : List ℕ). l ++ 0 ∷ []) (take-append-drop 5 last.key)

@@ -40,7 +40,7 @@ list_ask from = ask.Txn (record {
 
 -- ---- which sessions have lapsed
 
--- the session whose key of this kind this is: behind the kind stand its 16 hex digits
+-- the session whose key of this kind this is: after the kind stand its 16 hex digits
 abbrev pub session_in : List ℕ → Kv → Option ℤ
 session_in kind kv = if bytes_eq (take (length kind) kv.key) kind then session_id (drop (length kind) kv.key) else None
 
@@ -57,7 +57,7 @@ without_of numbers living = filter (λ n. not (is_among living n)) numbers
 abbrev pub lapsed_of : List Kv → List Kv → List ℤ
 lapsed_of opened alive = without_of (numbers_in (codes "zk/s/") opened) (numbers_in (codes "zk/l/") alive)
 
--- where the next list begins: right behind the last key; nowhere where the list was not full
+-- where the next list begins: right after the last key; nowhere where the list was not full
 abbrev pub next_from : List Kv → Option (List ℕ)
 next_from opened = if nat_lt (length opened) max_listed then None else option_map (λ (kv : Kv). drop 5 kv.key ++ 0 ∷ []) (slice_get opened (length opened - 1))
 

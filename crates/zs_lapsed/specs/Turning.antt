@@ -1,4 +1,4 @@
--- The calls of one turn: lists, one behind the other, and after each a reap of each session that it shows as lapsed.
+-- The calls of one turn: lists, one after the other, and after each a reap of each session that it shows as lapsed.
 use Rattle.std.specs.Prelude.{◌≡◌, ◌⊎◌, ℕ, zero, suc, ◌<◌, Bool, true, false, List, [], ◌++◌, Option, Some, None, Result, Ok, Err}
 use Rattle.ev_call.specs.Calls.{Call}
 use Rattle.ev_link.specs.Reaching.{undialled_times}

@@ -19,8 +19,8 @@ pub fn no_living_session_is_shown()
         → AreListed opened alive most all lives → Contains (lapsed_of opened alive) n → lives n ≡ false }
 {}
 
-/// A list begins right behind the last key of the one before it: no key stands between a key and that key with a byte 0 at its end.
-pub fn a_list_begins_behind_the_last_key()
+/// A list begins right after the last key of the one before it: no key stands between a key and that key with a byte 0 at its end.
+pub fn a_list_begins_after_the_last_key()
     ensures { (opened : List Kv) (last : Kv) (from : List ℕ)
         → IsLastOpen opened last → next_from opened ≡ Some from → codes "zk/s/" ++ from ≡ last.key ++ 0 ∷ [] }
 {}

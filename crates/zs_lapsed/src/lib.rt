@@ -21,5 +21,5 @@ mod turning;
 mod working;
 
 pub use failure::fault_of;
-pub use laws::{a_list_begins_behind_the_last_key, no_living_session_is_shown, who_has_lapsed};
+pub use laws::{a_list_begins_after_the_last_key, no_living_session_is_shown, who_has_lapsed};
 pub use working::{pause_of, reap};

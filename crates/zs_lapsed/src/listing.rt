@@ -34,7 +34,7 @@ const KIND: usize = 5;
 pub struct Listed {
     /// The numbers of those that have lapsed.
     pub lapsed: Seq<i64>,
-    /// Where the next list begins, behind the kind of the key; `None` where this was the last.
+    /// Where the next list begins, after the kind of the key; `None` where this was the last.
     pub next: Option<Bytes>,
 }
 
@@ -116,7 +116,7 @@ fn lapsed(alloc: Global, opened: &[Kv], alive: &[Kv]) -> Result<Seq<i64>, Memory
     Ok(Seq::from_vec(without(alloc, numbers.as_slice(), living.as_slice())?))
 }
 
-/// Where the list after this one begins: right behind its last key.
+/// Where the list after this one begins: right after its last key.
 fn next_from(alloc: Global, opened: &[Kv]) -> Result<Option<Bytes>, Memory>
     ensures { IfOk result (λ next. next ≡ from_next opened.now) }
 {

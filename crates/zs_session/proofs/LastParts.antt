@@ -9,10 +9,10 @@ abbrev pub last_from : List Kv → List ActAns → List Kv
 last_from found [] = found
 last_from found (a ∷ more) = last_from (found_in a) more
 
-last_behind : (a : ActAns) (more : List ActAns) → last_part (a ∷ more) ≡ last_from (found_in a) more
-last_behind a [] = refl
-last_behind a (b ∷ more) = last_behind b more
+last_after : (a : ActAns) (more : List ActAns) → last_part (a ∷ more) ≡ last_from (found_in a) more
+last_after a [] = refl
+last_after a (b ∷ more) = last_after b more
 
 pub last_from-none : (parts : List ActAns) → last_from [] parts ≡ last_part parts
 last_from-none [] = refl
-last_from-none (a ∷ more) = sym (last_behind a more)
+last_from-none (a ∷ more) = sym (last_after a more)

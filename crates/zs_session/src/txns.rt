@@ -4,7 +4,7 @@ ghost use Rattle.std.specs.Prelude.{◌≡◌, pos, ◌≤ℤ◌, [], IfOk, OnOk
 ghost use Rattle.zk_model.specs.Limits.{min_timeout, max_timeout};
 ghost use Rattle.zn_layout.specs.Changes.{act_of, acts_of, put_key, update_acts};
 ghost use Rattle.zn_layout.specs.Records.{session_value, IsLeaseRec};
-ghost use Rattle.zs_session.specs.Sessions.{attach_changes, attach_guards, attach_txn as txn_of_attach, guard_on, life_key, new_session_changes, new_session_guards, new_session_txn as txn_of_session, next_attach as attach_behind, next_life as life_behind, nodes_key, put_life as change_of_life};
+ghost use Rattle.zs_session.specs.Sessions.{attach_changes, attach_guards, attach_txn as txn_of_attach, guard_on, life_key, new_session_changes, new_session_guards, new_session_txn as txn_of_session, next_attach as attach_after, next_life as life_after, nodes_key, put_life as change_of_life};
 
 use crate::asks::{attach_wants, session_wants};
 use crate::connect::Fresh;
@@ -108,7 +108,7 @@ pub(crate) fn new_session_txn(alloc: Global, fresh: &Fresh, timeout: i32) -> Res
 
 /// One attachment more; after the greatest number comes 1.
 fn next_attach(attaches: i64) -> i64
-    ensures { result ≡ attach_behind attaches }
+    ensures { result ≡ attach_after attaches }
 {
     if attaches == i64::MAX {
         1
@@ -119,7 +119,7 @@ fn next_attach(attaches: i64) -> i64
 
 fn next_life(life: &LeaseRec) -> LeaseRec
     requires { IsLeaseRec life.now }
-    ensures is { result ≡ life_behind life.now }
+    ensures is { result ≡ life_after life.now }
     ensures bounded { IsLeaseRec result }
 {
     LeaseRec {

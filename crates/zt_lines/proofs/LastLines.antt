@@ -16,19 +16,19 @@ use Rattle.zt_text.specs.Scripts.{Lacks}
 use Rattle.zt_text.specs.Transcripts.{end_words, hex_text, id_text, kind_words, line_words, spaced}
 use Rattle.zt_text.proofs.TranscriptLaws.{Lacks-word}
 use Rattle.zt_text.proofs.WrittenWords.{decimal-is_word, is_word}
-use Rattle.zt_lines.specs.Transcripts.{is_arrival_fault, is_connection_fault, is_entry_fault, is_fault_behind, is_fault_line, is_last_line, is_reason, is_request_fault, is_store_fault, parted}
+use Rattle.zt_lines.specs.Transcripts.{is_arrival_fault, is_connection_fault, is_entry_fault, is_fault_after, is_fault_line, is_last_line, is_reason, is_request_fault, is_store_fault, parted}
 use Rattle.zt_lines.specs.Words.{max_place}
 use Rattle.zt_lines.proofs.Parting.{parted-first}
 use Rattle.zt_lines.proofs.WrittenNumbers.{place-decimal}
 
 -- ---- a line that says what happened
 
-is_fault_behind-other : (form : List ℕ) (rest : Option (List ℕ × List ℕ)) → bytes_eq form (codes "fault") ≡ false → is_fault_behind form rest ≡ false
-is_fault_behind-other form None other = refl
-is_fault_behind-other form (Some x) other = rw other refl
+is_fault_after-other : (form : List ℕ) (rest : Option (List ℕ × List ℕ)) → bytes_eq form (codes "fault") ≡ false → is_fault_after form rest ≡ false
+is_fault_after-other form None other = refl
+is_fault_after-other form (Some x) other = rw other refl
 
 -- a line is parted at its first blank
-is_fault_line-parted : (form rest : List ℕ) → Lacks 32 form → is_fault_line (form ++ 32 ∷ rest) ≡ is_fault_behind form (parted 32 rest)
+is_fault_line-parted : (form rest : List ℕ) → Lacks 32 form → is_fault_line (form ++ 32 ∷ rest) ≡ is_fault_after form (parted 32 rest)
 unfolding is_fault_line
 is_fault_line-parted form rest lacks = let parts = parted-first 32 form rest lacks in rw (parts, is_fault_line) refl
 
@@ -37,7 +37,7 @@ is_last_line-other : (form word : List ℕ) (words : List (List ℕ)) → is_wor
 unfolding is_last_line
 is_last_line-other form word words formed other undone =
     or_from (bytes_eq (spaced (form ∷ word ∷ words)) (codes "done")) (is_fault_line (spaced (form ∷ word ∷ words))) undone
-    (is_fault_line-parted form (spaced (word ∷ words)) (Lacks-word 32 form (omega arith) formed) ∙ is_fault_behind-other form (parted 32 (spaced (word ∷ words))) other)
+    (is_fault_line-parted form (spaced (word ∷ words)) (Lacks-word 32 form (omega arith) formed) ∙ is_fault_after-other form (parted 32 (spaced (word ∷ words))) other)
 
 pub is_last_line-line_words : (l : TranscriptLine) → is_last_line (spaced (line_words l)) ≡ false
 is_last_line-line_words (line.Update u) = is_last_line-other (codes "update") (signed_decimal u.zxid) (kind_words u.kind) refl refl refl
@@ -59,7 +59,7 @@ is_fault_line-fault n reason some fits known =
     let read = place-decimal n fits in
     let positive = lt-ltb 0 n some in
     is_fault_line-parted (codes "fault") (decimal n ++ 32 ∷ reason) (Lacks-word 32 (codes "fault") (omega arith) refl)
-    ∙ ap (is_fault_behind (codes "fault")) number
+    ∙ ap (is_fault_after (codes "fault")) number
     ∙ rw (read, positive, known) refl
 
 pub is_last_line-fault : (n : ℕ) (reason : List ℕ) → 0 < n → n ≤ max_place → is_reason reason ≡ true → is_last_line (codes "fault " ++ decimal n ++ 32 ∷ reason) ≡ true

@@ -7,7 +7,7 @@ use Rattle.zt_text.specs.declared.script.Unread.TheVariants as unread
 use Rattle.zt_text.specs.declared.script.Why.TheVariants as why
 use Rattle.zt_text.specs.Faults.{fault_text}
 use Rattle.zt_lines.specs.Readable.{FitsPlace, IsLastLine, IsReason}
-use Rattle.zt_lines.specs.Transcripts.{is_arrival_fault, is_connection_fault, is_entry_fault, is_fault_behind, is_fault_line, is_fault_of, is_last_line, is_positive, is_reason, is_request_fault, is_store_fault, parted}
+use Rattle.zt_lines.specs.Transcripts.{is_arrival_fault, is_connection_fault, is_entry_fault, is_fault_after, is_fault_line, is_fault_of, is_last_line, is_positive, is_reason, is_request_fault, is_store_fault, parted}
 use Rattle.zt_lines.specs.Words.{max_place, place}
 use Rattle.zt_lines.proofs.ReadNumbers.{place-written}
 
@@ -108,19 +108,19 @@ is_fault_of-written form w reason fault =
     (λ i. (named i ++ 32 ∷ (number.3 i ++ 32 ∷ reason)) ++ 10 ∷ []) ∙ ap (λ (rest : List ℕ). codes "fault " ++ rest) (append_assoc (decimal number.0) (32 ∷ reason) (10 ∷ [])) in
     inr (number.0, reason, number.1, number.2, is_reason-written reason last.1, text)
 
-is_fault_behind-written : (form rest : List ℕ) (o : Option (List ℕ × List ℕ)) → IfSome o (IsPartedAt 32 rest) → is_fault_behind form o ≡ true → IsLastLine ((form ++ 32 ∷ rest) ++ 10 ∷ [])
-is_fault_behind-written form rest None is fault = absurd (false≢true fault)
-is_fault_behind-written form rest (Some x) is fault =
+is_fault_after-written : (form rest : List ℕ) (o : Option (List ℕ × List ℕ)) → IfSome o (IsPartedAt 32 rest) → is_fault_after form o ≡ true → IsLastLine ((form ++ 32 ∷ rest) ++ 10 ∷ [])
+is_fault_after-written form rest None is fault = absurd (false≢true fault)
+is_fault_after-written form rest (Some x) is fault =
     subst (λ (r : List ℕ). IsLastLine ((form ++ 32 ∷ r) ++ 10 ∷ [])) (sym is) (is_fault_of-written form x.0 x.1 fault)
 
 is_fault_line-written : (bytes : List ℕ) → is_fault_line bytes ≡ true → IsLastLine (bytes ++ 10 ∷ [])
 unfolding is_fault_line
 is_fault_line-written bytes fault = by_parts (parted 32 bytes) (parted-written 32 bytes) fault
   where
-    by_parts : (o : Option (List ℕ × List ℕ)) → IfSome o (IsPartedAt 32 bytes) → (elim o [ None ↦ false | Some x ↦ is_fault_behind x.0 (parted 32 x.1) ]) ≡ true → IsLastLine (bytes ++ 10 ∷ [])
+    by_parts : (o : Option (List ℕ × List ℕ)) → IfSome o (IsPartedAt 32 bytes) → (elim o [ None ↦ false | Some x ↦ is_fault_after x.0 (parted 32 x.1) ]) ≡ true → IsLastLine (bytes ++ 10 ∷ [])
     by_parts None is fault = absurd (false≢true fault)
     by_parts (Some x) is fault =
-        subst (λ (b : List ℕ). IsLastLine (b ++ 10 ∷ [])) (sym is) (is_fault_behind-written x.0 x.1 (parted 32 x.1) (parted-written 32 x.1) fault)
+        subst (λ (b : List ℕ). IsLastLine (b ++ 10 ∷ [])) (sym is) (is_fault_after-written x.0 x.1 (parted 32 x.1) (parted-written 32 x.1) fault)
 
 -- ---- the last line
 

@@ -12,7 +12,7 @@ use Rattle.zt_text.proofs.TranscriptLaws.{transcript_text-cons}
 use Rattle.zt_text.proofs.PieceLaws.{pieces-some}
 use Rattle.zt_lines.specs.Lines.{line_read}
 use Rattle.zt_lines.specs.Readable.{IsLastLine, IsReadable, IsReadFrom, IsTextOf}
-use Rattle.zt_lines.specs.Transcripts.{Transcript, is_last_line, last_line, lines_from, nothing_behind, then_lines, transcript}
+use Rattle.zt_lines.specs.Transcripts.{Transcript, is_last_line, last_line, lines_from, nothing_after, then_lines, transcript}
 use Rattle.zt_lines.proofs.LineLaws.{transcript-short}
 use Rattle.zt_lines.proofs.ReadLast.{is_last_line-written}
 use Rattle.zt_lines.proofs.ReadLines.{IsLineText, line_read-written}
@@ -46,12 +46,12 @@ IsReadFrom-cons l ls bytes rest line (inr text) =
 -- ---- a text that is not too long
 
 -- what follows the last line, after its line feed
-nothing_behind-written : (n : ℕ) (bytes : List ℕ) (ps : List (List ℕ)) → IsLastLine (bytes ++ 10 ∷ []) → IfAllRead (λ ls. IsReadFrom ls (bytes ++ 10 ∷ join_with_byte 10 ps)) (nothing_behind false n ps)
+nothing_after-written : (n : ℕ) (bytes : List ℕ) (ps : List (List ℕ)) → IsLastLine (bytes ++ 10 ∷ []) → IfAllRead (λ ls. IsReadFrom ls (bytes ++ 10 ∷ join_with_byte 10 ps)) (nothing_after false n ps)
 unfolding transcript_text
-nothing_behind-written n bytes ([] ∷ []) last all = (tt, inl (bytes ++ 10 ∷ [], inr last, refl))
-nothing_behind-written n bytes [] last all = absurd (none-some n (sym all))
-nothing_behind-written n bytes ([] ∷ p ∷ ps) last all = absurd (none-some n (sym all))
-nothing_behind-written n bytes ((b ∷ bs) ∷ ps) last all = absurd (none-some n (sym all))
+nothing_after-written n bytes ([] ∷ []) last all = (tt, inl (bytes ++ 10 ∷ [], inr last, refl))
+nothing_after-written n bytes [] last all = absurd (none-some n (sym all))
+nothing_after-written n bytes ([] ∷ p ∷ ps) last all = absurd (none-some n (sym all))
+nothing_after-written n bytes ((b ∷ bs) ∷ ps) last all = absurd (none-some n (sym all))
 
 -- what follows the last line feed
 last_line-written : (n : ℕ) (bytes : List ℕ) → IfAllRead (λ ls. IsReadFrom ls bytes) (last_line false n bytes)
@@ -69,8 +69,8 @@ lines_from-written n [] = λ all. (tt, inl IsTextOf-none)
 lines_from-written n (bytes ∷ []) = last_line-written n bytes
 lines_from-written n (bytes ∷ p ∷ ps) =
     let rest = join_with_byte 10 (p ∷ ps) in
-    cond_both (is_last_line bytes) (nothing_behind false (n + 1) (p ∷ ps)) (then_lines n (line_read bytes) (lines_from false (n + 1) (p ∷ ps))) (IfAllRead (λ ls. IsReadFrom ls (bytes ++ 10 ∷ rest)))
-    (λ last. nothing_behind-written (n + 1) bytes (p ∷ ps) (is_last_line-written bytes last))
+    cond_both (is_last_line bytes) (nothing_after false (n + 1) (p ∷ ps)) (then_lines n (line_read bytes) (lines_from false (n + 1) (p ∷ ps))) (IfAllRead (λ ls. IsReadFrom ls (bytes ++ 10 ∷ rest)))
+    (λ last. nothing_after-written (n + 1) bytes (p ∷ ps) (is_last_line-written bytes last))
     (λ other.
     then_lines-written (λ ls. IsReadFrom ls (bytes ++ 10 ∷ rest)) (λ ls. IsReadFrom ls rest) n bytes (line_read bytes) (lines_from false (n + 1) (p ∷ ps)) (line_read-written bytes)
     (lines_from-written (n + 1) (p ∷ ps)) (λ l ls line text. IsReadFrom-cons l ls bytes rest line text))
@@ -81,7 +81,7 @@ lines_from-cut : (n : ℕ) (ps : List (List ℕ)) → 0 < length ps → IfAllRea
 lines_from-cut n [] some = absurd (omega arith)
 lines_from-cut n (bytes ∷ []) some = λ all. absurd (none-some n (sym all))
 lines_from-cut n (bytes ∷ p ∷ ps) some =
-    cond_both (is_last_line bytes) (nothing_behind true (n + 1) (p ∷ ps)) (then_lines n (line_read bytes) (lines_from true (n + 1) (p ∷ ps))) (IfAllRead (λ ls. ⊥))
+    cond_both (is_last_line bytes) (nothing_after true (n + 1) (p ∷ ps)) (then_lines n (line_read bytes) (lines_from true (n + 1) (p ∷ ps))) (IfAllRead (λ ls. ⊥))
     (λ last all. absurd (none-some (n + 1) (sym all)))
     (λ other. then_lines-written (λ ls. ⊥) (λ ls. ⊥) n bytes (line_read bytes) (lines_from true (n + 1) (p ∷ ps)) (line_read-written bytes) (lines_from-cut (n + 1) (p ∷ ps) (omega arith)) (λ l ls line text. text))
 

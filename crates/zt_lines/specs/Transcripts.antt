@@ -51,12 +51,12 @@ abbrev pub seen_parts : Option (Slice × Slice) → Option (List ℕ × List ℕ
 seen_parts None = None
 seen_parts (Some x) = Some (x.0.now, x.1.now)
 
-abbrev pub is_fault_behind : List ℕ → Option (List ℕ × List ℕ) → Bool
-is_fault_behind form None = false
-is_fault_behind form (Some x) = is_fault_of form x.0 x.1
+abbrev pub is_fault_after : List ℕ → Option (List ℕ × List ℕ) → Bool
+is_fault_after form None = false
+is_fault_after form (Some x) = is_fault_of form x.0 x.1
 
 unfoldable pub is_fault_line : List ℕ → Bool
-is_fault_line bytes = elim (parted 32 bytes) [ None ↦ false | Some x ↦ is_fault_behind x.0 (parted 32 x.1) ]
+is_fault_line bytes = elim (parted 32 bytes) [ None ↦ false | Some x ↦ is_fault_after x.0 (parted 32 x.1) ]
 
 unfoldable pub is_last_line : List ℕ → Bool
 is_last_line bytes = bytes_eq bytes (codes "done") || is_fault_line bytes
@@ -72,9 +72,9 @@ then_lines n None later = ([], Some n)
 then_lines n (Some l) later = (l ∷ later.0, later.1)
 
 -- what is read after `done` or a fault, whose line feed may follow, but no line n
-abbrev pub nothing_behind : Bool → ℕ → List (List ℕ) → Transcript
-nothing_behind false n ([] ∷ []) = ([], None)
-nothing_behind _ n _ = ([], Some n)
+abbrev pub nothing_after : Bool → ℕ → List (List ℕ) → Transcript
+nothing_after false n ([] ∷ []) = ([], None)
+nothing_after _ n _ = ([], Some n)
 
 -- what follows the last line feed: the last line, or nothing; or the line in which the limit of all bytes is passed
 abbrev pub last_line : Bool → ℕ → List ℕ → Transcript
@@ -86,7 +86,7 @@ abbrev pub lines_from : Bool → ℕ → List (List ℕ) → Transcript
 lines_from is_cut n [] = ([], None)
 lines_from is_cut n (bytes ∷ []) = last_line is_cut n bytes
 lines_from is_cut n (bytes ∷ more ∷ rest) =
-    if is_last_line bytes then nothing_behind is_cut (n + 1) (more ∷ rest)
+    if is_last_line bytes then nothing_after is_cut (n + 1) (more ∷ rest)
     else then_lines n (line_read bytes) (lines_from is_cut (n + 1) (more ∷ rest))
 
 -- these lines, and what is read after them

@@ -2,7 +2,7 @@
 
 ghost use Rattle.std.specs.Prelude.{◌≡◌, ◌<◌, ◌∷◌, [], length, IfSome, MatchOption};
 ghost use Rattle.zt_text.specs.Scripts.{pieces};
-ghost use Rattle.zt_lines.specs.Transcripts.{is_arrival_fault as is_arrival_fault_of, is_connection_fault as is_connection_fault_of, is_entry_fault as is_entry_fault_of, is_fault_behind as is_fault_behind_of, is_fault_line as is_fault_line_of, is_last_line as is_last_line_of, is_reason as is_reason_of, is_request_fault as is_request_fault_of, is_store_fault as is_store_fault_of, is_positive, parted, seen_parts};
+ghost use Rattle.zt_lines.specs.Transcripts.{is_arrival_fault as is_arrival_fault_of, is_connection_fault as is_connection_fault_of, is_entry_fault as is_entry_fault_of, is_fault_after as is_fault_after_of, is_fault_line as is_fault_line_of, is_last_line as is_last_line_of, is_reason as is_reason_of, is_request_fault as is_request_fault_of, is_store_fault as is_store_fault_of, is_positive, parted, seen_parts};
 ghost use Rattle.zt_lines.specs.Words.{place as place_of};
 
 use crate::numbers::place;
@@ -43,7 +43,7 @@ fn is_fault_line(line: &[u8]) -> bool
 }
 
 fn is_fault(form: &[u8], rest: &[u8]) -> bool
-    ensures { result ≡ is_fault_behind_of form.now (parted 32 rest.now) }
+    ensures { result ≡ is_fault_after_of form.now (parted 32 rest.now) }
 {
     let Some((number, why)) = part(rest, BLANK) else {
         return false;

@@ -4,7 +4,7 @@ ghost use Rattle.std.specs.Prelude.{◌≡◌, ◌≤◌, ◌++◌, ◌∷◌, [
 ghost use Rattle.zk_transcript.specs.declared.transcript.TranscriptLine.{TranscriptLine as SomeLine};
 ghost use Rattle.zt_text.specs.Scripts.{max_script, pieces};
 ghost use Rattle.zt_lines.specs.Lines.{line_read};
-ghost use Rattle.zt_lines.specs.Transcripts.{last_line as last_line_of, lines_from, nothing_behind as nothing_behind_of, onto, transcript};
+ghost use Rattle.zt_lines.specs.Transcripts.{last_line as last_line_of, lines_from, nothing_after as nothing_after_of, onto, transcript};
 ghost use Rattle.zt_lines.specs.Outcomes.{IsFaultOf, IsUnread};
 
 use crate::last::{is_last_line, part};
@@ -63,12 +63,12 @@ fn read_lines(
     let mut lines = Vec::new(alloc);
     let mut rest = bytes;
     let mut number: u64 = 1;
-    'lines: while let Some((line, behind)) = part(rest, LINE_FEED) {
+    'lines: while let Some((line, after)) = part(rest, LINE_FEED) {
         if is_last_line(line) {
-            return nothing_behind(lines, is_cut, number.saturating_add(1), behind);
+            return nothing_after(lines, is_cut, number.saturating_add(1), after);
         }
         add_line(alloc, &mut lines, number, line)?;
-        rest = behind;
+        rest = after;
         number = number.saturating_add(1);
     }
     last_line(alloc, lines, is_cut, number, rest)
@@ -94,19 +94,19 @@ fn add_line(
 }
 
 /// These lines, if nothing follows the last line of the text; `number` is that of the line that would.
-fn nothing_behind(
+fn nothing_after(
     lines: Vec<TranscriptLine>,
     is_cut: bool,
     number: u64,
-    behind: &[u8],
+    after: &[u8],
 ) -> Result<Vec<TranscriptLine>, TranscriptFault>
-    ensures ok { IfOk result (λ v. onto lines.items (nothing_behind_of is_cut number (pieces 10 behind.now)) ≡ (v.items, None)) }
-    ensures err { IfErr result (IsFaultOf (nothing_behind_of is_cut number (pieces 10 behind.now))) }
+    ensures ok { IfOk result (λ v. onto lines.items (nothing_after_of is_cut number (pieces 10 after.now)) ≡ (v.items, None)) }
+    ensures err { IfErr result (IsFaultOf (nothing_after_of is_cut number (pieces 10 after.now))) }
 {
     if is_cut {
         return Err(TranscriptFault::Unreadable { line: number });
     }
-    if behind.is_empty() {
+    if after.is_empty() {
         return Ok(lines);
     }
     Err(TranscriptFault::Unreadable { line: number })

@@ -8,7 +8,7 @@ use Rattle.zt_show.specs.declared.ending.Ending.TheVariants as ending
 use Rattle.zt_show.specs.declared.progress.Progress.{Progress}
 use Rattle.zt_show.specs.FrameLines.{line_of_frame, IsAdded}
 use Rattle.zt_show.specs.Shown.{Shown, joined, max_stream, before, shown_from}
-use Rattle.zt_show.specs.Showing.{behind, shown_on, size_of, passed, Passes, Blocks, AddsLines}
+use Rattle.zt_show.specs.Showing.{with_first, shown_on, size_of, passed, Passes, Blocks, AddsLines}
 
 pub size_of-more : (frames : List (List ℕ)) (frame : List ℕ) → size_of (frames ++ frame ∷ []) ≡ size_of frames + (4 + length frame)
 size_of-more frames frame = sum_by-append (λ (f : List ℕ). 4 + length f) frames (frame ∷ []) ∙ omega arith
@@ -22,8 +22,8 @@ joined-append lines later = flat_map-append (λ (l : List ℕ). l) lines later
 abbrev with_ending : List (List ℕ) → Shown → Shown
 with_ending lines shown = record { lines = lines; ending = shown.ending }
 
-pub behind-behind : (first second : List (List ℕ)) (shown : Shown) → behind first (behind second shown) ≡ behind (first ++ second) shown
-behind-behind first second shown = ap (λ (ls : List (List ℕ)). with_ending ls shown) (sym (append_assoc first second shown.lines))
+pub with_first-with_first : (first second : List (List ℕ)) (shown : Shown) → with_first first (with_first second shown) ≡ with_first (first ++ second) shown
+with_first-with_first first second shown = ap (λ (ls : List (List ℕ)). with_ending ls shown) (sym (append_assoc first second shown.lines))
 
 abbrev ended : List (List ℕ) → Ending → Shown
 ended lines end = record { lines = lines; ending = end }
@@ -34,7 +34,7 @@ Passes-nil p few = record { says = λ later rest. refl; place = omega arith; cou
 
 -- one frame more, of this line
 shown_frame : (is_begun : Bool) (place : ℕ) (frame line : List ℕ) (later : List (List ℕ)) (rest : List ℕ) → line_of_frame is_begun place frame ≡ Some line →
-    shown_from is_begun place (frame ∷ later) rest ≡ behind (line ∷ []) (shown_from true (place + 4 + length frame) later rest)
+    shown_from is_begun place (frame ∷ later) rest ≡ with_first (line ∷ []) (shown_from true (place + 4 + length frame) later rest)
 unfolding shown_from
 shown_frame is_begun place frame line later rest is = ap (λ (l : Option (List ℕ)). before place l (shown_from true (place + 4 + length frame) later rest)) is
 
@@ -55,9 +55,9 @@ Passes-more frames added frame line old mid fits so_far is =
     record {
       says = λ later rest.
           ap (λ (fs : List (List ℕ)). shown_on old fs rest) (append_assoc frames (frame ∷ []) later) ∙ so_far.says (frame ∷ later) rest
-          ∙ ap (behind added) (shown_frame mid.is_begun mid.place frame line later rest is)
-          ∙ behind-behind added (line ∷ []) (shown_from true (mid.place + 4 + length frame) later rest)
-          ∙ ap (λ (n : ℕ). behind (added ++ line ∷ []) (shown_from true n later rest)) (sym place);
+          ∙ ap (with_first added) (shown_frame mid.is_begun mid.place frame line later rest is)
+          ∙ with_first-with_first added (line ∷ []) (shown_from true (mid.place + 4 + length frame) later rest)
+          ∙ ap (λ (n : ℕ). with_first (added ++ line ∷ []) (shown_from true n later rest)) (sym place);
       place = omega (arith, so_far.place);
       count = omega (arith, so_far.count, so_far.few, length-append added (line ∷ []));
       few = omega (arith, so_far.few);
@@ -70,7 +70,7 @@ Blocks-more frames added frame others old mid fits so_far is =
     record {
       says = λ later rest.
           ap (λ (fs : List (List ℕ)). shown_on old fs rest) (append_assoc frames (frame ∷ others) later) ∙ so_far.says (frame ∷ (others ++ later)) rest
-          ∙ ap (behind added) (shown_blocked mid.is_begun mid.place frame (others ++ later) rest is)
+          ∙ ap (with_first added) (shown_blocked mid.is_begun mid.place frame (others ++ later) rest is)
           ∙ ap (λ (ls : List (List ℕ)). ended ls (ending.NoHeader mid.place)) (append-nil added);
       count = so_far.count;
       few = omega (arith, so_far.few, so_far.place);

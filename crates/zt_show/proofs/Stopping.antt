@@ -10,16 +10,16 @@ use Rattle.zt_show.specs.declared.ending.Ending.{Ending}
 use Rattle.zt_show.specs.declared.ending.Ending.TheVariants as ending
 use Rattle.zt_show.specs.declared.progress.Progress.{Progress}
 use Rattle.zt_show.specs.Shown.{Shown, max_stream, ending_of, ending_at, shown_from, IsShownWhole, ending_before_more, before_more}
-use Rattle.zt_show.specs.Showing.{Showing, showing, behind, shown_on, size_of, Follows, Passes, Blocks, Stops, IsShownAs}
+use Rattle.zt_show.specs.Showing.{Showing, showing, with_first, shown_on, size_of, Follows, Passes, Blocks, Stops, IsShownAs}
 use Rattle.zt_show.proofs.Framings.{has_frames, framed_size, framed_none}
-use Rattle.zt_show.proofs.Passing.{behind-behind}
+use Rattle.zt_show.proofs.Passing.{with_first-with_first}
 
 -- ---- whole frames came, and a rest of which nothing is said yet
 
 pub record Came (seen : List ℕ) (lines : List (List ℕ)) (rest : List ℕ) (p : Progress) : Type 0 where
   pub frames : List (List ℕ)
   pub framed : Framed seen frames rest
-  pub says : (later : List (List ℕ)) (behind_them : List ℕ) → shown_from false 0 (frames ++ later) behind_them ≡ behind lines (shown_on p later behind_them)
+  pub says : (later : List (List ℕ)) (after_them : List ℕ) → shown_from false 0 (frames ++ later) after_them ≡ with_first lines (shown_on p later after_them)
   pub place : p.place + length rest ≡ length seen
   pub count : p.lines ≡ length lines
   pub few : p.lines ≤ p.place
@@ -32,11 +32,11 @@ pub Follows-from : (seen : List ℕ) (lines : List (List ℕ)) (rest : List ℕ)
 Follows-from seen lines rest p f good = record { frames = f.frames; framed = f.framed; good = good; says = f.says; place = f.place; count = f.count; few = f.few; room = f.room }
 
 -- what is said of more frames
-says_more : (frames more : List (List ℕ)) (lines added : List (List ℕ)) (p q : Progress) → ((later : List (List ℕ)) (rest : List ℕ) → shown_from false 0 (frames ++ later) rest ≡ behind lines (shown_on p later rest)) →
-    ((later : List (List ℕ)) (rest : List ℕ) → shown_on p (more ++ later) rest ≡ behind added (shown_on q later rest)) → (later : List (List ℕ)) (rest : List ℕ) →
-    shown_from false 0 ((frames ++ more) ++ later) rest ≡ behind (lines ++ added) (shown_on q later rest)
+says_more : (frames more : List (List ℕ)) (lines added : List (List ℕ)) (p q : Progress) → ((later : List (List ℕ)) (rest : List ℕ) → shown_from false 0 (frames ++ later) rest ≡ with_first lines (shown_on p later rest)) →
+    ((later : List (List ℕ)) (rest : List ℕ) → shown_on p (more ++ later) rest ≡ with_first added (shown_on q later rest)) → (later : List (List ℕ)) (rest : List ℕ) →
+    shown_from false 0 ((frames ++ more) ++ later) rest ≡ with_first (lines ++ added) (shown_on q later rest)
 says_more frames more lines added p q first second later rest =
-    ap (λ (fs : List (List ℕ)). shown_from false 0 fs rest) (append_assoc frames more later) ∙ first (more ++ later) rest ∙ ap (behind lines) (second later rest) ∙ behind-behind lines added (shown_on q later rest)
+    ap (λ (fs : List (List ℕ)). shown_from false 0 fs rest) (append_assoc frames more later) ∙ first (more ++ later) rest ∙ ap (with_first lines) (second later rest) ∙ with_first-with_first lines added (shown_on q later rest)
 
 -- the frames of a piece that all have lines; `q` is what `p` is with the room for the piece taken away
 pub Came-more : (seen bytes : List ℕ) (lines added frames : List (List ℕ)) (rest rest' : List ℕ) (p q r : Progress) → q.place ≡ p.place → q.is_begun ≡ p.is_begun → q.lines ≡ p.lines →
@@ -49,12 +49,12 @@ Came-more seen bytes lines added frames rest rest' p q r place begun count room 
     let few : q.lines ≤ q.place = omega (arith, came.few) in
     let fits : q.place + size_of frames ≤ max_stream = omega (arith, came.place, came.room) in
     let passed = passes few fits in
-    let same : (later : List (List ℕ)) (behind_them : List ℕ) → shown_on q later behind_them ≡ shown_on p later behind_them =
-    λ later behind_them. ap (λ (b : Bool). shown_from b q.place later behind_them) begun ∙ ap (λ (n : ℕ). shown_from p.is_begun n later behind_them) place in
+    let same : (later : List (List ℕ)) (after_them : List ℕ) → shown_on q later after_them ≡ shown_on p later after_them =
+    λ later after_them. ap (λ (b : Bool). shown_from b q.place later after_them) begun ∙ ap (λ (n : ℕ). shown_from p.is_begun n later after_them) place in
     record {
       frames = came.frames ++ frames;
       framed = framed_join seen bytes came.frames frames rest rest' came.framed framed;
-      says = says_more came.frames frames lines added p r came.says (λ later behind_them. sym (same (frames ++ later) behind_them) ∙ passed.says later behind_them);
+      says = says_more came.frames frames lines added p r came.says (λ later after_them. sym (same (frames ++ later) after_them) ∙ passed.says later after_them);
       place = omega (arith, passed.place, came.place);
       count = omega (arith, passed.count, came.count, length-append lines added);
       few = passed.few;
@@ -66,8 +66,8 @@ Came-more seen bytes lines added frames rest rest' p q r place begun count room 
 abbrev ended : List (List ℕ) → Ending → Shown
 ended lines end = record { lines = lines; ending = end }
 
-ended_lines : (lines : List (List ℕ)) (later : Shown) (end : Ending) → later ≡ record { lines = []; ending = end } → behind lines later ≡ record { lines = lines; ending = end }
-ended_lines lines later end is = ap (behind lines) is ∙ ap (λ (ls : List (List ℕ)). ended ls end) (append-nil lines)
+ended_lines : (lines : List (List ℕ)) (later : Shown) (end : Ending) → later ≡ record { lines = []; ending = end } → with_first lines later ≡ record { lines = lines; ending = end }
+ended_lines lines later end is = ap (with_first lines) is ∙ ap (λ (ls : List (List ℕ)). ended ls end) (append-nil lines)
 
 shown_rest : (p : Progress) (rest : List ℕ) → shown_on p [] rest ≡ ended [] (ending_at p.place rest)
 unfolding shown_from
@@ -102,8 +102,8 @@ Stops-blocked seen bytes lines added frames rest rest' p q r place begun count r
     let few : q.lines ≤ q.place = omega (arith, came.few) in
     let fits : q.place + size_of frames ≤ max_stream = omega (arith, came.place, came.room) in
     let blocked = blocks few fits in
-    let same : (later : List (List ℕ)) (behind_them : List ℕ) → shown_on q later behind_them ≡ shown_on p later behind_them =
-    λ later behind_them. ap (λ (b : Bool). shown_from b q.place later behind_them) begun ∙ ap (λ (n : ℕ). shown_from p.is_begun n later behind_them) place in
+    let same : (later : List (List ℕ)) (after_them : List ℕ) → shown_on q later after_them ≡ shown_on p later after_them =
+    λ later after_them. ap (λ (b : Bool). shown_from b q.place later after_them) begun ∙ ap (λ (n : ℕ). shown_from p.is_begun n later after_them) place in
     let whole = framed_join seen bytes came.frames frames rest rest' came.framed framed in
     record {
       shown = λ more.
@@ -112,7 +112,7 @@ Stops-blocked seen bytes lines added frames rest rest' p q r place begun count r
             has.1,
             framed_join (seen ++ bytes) more (came.frames ++ frames) has.0 rest' has.1 whole has.2,
             sym (ap (λ (fs : List (List ℕ)). shown_from false 0 fs has.1) (append_assoc came.frames frames has.0) ∙ came.says (frames ++ has.0) has.1
-                ∙ ap (behind lines) (sym (same (frames ++ has.0) has.1) ∙ blocked.says has.0 has.1)),
+                ∙ ap (with_first lines) (sym (same (frames ++ has.0) has.1) ∙ blocked.says has.0 has.1)),
           );
       stays = refl;
       count = omega (arith, blocked.count, came.count, length-append lines added);

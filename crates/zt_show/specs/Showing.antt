@@ -19,8 +19,8 @@ abbrev pub unshown : Showing
 unshown = record { rest = []; progress = record { is_begun = false; place = 0; room = max_stream; lines = 0 }; has_failed = false }
 
 -- lines that were shown before, and then what is shown later
-abbrev pub behind : List (List ℕ) → Shown → Shown
-behind lines later = record { lines = lines ++ later.lines; ending = later.ending }
+abbrev pub with_first : List (List ℕ) → Shown → Shown
+with_first lines later = record { lines = lines ++ later.lines; ending = later.ending }
 
 -- what is shown of later frames, from here on
 abbrev pub shown_on : Progress → List (List ℕ) → List ℕ → Shown
@@ -31,7 +31,7 @@ pub record Follows (seen : List ℕ) (lines : List (List ℕ)) (s : Showing) : T
   pub frames : List (List ℕ)
   pub framed : Framed seen frames s.rest
   pub good : bad_length s.rest ≡ None
-  pub says : (later : List (List ℕ)) (rest : List ℕ) → shown_from false 0 (frames ++ later) rest ≡ behind lines (shown_on s.progress later rest)
+  pub says : (later : List (List ℕ)) (rest : List ℕ) → shown_from false 0 (frames ++ later) rest ≡ with_first lines (shown_on s.progress later rest)
   pub place : s.progress.place + length s.rest ≡ length seen
   pub count : s.progress.lines ≡ length lines
   pub few : s.progress.lines ≤ s.progress.place
@@ -74,7 +74,7 @@ passed p size = record { is_begun = true; place = counted (counted (p.place + 4)
 
 -- each of the frames has a line; these are the lines, and they lead from the one progress to the other
 pub record Passes (frames added : List (List ℕ)) (old new : Progress) : Type 0 where
-  pub says : (later : List (List ℕ)) (rest : List ℕ) → shown_on old (frames ++ later) rest ≡ behind added (shown_on new later rest)
+  pub says : (later : List (List ℕ)) (rest : List ℕ) → shown_on old (frames ++ later) rest ≡ with_first added (shown_on new later rest)
   pub place : new.place ≡ old.place + size_of frames
   pub count : new.lines ≡ old.lines + length added
   pub few : new.lines ≤ new.place

@@ -78,18 +78,18 @@ pieces-spaced w (v ∷ ws) words =
     pieces-first 32 w (spaced (v ∷ ws)) (Lacks-word 32 w (omega arith) parts.0) ∙ ap (λ (vs : List (List ℕ)). w ∷ vs) (pieces-spaced v ws parts.1)
 
 -- no line feed stands between the words
-Lacks-behind : (ws : List (List ℕ)) → are_words ws ≡ true → Lacks 10 (flat_map (λ (v : List ℕ). 32 ∷ v) ws)
-Lacks-behind [] words = All-nil (λ b. (b == 10) ≡ false)
-Lacks-behind (w ∷ ws) words =
+Lacks-after : (ws : List (List ℕ)) → are_words ws ≡ true → Lacks 10 (flat_map (λ (v : List ℕ). 32 ∷ v) ws)
+Lacks-after [] words = All-nil (λ b. (b == 10) ≡ false)
+Lacks-after (w ∷ ws) words =
     let parts = and_parts (is_word w) (are_words ws) words in
     All-cons (λ b. (b == 10) ≡ false) 32 (w ++ flat_map (λ (v : List ℕ). 32 ∷ v) ws) refl
-    (All-append (λ b. (b == 10) ≡ false) w (flat_map (λ (v : List ℕ). 32 ∷ v) ws) (Lacks-word 10 w (omega arith) parts.0) (Lacks-behind ws parts.1))
+    (All-append (λ b. (b == 10) ≡ false) w (flat_map (λ (v : List ℕ). 32 ∷ v) ws) (Lacks-word 10 w (omega arith) parts.0) (Lacks-after ws parts.1))
 
 Lacks-spaced : (ws : List (List ℕ)) → are_words ws ≡ true → Lacks 10 (spaced ws)
 Lacks-spaced [] words = All-nil (λ b. (b == 10) ≡ false)
 Lacks-spaced (w ∷ ws) words =
     let parts = and_parts (is_word w) (are_words ws) words in
-    All-append (λ b. (b == 10) ≡ false) w (flat_map (λ (v : List ℕ). 32 ∷ v) ws) (Lacks-word 10 w (omega arith) parts.0) (Lacks-behind ws parts.1)
+    All-append (λ b. (b == 10) ≡ false) w (flat_map (λ (v : List ℕ). 32 ∷ v) ws) (Lacks-word 10 w (omega arith) parts.0) (Lacks-after ws parts.1)
 
 pub Lacks-line : (l : TranscriptLine) → Lacks 10 (spaced (line_words l))
 Lacks-line l = Lacks-spaced (line_words l) (line_words-are_words l)

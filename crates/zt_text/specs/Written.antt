@@ -13,8 +13,8 @@ word_text (Session id) = id_text id
 word_text (Hex bytes) = hex_text bytes.now
 
 -- words, each after a blank
-abbrev pub spaced_behind : List Word → List ℕ
-spaced_behind words = flat_map (λ (w : List ℕ). 32 ∷ w) (map word_text words)
+abbrev pub spaced_after : List Word → List ℕ
+spaced_after words = flat_map (λ (w : List ℕ). 32 ∷ w) (map word_text words)
 
 -- a line of these words
 abbrev pub text_of_words : List ℕ → List Word → List ℕ

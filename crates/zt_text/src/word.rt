@@ -3,7 +3,7 @@
 ghost use Rattle.std.specs.Prelude.{◌≡◌, ◌++◌, ◌∷◌, [], OnOk, OnErr, decimal, length, ◌*◌, take, vec_len};
 ghost use Rattle.std.specs.Fmt.{signed_decimal};
 ghost use Rattle.zt_text.specs.Transcripts.{hex_digits as hex_digits_of, hex_text, id_text};
-ghost use Rattle.zt_text.specs.Written.{spaced_behind, word_text, text_of_words};
+ghost use Rattle.zt_text.specs.Written.{spaced_after, word_text, text_of_words};
 
 use itoa::Buffer;
 use zx_base::Memory;
@@ -103,7 +103,7 @@ fn push_word(out: &mut Vec<u8>, word: &Word<'_>) -> Result<(), Memory>
 
 /// Adds words, each after a blank. Without memory, some of them may have been added.
 fn push_spaced(out: &mut Vec<u8>, words: &[Word<'_>]) -> Result<(), Memory>
-    ensures ok { OnOk result (out.new.items ≡ out.old.items ++ spaced_behind words.now) }
+    ensures ok { OnOk result (out.new.items ≡ out.old.items ++ spaced_after words.now) }
     ensures err { OnErr result (take (vec_len out.old) out.new.items ≡ out.old.items) }
 {
     for word in words {

@@ -26,7 +26,7 @@ abbrev pub IsRun : ℤ → List Entry → Type 0
 IsRun n [] = Unit {0}
 IsRun n (e ∷ es) = (e.number ≡ n +ℤ pos 1) × (pos 0 ≤ℤ e.zxid) × (e.zxid <ℤ pos (2 ^ 62)) × IsRun (n +ℤ pos 1) es
 
--- the list with these entries behind its own
+-- the list with these entries after its own
 abbrev pub with_entries : Published → List Entry → Published
 with_entries list es = record list { entries = list.entries ++ es }
 

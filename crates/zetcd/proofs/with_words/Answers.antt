@@ -3,7 +3,7 @@ use Rattle.std.specs.Vec.Iter.{into_iter_items}
 use Rattle.zetcd_cmd.specs.Proxying.{NamesServe}
 use Rattle.zetcd_cmd.specs.Serving.{NamesEtcd}
 use Rattle.zetcd.specs.Arguments.{IsNoProxying, IsNoServing, IsProxying, IsServing, arguments}
-use Rattle.zetcd.proofs.Arguments.{texts, is_word-texts, texts-is_word, arguments-behind, serving-etcd, etcd-serving, proxying-serve, serve-proxying}
+use Rattle.zetcd.proofs.Arguments.{texts, is_word-texts, texts-is_word, arguments-after, serving-etcd, etcd-serving, proxying-serve, serve-proxying}
 use Rattle.zetcd.proofs.with_words.Given.{Over}
 use Rattle.zetcd.proofs.with_words.Goals as goal
 
@@ -11,7 +11,7 @@ use Rattle.zetcd.proofs.with_words.Goals as goal
 handed : (g : Over) (c : goal.After-drop-words-3 g) → texts c.as_slice-2.result.now ≡ arguments (into_iter_items c.args.args)
 handed g c =
     ap texts c.as_slice-2.ensures.value ∙ c.in_ok-words-2.ensures
-    ∙ arguments-behind c.as_slice.result.now c.min-behind_name.result (grind (arith, c.min-behind_name.ensures, c.len.ensures, c.as_slice.ensures))
+    ∙ arguments-after c.as_slice.result.now c.min-after_name.result (grind (arith, c.min-after_name.ensures, c.len.ensures, c.as_slice.ensures))
     ∙ ap arguments (c.as_slice.ensures.value ∙ c.in_ok-words.ensures)
 
 pub returns-clause-replay : goal.returns-clause-replay

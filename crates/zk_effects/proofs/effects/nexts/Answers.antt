@@ -15,9 +15,9 @@ loop-back-preserved c =
     let inside : back < length all = grind (arith, c.loop-back-test.true) in
     let within : place < length all = omega (arith, inside) in
     let shown : slice_get all place ≡ Some c.index-all-place.result = slice_get_read all (length all) place c.index-all-place.result refl within c.index-all-place.is in
-    let behind : length all - back ≡ place + 1 = omega (arith, inside) in
+    let after : length all - back ≡ place + 1 = omega (arith, inside) in
     let counted : place ≡ length all - length c.loop-back.nexts.items = omega (arith, inside, c.loop-back.invariant.len) in
-    let now : IsNext all place next = c.next_at-next.ensures all shown within (subst (λ (k : ℕ). IsNext all k c.loop-back.next) behind c.loop-back.invariant.last) in
+    let now : IsNext all place next = c.next_at-next.ensures all shown within (subst (λ (k : ℕ). IsNext all k c.loop-back.next) after c.loop-back.invariant.last) in
     let moved : place ≡ length all - (back + 1) = omega (arith, inside) in
     let more = c.in_ok-push-2.ensures.items in
     record {

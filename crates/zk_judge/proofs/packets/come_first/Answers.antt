@@ -2,9 +2,9 @@ use Rattle.std.proofs.Common.{◌≡◌, ◌+◌, ◌∷◌, [], List, Some, fal
 use Rattle.std.specs.Prelude.{◌&&◌, bytes_eq, nat_le}
 use Rattle.std.proofs.lemmas.List.{at_drop_all, at_drop_more}
 use Rattle.zk_transcript.specs.Walks.{Due}
-use Rattle.zk_least.specs.LeastWalk.{behind}
+use Rattle.zk_least.specs.LeastWalk.{rest_after}
 use Rattle.zk_judge.specs.Sent.{packets_in}
-use Rattle.zk_judge.proofs.Behind.{behind-given, behind-refused, drop-next, next-within}
+use Rattle.zk_judge.proofs.RestAfter.{rest_after-given, rest_after-refused, drop-next, next-within}
 use Rattle.zk_judge.proofs.packets.come_first.Goals as goal
 
 pub returns-in_default-clause-rest : goal.returns-in_default-clause-rest
@@ -13,8 +13,8 @@ returns-in_default-clause-rest c =
     let i = c.loop-wanted.wanted-index in
     let d : Due = c.wanted-item.result in
     c.loop-wanted.invariant.rest
-    ∙ ap (behind (drop i due)) c.in_default.ensures
-    ∙ at_drop_more (λ (ds : List Due). behind ds []) due i d c.loop-wanted-test.true
+    ∙ ap (rest_after (drop i due)) c.in_default.ensures
+    ∙ at_drop_more (λ (ds : List Due). rest_after ds []) due i d c.loop-wanted-test.true
 
 pub returns-then-not-is_given-clause-rest : goal.returns-then-not-is_given-clause-rest
 returns-then-not-is_given-clause-rest c =
@@ -25,10 +25,10 @@ returns-then-not-is_given-clause-rest c =
     let ps = packets_in c.in-Some.rest in
     let not : (nat_le d.0 p.0 && bytes_eq d.1 p.1) ≡ false = sym c.is_given.ensures ∙ c.if-not-is_given.true in
     c.loop-wanted.invariant.rest
-    ∙ ap (behind (drop i due)) c.in-Some.ensures
-    ∙ at_drop_more (λ (ds : List Due). behind ds (p ∷ ps)) due i d c.loop-wanted-test.true
-    ∙ ap (λ (e : Due). behind (e ∷ drop (i + 1) due) (p ∷ ps)) (sym c.wanted-item.is)
-    ∙ behind-refused d p (drop (i + 1) due) ps not
+    ∙ ap (rest_after (drop i due)) c.in-Some.ensures
+    ∙ at_drop_more (λ (ds : List Due). rest_after ds (p ∷ ps)) due i d c.loop-wanted-test.true
+    ∙ ap (λ (e : Due). rest_after (e ∷ drop (i + 1) due) (p ∷ ps)) (sym c.wanted-item.is)
+    ∙ rest_after-refused d p (drop (i + 1) due) ps not
 
 pub loop-wanted-preserved : goal.loop-wanted-preserved
 loop-wanted-preserved c =
@@ -42,10 +42,10 @@ loop-wanted-preserved c =
     let at : p ∷ ps ≡ drop i whole = sym c.in-Some.ensures ∙ c.loop-wanted.invariant.left in
     record {
       rest = c.loop-wanted.invariant.rest
-          ∙ ap (behind (drop i due)) c.in-Some.ensures
-          ∙ at_drop_more (λ (ds : List Due). behind ds (p ∷ ps)) due i d c.loop-wanted-test.true
-          ∙ ap (λ (e : Due). behind (e ∷ drop (i + 1) due) (p ∷ ps)) (sym c.wanted-item.is)
-          ∙ behind-given d p (drop (i + 1) due) ps given;
+          ∙ ap (rest_after (drop i due)) c.in-Some.ensures
+          ∙ at_drop_more (λ (ds : List Due). rest_after ds (p ∷ ps)) due i d c.loop-wanted-test.true
+          ∙ ap (λ (e : Due). rest_after (e ∷ drop (i + 1) due) (p ∷ ps)) (sym c.wanted-item.is)
+          ∙ rest_after-given d p (drop (i + 1) due) ps given;
       left = drop-next whole ps i p at;
       within = next-within whole ps i p c.loop-wanted.invariant.within at;
       few = omega (arith, c.loop-wanted-test.true);
@@ -58,6 +58,6 @@ returns-clause-rest c =
     let few = c.loop-wanted.invariant.few in
     let all : i ≡ length due = omega (arith, few, c.loop-wanted-test.false) in
     c.loop-wanted.invariant.rest
-    ∙ at_drop_all (λ (ds : List Due). behind ds (packets_in c.loop-wanted.left)) due i c.loop-wanted-test.false
+    ∙ at_drop_all (λ (ds : List Due). rest_after ds (packets_in c.loop-wanted.left)) due i c.loop-wanted-test.false
     ∙ ap (λ (ds : List Due). Some ds) c.loop-wanted.invariant.left
     ∙ ap (λ k. Some (drop k (packets_in c.args.packets))) all

@@ -12,7 +12,7 @@ use Rattle.zn_view.specs.Leaving.{node_path}
 use Rattle.zn_view.specs.Views.{about_parent}
 use Rattle.zn_updates.specs.KeysRead.{plain_data, session_nodes}
 use Rattle.zn_multi.specs.Reading.{create_reads, sequence_data, AreCountsAbove, IsCreateLeft}
-use Rattle.zn_multi.proofs.ReadKeys.{keys_behind}
+use Rattle.zn_multi.proofs.ReadKeys.{keys_after}
 use Rattle.zn_multi.proofs.reading.read_named.Goals as goal
 
 shorter : (o : Option Bytes) (p : Bytes) → IfSome o (λ q. length q < length p) → length p ≤ max_path → IfSome o (λ q. length q ≤ max_path)
@@ -38,11 +38,11 @@ returns c =
     let up : above ≡ parent c.args.named = c.in_ok-parent.ensures.parent in
     let node : Option Bytes = c.in_ok-node.node in
     let first : c.push_parent.new.keys ≡ map key_bytes (about_parent above) = c.in_ok-push_parent.ensures ∙ ap (λ (l : List Bytes). l ++ map key_bytes (about_parent above)) c.new-keys.ensures in
-    let second = keys_behind _ (about_parent above) (plain_data c.args.sequential path) _ first c.in_ok-push_data.ensures in
+    let second = keys_after _ (about_parent above) (plain_data c.args.sequential path) _ first c.in_ok-push_data.ensures in
     let own : c.push_session.new.keys ≡ c.push_data.new.keys ++ map key_bytes (session_nodes c.args.ephemeral c.args.session) =
     subst (λ (o : ℤ). c.push_session.new.keys ≡ c.push_data.new.keys ++ map key_bytes (session_nodes c.args.ephemeral o)) session c.in_ok-push_session.ensures in
-    let third = keys_behind _ (about_parent above ++ plain_data c.args.sequential path) (session_nodes c.args.ephemeral c.args.session) _ second own in
-    let last = keys_behind _ ((about_parent above ++ plain_data c.args.sequential path) ++ session_nodes c.args.ephemeral c.args.session) (sequence_data c.args.sequential node) _ third c.in_ok-push_sequence.ensures in
+    let third = keys_after _ (about_parent above ++ plain_data c.args.sequential path) (session_nodes c.args.ephemeral c.args.session) _ second own in
+    let last = keys_after _ ((about_parent above ++ plain_data c.args.sequential path) ++ session_nodes c.args.ephemeral c.args.session) (sequence_data c.args.sequential node) _ third c.in_ok-push_sequence.ensures in
     let counts : Option (Option CountRec) = c.in_ok-counts.counts in
     let named_is : node ≡ node_path c.args.sequential path counts = c.in_ok-node.ensures in (
       create_reads c.args.session path c.args.sequential c.args.ephemeral above node,

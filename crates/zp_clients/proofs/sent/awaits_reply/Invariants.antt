@@ -1,4 +1,4 @@
--- The lines that are left decide: none of those behind them tells.
+-- The lines that are left decide: none of those after them tells.
 use Rattle.std.proofs.Common.{◌≡◌, ◌≤◌, length, take}
 use Rattle.zp_clients.specs.Sent.{awaits_reply}
 use Rattle.zp_clients.proofs.sent.awaits_reply.Given as goal

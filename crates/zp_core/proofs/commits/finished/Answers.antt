@@ -3,7 +3,7 @@ use Rattle.std.proofs.Common.{None, ◌∙◌, rules, w32, w64}
 use Rattle.std.proofs.lemmas.Int.{to_z-of_z}
 use mir.Val.{SFits}
 use Rattle.zn_view.specs.Needs.{finished}
-use Rattle.zp_step.specs.Plans.{end_behind}
+use Rattle.zp_step.specs.Plans.{end_after}
 use Rattle.zp_step.specs.Stages.{AddsWatch}
 use Rattle.zp_core.proofs.commits.finished.Goals as goal
 
@@ -15,5 +15,5 @@ returns c =
     let zxid = to_z-of_z w64 _ c.ranges.revision in
     let xid = to_z-of_z w32 _ xid_fits ∙ (λ i. (c.deref-2.ensures i).xid) ∙ (λ i. (c.deref.ensures i).task.value.xid) in
     let answer = c.in_ok-answer.ensures ∙ (λ i. finished (zxid i) (c.into_inner.ensures i).plan.draft) in
-    let ends = c.end_behind-ends.ensures ∙ (λ i. end_behind (c.deref-4.ensures i).request) ∙ (λ i. end_behind (c.deref-3.ensures i).task.value.request) in
+    let ends = c.end_after-ends.ensures ∙ (λ i. end_after (c.deref-4.ensures i).request) ∙ (λ i. end_after (c.deref-3.ensures i).task.value.request) in
     (λ i. record { number = number i; zxid = zxid i; xid = xid i; answer = answer i; change = AddsWatch None; ends = ends i })

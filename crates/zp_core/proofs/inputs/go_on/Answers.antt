@@ -11,10 +11,10 @@ pub frames-preserved : goal.frames-preserved
 frames-preserved c =
     let next : IsNext c.frames.client (stage_of c.frames.stage) c.next_frame.new.client c.in-Some.frame = c.in-Some.ensures in
     let here = core_of c.frames.client (stage_of c.frames.stage) in
-    let behind = core_of c.take_next.new.client (stage_of c.take_next.new.stage) in
-    let taken = subst (λ (x : Core). TakesUp x c.in-Some.frame c.args.now behind c.in_ok-more.more) next.rest c.in_ok-more.ensures in
+    let after = core_of c.take_next.new.client (stage_of c.take_next.new.stage) in
+    let taken = subst (λ (x : Core). TakesUp x c.in-Some.frame c.args.now after c.in_ok-more.more) next.rest c.in_ok-more.ensures in
     rw c.in_ok-append.ensures
-    (continues-takes c.args.now (core_of c.args.client.now (stage_of c.args.stage.now)) here behind c.args.actions.now.items c.frames.actions.items c.in_ok-more.more c.in-Some.frame c.next_frame.new.client.waiting.items
+    (continues-takes c.args.now (core_of c.args.client.now (stage_of c.args.stage.now)) here after c.args.actions.now.items c.frames.actions.items c.in_ok-more.more c.in-Some.frame c.next_frame.new.client.waiting.items
     c.frames.invariant next.is_ready next.first taken)
 
 pub returns : goal.returns

@@ -6,7 +6,7 @@ use Rattle.zn_layout.specs.Keys.{CountsKey}
 use Rattle.zn_view.specs.Lookups.{sees}
 use Rattle.zx_base.specs.Maps.{Bytes}
 use Rattle.zs_close.proofs.Told.{parent-absent, parent-there}
-use Rattle.zs_close.proofs.WritesBehind.{nothing-behind, put-behind}
+use Rattle.zs_close.proofs.WritesAfter.{nothing-after, put-after}
 use Rattle.zs_close.proofs.changes.push_counts.Goals as goal
 
 pub counts_at-requires-clause-short : goal.counts_at-requires-clause-short
@@ -26,8 +26,8 @@ returns-clause-told c = λ counts tells rest.
     (subst (λ (p : Bytes). sees c.args.view.now (CountsKey p) ≡ Some (Some c.in-Some.field-0-1.now)) c.bytes.ensures found.0)
     found.1 c.in_ok-push_fewer.ensures
 
-pub returns-in_default-clause-behind : goal.returns-in_default-clause-behind
-returns-in_default-clause-behind c = nothing-behind c.args.acts.now
+pub returns-in_default-clause-after : goal.returns-in_default-clause-after
+returns-in_default-clause-after c = nothing-after c.args.acts.now
 
-pub returns-clause-behind : goal.returns-clause-behind
-returns-clause-behind c = put-behind c.args.acts.now c.push_fewer.new.acts _ _ c.in_ok-push_fewer.ensures
+pub returns-clause-after : goal.returns-clause-after
+returns-clause-after c = put-after c.args.acts.now c.push_fewer.new.acts _ _ c.in_ok-push_fewer.ensures

@@ -4,8 +4,8 @@ use Rattle.std.proofs.lemmas.Result.{on_ok_weaker}
 use Rattle.zp_world.proofs.Serving.{acted-on}
 use Rattle.zp_world.proofs.world.World.act_on_frame.Goals as goal
 
-pub returns-clause-behind : goal.returns-clause-behind
-returns-clause-behind c = c.act.ensures.behind
+pub returns-clause-after : goal.returns-clause-after
+returns-clause-after c = c.act.ensures.after
 
 pub returns-clause-done : goal.returns-clause-done
 returns-clause-done c =

@@ -14,7 +14,7 @@ hand-requires c = λ x core there is.
     let wanted = cursor-wanted c.args.self.now c.args.connection x core c.in-Some.cursor there is at in
     let lagging : int_lt (c.in-Some.cursor +ℤ pos 4096) (pos (length c.args.self.now.entries)) ≡ true = sym (ap (is_lagging_at (length c.args.self.now.entries)) at) ∙ (lag-serves c.args.connection c.args.self.now c.requires).1 in
     let same : to_z w64 (of_z w64 c.in-Some.cursor) ≡ c.in-Some.cursor = search rules in
-    rw same (record { awaited = awaits-next core c.in-Some.cursor wanted; behind = cursor-is core c.in-Some.cursor wanted; above = grind (arith, ints, lagging) }, inr (_, refl))
+    rw same (record { awaited = awaits-next core c.in-Some.cursor wanted; own = cursor-is core c.in-Some.cursor wanted; above = grind (arith, ints, lagging) }, inr (_, refl))
 
 pub returns-in_default : goal.returns-in_default
 returns-in_default c = absurd (entry-cursor c.args.connection c.args.self.now (lag-serves c.args.connection c.args.self.now c.requires).0 (sym c.cursor_of.ensures ∙ c.in_default.is))

@@ -12,7 +12,7 @@ act-requires-clause-leaves c = leaves-free c.args.core c.step.new.self c.args.in
 pub returns : goal.returns
 returns c =
     let at = ap (λ (w : World). w.clock) c.self.view_is in
-    let none = c.into_iter-behind.ensures.rest ∙ c.new.ensures.items in
+    let none = c.into_iter-after.ensures.rest ∙ c.new.ensures.items in
     on_ok_weaker c.act.result
     (stepped-by c.args.connection c.args.self.now c.args.self.now (left c.args.seat) c.args.core c.step.new.self c.args.flight c.args.input.now c.self.inside.clock c.in_ok-out.out.items _ c.act.new.self
     refl at (ap (frame_lines c.args.connection c.args.seat.frames _) none) c.in_ok-out.ensures.ok) c.act.ensures.done

@@ -9,7 +9,7 @@ use Rattle.zp_step.specs.Stages.{counted_up}
 use Rattle.zp_world.specs.Taking.{left_next, shown}
 use Rattle.std.proofs.lemmas.Result.{on_ok_weaker}
 use Rattle.zp_script.specs.Worlds.{Connection, World}
-use Rattle.zp_world.proofs.Serving.{fit-flying, left-behind, on-ok-both, stepped-frame}
+use Rattle.zp_world.proofs.Serving.{fit-flying, left-after, on-ok-both, stepped-frame}
 use Rattle.zp_world.proofs.Standing.{leaves-frame}
 use Rattle.zp_world.proofs.world.World.step_by_frame.Goals as goal
 
@@ -19,11 +19,11 @@ act_on_frame-requires-clause-leaves c = leaves-frame c.args.core c.step_with.new
 pub act_on_frame-requires-clause-fit : goal.act_on_frame-requires-clause-fit
 act_on_frame-requires-clause-fit c = fit-flying c.args.core c.args.flight c.requires.served.flies
 
-pub returns-clause-behind : goal.returns-clause-behind
-returns-clause-behind c =
+pub returns-clause-after : goal.returns-clause-after
+returns-clause-after c =
     let z : ℤ = to_z w64 (of_z w64 c.args.zxid) in
-    on-ok-both c.act_on_frame.result c.act_on_frame.ensures.behind c.act_on_frame.ensures.done (λ left done. left-behind c.args.connection (shown c.args.connection c.args.self.now z c.args.seat c.in_ok-stepped.stepped.bytes) c.act_on_frame.new.self (left_next c.args.seat) c.step_with.new.core
-    (acts_all c.args.connection (kind_asked c.args.connection (Connection c.step_with.new.core)) (frame_lines c.args.connection (counted_up (c.args.seat.frames + 1)) z (into_iter_items c.args.behind.now)) c.args.flight c.in_ok-stepped.stepped.out.items) _ _ left done)
+    on-ok-both c.act_on_frame.result c.act_on_frame.ensures.after c.act_on_frame.ensures.done (λ left done. left-after c.args.connection (shown c.args.connection c.args.self.now z c.args.seat c.in_ok-stepped.stepped.bytes) c.act_on_frame.new.self (left_next c.args.seat) c.step_with.new.core
+    (acts_all c.args.connection (kind_asked c.args.connection (Connection c.step_with.new.core)) (frame_lines c.args.connection (counted_up (c.args.seat.frames + 1)) z (into_iter_items c.args.after.now)) c.args.flight c.in_ok-stepped.stepped.out.items) _ _ left done)
 
 pub returns-clause-done : goal.returns-clause-done
 returns-clause-done c =

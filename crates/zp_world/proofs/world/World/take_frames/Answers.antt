@@ -18,7 +18,7 @@ take_frame-requires c = All-head (λ (f : List ℕ). length f ≤ max_frame) _ _
 
 pub loop-frame-preserved : goal.loop-frame-preserved
 loop-frame-preserved c =
-    coming-next c.args.connection (to_z w64 (of_z w64 c.args.zxid)) c.args.self.now c.loop-frame.self c.take_frame.new.self (into_iter_items c.into_iter-coming.result) c.in-Some.frame (into_iter_items c.next.new.self) (into_iter_items c.take_frame.new.behind)
+    coming-next c.args.connection (to_z w64 (of_z w64 c.args.zxid)) c.args.self.now c.loop-frame.self c.take_frame.new.self (into_iter_items c.into_iter-coming.result) c.in-Some.frame (into_iter_items c.next.new.self) (into_iter_items c.take_frame.new.after)
     (subst (λ (fs : List (List ℕ)). AreComing c.args.connection (to_z w64 (of_z w64 c.args.zxid)) c.args.self.now (into_iter_items c.into_iter-coming.result) c.loop-frame.self fs) c.in-Some.ensures.items c.loop-frame.invariant) c.in_ok-take_frame.ensures.left c.in_ok-take_frame.ensures.takes
 
 pub loop-frame-smaller : goal.loop-frame-smaller

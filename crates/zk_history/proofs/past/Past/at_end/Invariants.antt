@@ -1,5 +1,5 @@
 use Rattle.std.proofs.Common.{◌≡◌}
-use Rattle.zk_history.proofs.past.Past.behind.Given as goal
+use Rattle.zk_history.proofs.past.Past.at_end.Given as goal
 
 abbrev pub invariant-loop-place : goal.invariant-loop-place
 invariant-loop-place l = record {

@@ -2,32 +2,32 @@
 use Rattle.std.proofs.Common.{◌≡◌, ℕ, zero, suc, ◌+◌, ◌<◌, ◌≤◌, ap, sym, ◌∙◌, drop, Bool, true, false, ◌&&◌, List, [], ◌∷◌, length, length-drop, Option, Some, None, refl, arith}
 use Rattle.std.specs.Prelude.{nat_le, bytes_eq, if◌then◌else◌}
 use Rattle.zk_transcript.specs.Walks.{Due}
-use Rattle.zk_least.specs.LeastWalk.{behind}
+use Rattle.zk_least.specs.LeastWalk.{rest_after}
 
 either-none : (b : Bool) (o : Option (List Due)) → o ≡ None → (if b then o else None) ≡ None
 either-none true o none = none
 either-none false o none = refl
 
 -- fewer packets are left than are due
-pub behind-short : (ds ps : List Due) → length ps < length ds → behind ds ps ≡ None
-behind-short [] ps less = absurd (omega arith)
-behind-short (d ∷ ds) [] less = refl
-behind-short (d ∷ ds) (p ∷ ps) less = either-none (nat_le d.0 p.0 && bytes_eq d.1 p.1) (behind ds ps) (behind-short ds ps (omega arith))
+pub rest_after-short : (ds ps : List Due) → length ps < length ds → rest_after ds ps ≡ None
+rest_after-short [] ps less = absurd (omega arith)
+rest_after-short (d ∷ ds) [] less = refl
+rest_after-short (d ∷ ds) (p ∷ ps) less = either-none (nat_le d.0 p.0 && bytes_eq d.1 p.1) (rest_after ds ps) (rest_after-short ds ps (omega arith))
 
 -- packet by packet
-pub behind-refused : (d p : Due) (ds ps : List Due) → (nat_le d.0 p.0 && bytes_eq d.1 p.1) ≡ false → behind (d ∷ ds) (p ∷ ps) ≡ None
-behind-refused d p ds ps not = ap (λ (b : Bool). if b then behind ds ps else None) not
+pub rest_after-refused : (d p : Due) (ds ps : List Due) → (nat_le d.0 p.0 && bytes_eq d.1 p.1) ≡ false → rest_after (d ∷ ds) (p ∷ ps) ≡ None
+rest_after-refused d p ds ps not = ap (λ (b : Bool). if b then rest_after ds ps else None) not
 
-pub behind-given : (d p : Due) (ds ps : List Due) → (nat_le d.0 p.0 && bytes_eq d.1 p.1) ≡ true → behind (d ∷ ds) (p ∷ ps) ≡ behind ds ps
-behind-given d p ds ps due = ap (λ (b : Bool). if b then behind ds ps else None) due
+pub rest_after-given : (d p : Due) (ds ps : List Due) → (nat_le d.0 p.0 && bytes_eq d.1 p.1) ≡ true → rest_after (d ∷ ds) (p ∷ ps) ≡ rest_after ds ps
+rest_after-given d p ds ps due = ap (λ (b : Bool). if b then rest_after ds ps else None) due
 
 -- how many packets are left after those that were due
-pub behind-length : (ds ps rest : List Due) → behind ds ps ≡ Some rest → length ds + length rest ≡ length ps
-behind-length [] ps rest h = (let e : ps ≡ rest = cc in omega (arith, ap (λ (l : List Due). length l) e))
-behind-length (d ∷ ds) [] rest h = absurd (cc)
-behind-length (d ∷ ds) (p ∷ ps) rest h = by (nat_le d.0 p.0 && bytes_eq d.1 p.1) (behind-length ds ps rest) h
+pub rest_after-length : (ds ps rest : List Due) → rest_after ds ps ≡ Some rest → length ds + length rest ≡ length ps
+rest_after-length [] ps rest h = (let e : ps ≡ rest = cc in omega (arith, ap (λ (l : List Due). length l) e))
+rest_after-length (d ∷ ds) [] rest h = absurd (cc)
+rest_after-length (d ∷ ds) (p ∷ ps) rest h = by (nat_le d.0 p.0 && bytes_eq d.1 p.1) (rest_after-length ds ps rest) h
   where
-    by : (b : Bool) → (behind ds ps ≡ Some rest → length ds + length rest ≡ length ps) → (if b then behind ds ps else None) ≡ Some rest → length (d ∷ ds) + length rest ≡ length (p ∷ ps)
+    by : (b : Bool) → (rest_after ds ps ≡ Some rest → length ds + length rest ≡ length ps) → (if b then rest_after ds ps else None) ≡ Some rest → length (d ∷ ds) + length rest ≡ length (p ∷ ps)
     by true later e = omega (arith, later e)
     by false later e = absurd (cc)
 

@@ -2,7 +2,7 @@ use Rattle.std.proofs.Common.{rules, eqb, false, ◌≡◌, [], ◌++◌, length
 use Rattle.std.proofs.lemmas.List.{nil_from_length}
 use Rattle.zk_jute.specs.Frames.{bad_length}
 use Rattle.zk_wire.proofs.Pieces.{hands_none, hands_some, not_empty}
-use Rattle.zk_wire.proofs.cutter.Cutter.take_behind.Goals as goal
+use Rattle.zk_wire.proofs.cutter.Cutter.take_after.Goals as goal
 
 pub returns-then-is_empty-clause-takes : goal.returns-then-is_empty-clause-takes
 returns-then-is_empty-clause-takes c =
