@@ -1,7 +1,7 @@
 #!/usr/bin/env bash
 # Refuses each allocation of a run in turn, one in each run, and says how the runs end. Of `replay`, `show` and `judge`, on each worked
 # example: with status 7, after a front of what is written otherwise, or as if nothing had been refused, where the memory was not
-# needed. Of one connection over streams in memory, and of a hub: for want of memory. Of `zetcd etcd`, with seven asks, and `zetcd serve`,
+# needed. Of one connection over streams in memory, and of a hub: as memory ran out. Of `zetcd etcd`, with seven asks, and `zetcd serve`,
 # with two ZooKeeper clients over a `zetcd etcd` that lacks none: the connection is closed or the server ends, every answer that came is
 # right, the store has all of each transaction or nothing of it, and it has each one that was answered. Status 6 stands for a door, a dial
 # or a thread that the system did not give, since it found no memory itself. Of a server's threads, which allocation has a number differs

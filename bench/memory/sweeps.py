@@ -115,6 +115,6 @@ def rows(run):
             it.write(HUB)
 
         def is_told(status, relation, said):
-            return "want of memory" if status == 1 and relation == "front" and "memory" in said.lower() else None
+            return "out of memory" if status == 1 and relation == "front" and "memory" in said.lower() else None
 
         yield lambda: sweep(run, "hub", [run.hub_rows], script, is_told, READ.encode())

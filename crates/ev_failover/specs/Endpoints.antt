@@ -31,7 +31,7 @@ is_sent (Err fault.NotSent) = false
 is_sent (Err fault.Failed) = true
 is_sent (Err fault.Memory) = true
 
--- a call that was not sent counts as one, and so does one that failed; want of memory does not
+-- a call that was not sent counts as one, and so does one that failed; one that ran out of memory does not
 abbrev pub faults_after : Result Answer EndFault → ℕ → ℕ
 faults_after (Ok a) count = count
 faults_after (Err fault.NotSent) count = one_more count

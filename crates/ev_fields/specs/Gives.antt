@@ -4,7 +4,7 @@ use Rattle.ev_fields.specs.declared.field.Field.{Field}
 use Rattle.ev_fields.specs.declared.fault.JsonFault.{JsonFault}
 use Rattle.ev_fields.specs.declared.fault.JsonFault.TheVariants as fault
 
--- the fault names the member that the reading names, or is want of memory
+-- the fault names the member that the reading names, or is out of memory
 abbrev pub Fails : {A : Type 0} → JsonFault → Result A Field → Type 0
 Fails fault.Memory reading = ⊤
 Fails fault.NotJson reading = ⊥

@@ -1,4 +1,4 @@
-//! Reads members of a JSON object, by their kinds. Each fault names the member, unless it is want of memory.
+//! Reads members of a JSON object, by their kinds. Each fault names the member, unless it is out of memory.
 
 ghost use Rattle.std.specs.Prelude.{◌≡◌, ◌≤◌, ◌^◌, List, Option, Some, None, option_map};
 ghost use Rattle.std.specs.List.{list_all};

@@ -23,7 +23,7 @@ use zx_outside::{Sink, Source};
 pub enum GatewayEnd {
     /// The source ended between two messages.
     Ended,
-    /// What came is no request, the source was idle or had a fault, or a write failed. Never want of memory.
+    /// What came is no request, the source was idle or had a fault, or a write failed. Never out of memory.
     Http(HttpFault),
     /// The client of a watch went away, or sent more before the watch had ended.
     Left,

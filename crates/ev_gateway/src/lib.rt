@@ -9,7 +9,7 @@
 //!
 //! # Limits
 //!
-//! What is no HTTP request ends the connection, as does want of memory: then nothing of an answer was sent, or a front of a watch's
+//! What is no HTTP request ends the connection, as does running out of memory: then nothing of an answer was sent, or a front of a watch's
 //! stream. A watch holds its connection until the store is closed, a write fails, its revision was compacted, or its client goes away
 //! or sends more: about once a second it looks whether one of these is so (`specs/Looking`). What the client sent then is not answered.
 #![tactic(auto)]

@@ -15,7 +15,7 @@
 //!
 //! What is no such message gives an [`HttpFault`] that says why, and for a fault in the framing where, counted from the first
 //! byte of the message. A whole message within the limits is read, however its bytes are cut into reads: then only the source
-//! and want of memory can be at fault.
+//! and memory can be at fault.
 //!
 //! [`Lines::next`] gives the lines of a response's body in turn, across chunks. After `Idle`, `ReadFault` and `Ended` the
 //! next call goes on where the last one stopped, and nothing is lost; any other fault is for good.

@@ -154,7 +154,7 @@ fn with_route(route: Route, body: Result<Vec<u8>, HttpFault>) -> Result<(Route, 
 }
 
 /// Reads one request to the gateway, and no byte after it (RFC 9112): its route, and its body of at most 8,388,608 bytes. A whole
-/// request within the limits is read: then only the source and want of memory can be at fault. After a fault, what was taken of
+/// request within the limits is read: then only the source and memory can be at fault. After a fault, what was taken of
 /// the request is lost.
 pub fn read_request<S: Source>(alloc: Global, source: &mut S) -> Result<(Route, Vec<u8>), HttpFault>
     ensures answer { (bytes : List ℕ) × (tally : Tally)

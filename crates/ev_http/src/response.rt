@@ -74,7 +74,7 @@ fn take_response<S: Source>(alloc: Global, source: &mut S) -> Result<Vec<u8>, Ht
 
 /// Reads one response of the gateway, and no byte after it (RFC 9112): its body, of at most 8,388,608 bytes. A body without a
 /// framing field lasts to the source's end. A whole response of status 200 within the limits is read: then only the source and
-/// want of memory can be at fault. After a fault, what was taken of the response is lost; after `Status`, its body is not taken.
+/// memory can be at fault. After a fault, what was taken of the response is lost; after `Status`, its body is not taken.
 ///
 /// The head is taken byte by byte, the body in pieces of up to 4,096 bytes, each of which is copied once.
 pub fn read_response<S: Source>(alloc: Global, source: &mut S) -> Result<Vec<u8>, HttpFault>

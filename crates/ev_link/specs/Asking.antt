@@ -34,7 +34,7 @@ abbrev pub sink_told : {K : Type 0} → (K → Option (List ℕ)) → (K → Out
 sink_told taken counts name sink = record { taken = taken sink; counts = counts sink; name = name sink }
 
 -- The text of the ask was sent as the body of one request, or a front of that request up to a fault of the sink, or nothing for
--- want of memory.
+-- out of memory.
 abbrev pub SendsAsk : Result (Unit {0}) HttpFault → List ℕ → Ask → SinkTold → SinkTold → Type 0
 SendsAsk result host q sink sink' =
     Sends result (request_head host (route_of q) (length (ask_text q)) ++ ask_text q) sink.taken sink'.taken sink.counts sink'.counts sink.name sink'.name
@@ -57,7 +57,7 @@ Exchanges (Err (failure.Http e)) host q source source' sink sink' =
 
 -- ---- the state of a link
 
--- Whether a failure is want of memory.
+-- Whether a failure is out of memory.
 abbrev pub is_memory : LinkFailure → Bool
 is_memory (failure.Http http.Memory) = true
 is_memory (failure.Http http.Head) = false

@@ -32,7 +32,7 @@ enum State {
 }
 
 /// A link over one HTTP connection: one request and one response a call. After a failure each call fails for the same reason, and
-/// after want of memory each wants memory; neither sends anything, since the next response may be that of an earlier ask.
+/// once out of memory each is out of memory; neither sends anything, since the next response may be that of an earlier ask.
 #[derive(Drop)]
 pub struct HttpLink<S, K> {
     source: S,
@@ -87,7 +87,7 @@ fn exchange<S: Source, K: Sink>(
     }
 }
 
-/// Whether a failure is want of memory.
+/// Whether a failure is out of memory.
 fn is_memory(failure: LinkFailure) -> bool
     ensures { result ≡ is_memory failure }
 {

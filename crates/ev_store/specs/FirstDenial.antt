@@ -107,7 +107,7 @@ compact_denial s r = if is_future s r then Some (denied.Future r (revision s)) e
 
 -- ---- as a fault
 
--- a fault is this denial, or want of memory
+-- a fault is this denial, or out of memory
 abbrev pub Names : Option Denied → StoreFault → Type 0
 Names o (fault.Denied d) = o ≡ Some d
 Names o fault.Memory = Unit {0}

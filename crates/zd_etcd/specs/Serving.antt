@@ -75,7 +75,7 @@ abbrev pub Unbound : EtcdEnd → NetCounts → NetCounts → Option (List ℕ) �
 Unbound end counts counts' taken taken' = (counts' ≡ door_fault counts) × Faults end taken taken'
 
 -- How it ended. With Done as many connections as the limit allows were accepted, and no door had a fault. With Net a door had one,
--- which is told, and fewer connections were accepted. With want of memory no door had one.
+-- which is told, and fewer connections were accepted. Out of memory, no door had one.
 abbrev pub Ends : EtcdEnd → List ℕ → ℕ → NetCounts → NetCounts → Option (List ℕ) → Option (List ℕ) → Type 0
 Ends ends.Done listen limit counts counts' taken taken' = Listened ends.Done listen limit counts counts' taken taken'
 Ends ends.Net listen limit counts counts' taken taken' =

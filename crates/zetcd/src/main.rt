@@ -132,7 +132,7 @@ fn exit(status: &Status) -> ExitCode
     ExitCode::from(status.number())
 }
 
-/// Runs the command that these words name; the first of them is the program's name. An error is want of memory, met before the
+/// Runs the command that these words name; the first of them is the program's name. An error is out of memory, met before the
 /// command began.
 fn with_words<
     W: Wait + SystemClock + Eprint + Copy + Send + Drop + 'static,

@@ -147,7 +147,7 @@ Did-front how n s ended given given' left left' taken taken' held at not ends so
   holds = (status_after how n, transcript_text s.world.lines ++ ending_text how n, some.1, writes how n s ended left' ends.0 held at not ends.2, some.2);
 }
 
--- want of memory, with a front written or nothing
+-- out of memory, with a front written or nothing
 pub Did-memory : (ended : Bool) (given given' left left' taken taken' : Option (List ℕ)) →
     Did (λ read output. IsFront (λ other whole. ReplayWrites other ended left' read whole) output) given given' left left' taken taken' →
     Did (Replays status.Memory ended left') given given' left left' taken taken'

@@ -70,7 +70,7 @@ ReplayWrites (status.Script line) ended left read output = StopsAt line ended le
 ReplayWrites status.ReadFault ended left read output = IsCutShort read output
 ReplayWrites _ ended left read output = ⊥
 
--- A replay with this status read and wrote these bytes. With a fault of the output a front was written, and with want of memory
+-- A replay with this status read and wrote these bytes. With a fault of the output a front was written, and out of memory
 -- a front or nothing.
 abbrev pub Replays : Status → Bool → Option (List ℕ) → List ℕ → List ℕ → Type 0
 Replays status.WriteFault ended left read output = IsFront (λ other whole. ReplayWrites other ended left read whole) output
@@ -120,7 +120,7 @@ ShowWrites (status.Script line) ended left read output = IsBroken line ended lef
 ShowWrites status.ReadFault ended left read output = IsBegun read output
 ShowWrites _ ended left read output = ⊥
 
--- A show with this status read and wrote these bytes. With a fault of the output a front was written, and with want of memory
+-- A show with this status read and wrote these bytes. With a fault of the output a front was written, and out of memory
 -- the lines of a front of what was read.
 abbrev pub Shows : Status → Bool → Option (List ℕ) → List ℕ → List ℕ → Type 0
 Shows status.WriteFault ended left read output = IsFront (λ other whole. ShowWrites other ended left read whole) output
@@ -139,7 +139,7 @@ JudgeWrites (status.Script line) ended left read output =
 JudgeWrites status.ReadFault ended left read output = output ≡ []
 JudgeWrites _ ended left read output = ⊥
 
--- A judgement with this status read and wrote these bytes. With a fault of the output a front was written, and with want of memory
+-- A judgement with this status read and wrote these bytes. With a fault of the output a front was written, and out of memory
 -- nothing.
 abbrev pub Judges : Status → Bool → Option (List ℕ) → List ℕ → List ℕ → Type 0
 Judges status.WriteFault ended left read output = IsFront (λ other whole. JudgeWrites other ended left read whole) output

@@ -30,7 +30,7 @@ pub enum Status {
     Memory,
     /// Of `judge`: the verdict is not `lawful`.
     Unlawful,
-    /// Of `serve`: the updates could not be followed any further, for this cause. It is never want of memory.
+    /// Of `serve`: the updates could not be followed any further, for this cause. It is never out of memory.
     Feed(Arc<FeedEnd, Global>),
 }
 

@@ -166,7 +166,7 @@ fn conversation_fault(alloc: Global, lines: &[TranscriptLine]) -> Result<Option<
     Ok(least_unlawful(&conversations))
 }
 
-/// The verdict on a transcript. The only error is want of memory, and then there is no verdict.
+/// The verdict on a transcript. The only error is out of memory, and then there is no verdict.
 pub fn judge(alloc: Global, lines: &[TranscriptLine]) -> Result<Verdict, Memory>
     ensures { IfOk result (λ v. IsVerdict lines.now v) }
 {

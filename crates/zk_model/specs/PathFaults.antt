@@ -58,7 +58,7 @@ IsFault BadText sequential text = IsFalse (is_text (tested sequential text))
 IsFault TooLong sequential text = max_bytes sequential < length text
 IsFault Memory sequential text = ⊤
 
--- any fault but want of memory comes only where the text is not valid
+-- any fault but out of memory comes only where the text is not valid
 abbrev pub IsRefused : PathFault → Bool → Bytes → Type 0
 IsRefused Memory sequential text = ⊤
 IsRefused fault sequential text = IsFalse (is_valid sequential text)
@@ -114,7 +114,7 @@ unfoldable pub defect_of : Bool → Bytes → Option Defect
 defect_of sequential text =
     first_of (form_defect (tested sequential text)) (at (nat_lt (max_bytes sequential) (length text)) (max_bytes sequential) TooLong)
 
--- the fault that is told is that of the first defect, or want of memory
+-- the fault that is told is that of the first defect, or out of memory
 abbrev pub IsFirst : PathFault → Option Defect → Type 0
 IsFirst Memory found = ⊤
 IsFirst fault None = ⊥

@@ -1,4 +1,4 @@
--- How the loop ends for want of memory, and at a fault of the sink.
+-- How the loop ends where memory runs out, and at a fault of the sink.
 use Rattle.std.proofs.Common.{◌≡◌, ◌≤◌, ℕ, length, ◌+◌, take, drop, List, [], ◌∷◌, ◌++◌, true, false, refl, sym, ap, ◌∙◌, subst, inl, inr, append-nil, append_assoc, map, arith}
 use Rattle.std.specs.Prelude.{◌⊎◌, Option, Some, None, Result, Ok, Err, Contains}
 use mathlib.Core.List.{IsPrefix}

@@ -80,7 +80,7 @@ module _ (fresh : Fresh) (old new : Told) (core : Core) (steps : List Step) (rea
   still-ended cause.Restart e h = h
   still-ended cause.Memory e h = h
 
--- want of memory, or any other cause
+-- out of memory, or any other cause
 abbrev IsMemory : Cause → Type 0
 IsMemory why = (why ≡ cause.Memory) ⊎ ((cut_short why ≡ cause.WriteFault) × (why ≡ cause.Memory → ⊥))
 

@@ -150,7 +150,7 @@ IsBackedBy old new read (cause.Lagged cursor floor) = ((new.feed).lags ≡ (old.
 IsBackedBy old new read cause.FeedClosed = (new.feed).closings ≡ (old.feed).closings + 1
 IsBackedBy old new read _ = Unit {0}
 
--- a fault of reading or writing is its object's; want of memory is free; a restart never comes; any other cause closed the run
+-- a fault of reading or writing is its object's; out of memory is free; a restart never comes; any other cause closed the run
 abbrev pub IsEndedFor : Fresh → List Step → Core → Told → Told → List ℕ → Cause → Type 0
 IsEndedFor fresh steps core old new read cause.ReadFault = Rose (old.source).faults (new.source).faults
 IsEndedFor fresh steps core old new read cause.WriteFault = Rose ((old.sink).counts).faults ((new.sink).counts).faults

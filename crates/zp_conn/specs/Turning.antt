@@ -235,7 +235,7 @@ goes_on (Err _) = Err cause.Memory
 
 -- ---- the end
 
--- why it ends where the last write fails; want of memory stays the cause
+-- why it ends where the last write fails; out of memory stays the cause
 abbrev pub cut_short : Cause → Cause
 cut_short cause.Memory = cause.Memory
 cut_short _ = cause.WriteFault

@@ -17,7 +17,7 @@
 //! A publisher of entries that would wake the connection rings the bell of its source (`Wakes` of `zx_net`). A [`Belled`] feed arms
 //! that bell before each look for an entry.
 //!
-//! Want of memory, of the trace too, ends the connection. What was sent by then is still written.
+//! Running out of memory, in the trace too, ends the connection. What was sent by then is still written.
 //!
 //! In `specs/`, in reading order: `Serving` (what a call did, and what shows why it ended), `Driving` (when the client's frames are
 //! handed in), `Answered` (which of them were answered), `Uncut` (where nobody cuts a connection off), and then what the parts do:

@@ -117,7 +117,7 @@ fn ended_by(flushed: Result<(), WriteFault>, why: Cause) -> Cause
     match flushed {
         Ok(()) => why,
         Err(_fault) => match why {
-            // Want of memory stays the cause.
+            // Out of memory stays the cause.
             Cause::Memory => Cause::Memory,
             _ => Cause::WriteFault,
         },

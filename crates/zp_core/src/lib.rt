@@ -16,8 +16,8 @@
 //!
 //! Such a loop stands in `zp_conn`, over streams, and in `zp_world`, where a script says what comes next.
 //!
-//! Want of memory ends the connection: it is shut, and none of that step's actions are given. A packet whose length does not fit
-//! an int counts as want of memory, since no client has memory for it.
+//! Running out of memory ends the connection: it is shut, and none of that step's actions are given. A packet whose length does not fit
+//! an int counts as out of memory, since no client has memory for it.
 //!
 //! In `specs/`, in reading order: `Meanings` (what the code keeps, as the definition's data), `Held` (what is true of every
 //! core), `Going` (how a step goes on with the frames that wait), `OnKept` (a plan on a kept view), `Left` (requests whose reads no

@@ -1,4 +1,4 @@
-//! Packets for the client. One whose length does not fit an int counts as want of memory.
+//! Packets for the client. One whose length does not fit an int counts as out of memory.
 
 ghost use Rattle.std.specs.Prelude.{◌≡◌, IfOk};
 ghost use Rattle.zk_jute.specs.Packets.{connect_packet, notice_packet, reply_packet};

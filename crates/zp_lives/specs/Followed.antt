@@ -31,7 +31,7 @@ AreNextHeads s n (kv ∷ kvs) = IsHeadOf s kv × (kv.version ≡ n +ℤ pos 1) �
 abbrev pub IsHonestLine : Store → ℤ → Line → Type 0
 IsHonestLine s n l = AreNextHeads s n (heads_in l) × (l ≡ line.Ended → ⊥) × ((rev : ℤ) → l ≡ line.Compacted rev → ⊥)
 
--- entries of the store's updates, or want of memory
+-- entries of the store's updates, or out of memory
 abbrev pub GivesEntriesOf : Store → Result (Vec Entry) FeedFault → Type 0
 GivesEntriesOf s (Ok entries) = All (IsEntryIn s) entries.items
 GivesEntriesOf s (Err f) = f ≡ fault.Memory

@@ -22,7 +22,7 @@ pub fn one_connection_alone_is_served()
     ensures first { AloneFromTheFirst }
 {}
 
-/// A follower over an honest watch gives entries of the store's updates, and no fault but want of memory. The lines are honest where
+/// A follower over an honest watch gives entries of the store's updates, and no fault but out of memory. The lines are honest where
 /// they tell heads of the store, in order and each once, from the follower's own on: each is put once more than the one before it,
 /// and has a record.
 pub fn followers_give_the_stores_entries()

@@ -29,7 +29,7 @@ pub trait Book<I: Source + Drop, O: Sink + Drop> {
         ensures err { OnErr result (told self.new ≡ told self.old) };
 }
 
-/// A book that keeps nothing, and never wants memory.
+/// A book that keeps nothing, and is never out of memory.
 #[derive(Clone, Copy, Debug)]
 pub struct NoBook;
 

@@ -15,7 +15,7 @@ pub enum ServeEnd {
     Net,
     /// The allocator refused memory, here or to the watch worker.
     Memory,
-    /// The watch worker could not go on, for this cause. It is never want of memory.
+    /// The watch worker could not go on, for this cause. It is never out of memory.
     Feed(Arc<FeedEnd, Global>),
 }
 

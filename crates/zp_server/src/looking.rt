@@ -11,7 +11,7 @@ use zw_hub::{Fed, Feed, HubReader};
 const LAST_CURSOR: i64 = i64::MAX;
 
 /// Whether this reader finds the hub closed. No entry stands above the cursor, so one that is found there, or lacking there, counts as
-/// want of memory.
+/// out of memory.
 pub fn look<R: Wait + Drop>(reader: &mut HubReader<R>) -> Result<(), Stop>
     ensures { Looks result reader.old reader.new }
 {
@@ -23,7 +23,7 @@ pub fn look<R: Wait + Drop>(reader: &mut HubReader<R>) -> Result<(), Stop>
 }
 
 /// Why the hub is closed, where a connection ended for that; its reader tells. It is closed for good, so a reader that finds it
-/// open again, which none does, counts as want of memory.
+/// open again, which none does, counts as out of memory.
 pub fn closing_of<R: Wait + Drop>(cause: &Cause, reader: &mut HubReader<R>) -> Result<(), Stop>
     ensures { Closes result cause.now reader.old reader.new }
 {

@@ -13,7 +13,7 @@ use Rattle.zt_text.specs.declared.script.Happening.{Happening}
 use Rattle.zx_base.specs.Maps.{Bytes}
 
 -- In a replay a client's stream is the bytes that the script's lines give, and no reading or writing of it fails. Entries are
--- always told. And want of memory ends the run, which shows no line for it.
+-- always told. And running out of memory ends the run, which shows no line for it.
 abbrev pub is_outside : Cause → Bool
 is_outside cause.ReadFault = true
 is_outside cause.WriteFault = true

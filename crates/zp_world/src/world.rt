@@ -146,7 +146,7 @@ impl World {
         applied
     }
 
-    /// Applies a happening, unless the world is spent: after want of memory it has no entry any more, not even that of the first
+    /// Applies a happening, unless the world is spent: once out of memory it has no entry any more, not even that of the first
     /// update.
     fn apply_unless_spent(&mut self, happening: Happening) -> Result<(), ApplyFault>
         requires { IsOfScript happening }

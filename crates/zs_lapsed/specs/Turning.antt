@@ -60,7 +60,7 @@ abbrev pub begun_from : Option LinkTold → LinkTold
 begun_from None = tells [] 0
 begun_from (Some t) = t
 
--- the fault that is told of a link: the one that it keeps, or want of memory
+-- the fault that is told of a link: the one that it keeps, or out of memory
 abbrev pub fault_in : Option LinkFailure → Fault
 fault_in (Some (failure.Http fault)) = told.Http fault
 fault_in (Some (failure.Json fault)) = told.Json fault

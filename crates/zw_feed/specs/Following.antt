@@ -57,7 +57,7 @@ heads_in (line.Events revision kvs) = filter is_head kvs
 heads_in _ = []
 
 -- What a line gives a follower that is not at its end: its entries in order, or its fault. A line without a put of the head gives no
--- entry. Want of memory may come at any line.
+-- entry. Memory may run out at any line.
 abbrev pub Gives : ℤ → Line → Result (Vec Entry) FeedFault → Type 0
 Gives n l (Ok entries) = AreEntries n (heads_in l) entries.items × ((l ≡ line.Ended → ⊥) × ((rev : ℤ) → l ≡ line.Compacted rev → ⊥))
 Gives n l (Err fault.Ended) = l ≡ line.Ended
@@ -65,13 +65,13 @@ Gives n l (Err (fault.Compacted rev)) = l ≡ line.Compacted rev
 Gives n l (Err fault.Memory) = Unit {0}
 Gives n l (Err f) = BreaksAt n (heads_in l) f
 
--- where it stands after that: want of memory leaves it as it was, and any other fault is kept
+-- where it stands after that: running out of memory leaves it as it was, and any other fault is kept
 abbrev pub after : FollowerState → Result (Vec Entry) FeedFault → FollowerState
 after s (Ok entries) = record { number = s.number +ℤ pos (length entries.items); fault = s.fault }
 after s (Err fault.Memory) = s
 after s (Err f) = record s { fault = Some f }
 
--- One call. A follower that has a fault answers it again, or wants memory for its copy, and stays as it is.
+-- One call. A follower that has a fault answers it again, or is out of memory for its copy, and stays as it is.
 abbrev pub TakesIn : Option FeedFault → FollowerState → Line → Result (Vec Entry) FeedFault → FollowerState → Type 0
 TakesIn None s l r s' = Gives s.number l r × (s' ≡ after s r)
 TakesIn (Some f) s l r s' = ((r ≡ Err f) ⊎ (r ≡ Err fault.Memory)) × (s' ≡ s)

@@ -58,7 +58,7 @@ heads_of (s ∷ said) = heads_in s.line ++ heads_of said
 -- ---- ends
 
 -- What shows an end: a line says that revisions were compacted, or the first head in it that does not go on from the list is a gap or
--- no record. Want of memory is shown by nothing.
+-- no record. Running out of memory is shown by nothing.
 abbrev pub IsShown : Published → FeedEnd → Line → Type 0
 IsShown list (ends.Compacted rev) l = l ≡ line.Compacted rev
 IsShown list (ends.Gap expected found) l = BreaksAt (last_number list) (heads_in l) (fault.Gap expected found)
@@ -66,7 +66,7 @@ IsShown list (ends.Damaged key value) l = BreaksAt (last_number list) (heads_in 
 IsShown list ends.NoLine l = ⊥
 IsShown list ends.Memory l = Unit {0}
 
--- The last of the lines shows the end, and its heads alone are left. Want of memory leaves any heads, and is shown by nothing.
+-- The last of the lines shows the end, and its heads alone are left. Running out of memory leaves any heads, and is shown by nothing.
 abbrev pub Explains : FeedEnd → Published → List Said → List Kv → Type 0
 Explains ends.Memory list said left = Unit {0}
 Explains end list said left = (earlier : List Said) × (last : Said) × (said ≡ earlier ++ last ∷ []) × (left ≡ heads_in last.line) × IsShown list end last.line

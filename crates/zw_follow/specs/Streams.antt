@@ -116,7 +116,7 @@ is_barren _ gave = false
 
 -- ---- streams that are over
 
--- The stream gave these lines, and then nothing that can be read, for a reason other than want of memory; and whether it counts as one
+-- The stream gave these lines, and then nothing that can be read, for a reason other than running out of memory; and whether it counts as one
 -- that gave no line.
 pub record BreaksOff {In : Type 0} (tells : In → Told) (dialled : In) (said : List Said) (barren : Bool) : Type 0 where
   pub why : Fault

@@ -10,6 +10,6 @@ pub record IsProper (end : FeedEnd) : Type 0 where
   pub gap : (expected found : ℤ) → end ≡ ends.Gap expected found → expected ≢ found
   pub damaged : (key value : Bytes) → end ≡ ends.Damaged key value → IsNoValue head_bytes IsHeadWithin value
 
--- a proper end that readers may be told: not want of memory, for which the answer is `Memory`
+-- a proper end that readers may be told: not out of memory, for which the answer is `Memory`
 abbrev pub MayBeTold : FeedEnd → Type 0
 MayBeTold end = IsProper end × (end ≢ ends.Memory)

@@ -12,7 +12,7 @@ abbrev pub entry_of : List Entry → Entry
 entry_of [] = record { number = pos 0; zxid = pos 0; triggers = [] }
 entry_of (entry ∷ more) = entry
 
--- the one end of a history; where it has none, want of memory
+-- the one end of a history; where it has none, out of memory
 abbrev pub end_of : List FeedEnd → FeedEnd
 end_of [] = ends.Memory
 end_of (end ∷ more) = end

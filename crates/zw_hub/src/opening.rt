@@ -16,7 +16,7 @@ use std::alloc::Global;
 use std::sync::{Arc, Mutex, Wait};
 use zx_base::Memory;
 
-/// The most readers: `left_right` has room for 2^32 - 1 seats, and one stays free. More are refused as want of memory.
+/// The most readers: `left_right` has room for 2^32 - 1 seats, and one stays free. More are refused as out of memory.
 const MAX_READERS: usize = 4_294_967_294;
 
 /// A hub whose first entry is to have the number `first + 1`, and so many readers of it. No more can be made later.
