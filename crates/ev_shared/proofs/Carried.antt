@@ -5,7 +5,7 @@ use Rattle.std.specs.Prelude.{Option, Some, None, All, ◌≤ℤ◌, if◌then�
 use Rattle.std.specs.FinMap.{get}
 use Rattle.ev_types.specs.Denials.{carry, is_denied}
 use Rattle.ev_types.specs.Ranges.{Keys}
-use Rattle.ev_types.specs.Store.{Store, acts_from, after_changes, carried_out, chosen, last_revision, present, removal, succeeds, then_done, txn_done, worked}
+use Rattle.ev_types.specs.Store.{Store, acts_from, after_changes, carried_out, chosen, last_revision, present, key_removal, succeeds, then_done, txn_done, worked}
 use Rattle.ev_types.specs.declared.answer.ActAns.TheVariants as part
 use Rattle.ev_types.specs.declared.answer.Answer.{Answer}
 use Rattle.ev_types.specs.declared.answer.Kv.{Kv}
@@ -26,8 +26,8 @@ within : (r : ℤ) (kvs : List Kv) → r ≤ℤ last_revision → All (IsPutBy r
 within r kvs most h = λ k d below. counts r _ most (h k d below)
 
 delete-fits : (s : Store) (r z : ℤ) (m : Keys) (k : Bytes) (acts : List Act) (o : Option Kv) → ((n : Keys) → All (ShowsPuts z) (acts_from s r n acts).parts → PartsFit acts (acts_from s r n acts).parts)
-    → All (ShowsPuts z) (then_done (removal k o) (acts_from s r (after_changes r m (removal k o).changes) acts)).parts
-    → PartsFit (act.Delete k ∷ acts) (then_done (removal k o) (acts_from s r (after_changes r m (removal k o).changes) acts)).parts
+    → All (ShowsPuts z) (then_done (key_removal k o) (acts_from s r (after_changes r m (key_removal k o).changes) acts)).parts
+    → PartsFit (act.Delete k ∷ acts) (then_done (key_removal k o) (acts_from s r (after_changes r m (key_removal k o).changes) acts)).parts
 delete-fits s r z m k acts None rest h = (tt, rest _ (All-tail (ShowsPuts z) (part.Deleted (pos 0)) _ h))
 delete-fits s r z m k acts (Some kv) rest h = (tt, rest _ (All-tail (ShowsPuts z) (part.Deleted (pos 1)) _ h))
 

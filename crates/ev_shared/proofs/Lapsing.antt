@@ -8,7 +8,7 @@ use Rattle.std.specs.Prelude.{ℤ, ◌≤ℤ◌, not, ◌&&◌, ◌||◌, is_som
 use Rattle.std.specs.FinMap.{get, remove, get-remove}
 use Rattle.std.specs.Ordering.{is_eq}
 use Rattle.ev_types.proofs.Lapsed.{lapse-lease}
-use Rattle.ev_types.specs.Denials.{has_lease, is_lease, is_full}
+use Rattle.ev_types.specs.Denials.{has_lease, is_lease, is_full_store}
 use Rattle.ev_types.specs.Lapses.{lapse, removals, leased_keys}
 use Rattle.ev_types.specs.Store.{Store, Change, grown, max_revisions, revision}
 use Rattle.ev_store.specs.FirstDenial.{full, lapse_denial}
@@ -29,12 +29,12 @@ not_below n m e = ltb-false n m (negated (nat_lt n m) e)
     negated true e = absurd cc
     negated false e = refl
 
-filled : (s : Store) (cs : List Change) → is_full s cs ≡ true → IsFull s
+filled : (s : Store) (cs : List Change) → is_full_store s cs ≡ true → IsFull s
 filled s [] e = absurd cc
 filled s (c ∷ cs) e = let most : max_revisions ≤ length s.revisions = not_below (length s.revisions) max_revisions e in omega (arith, ints)
 
 at_last : (s : Store) (cs : List Change) (d : Denied) → full s cs ≡ Some d → IsFull s
-at_last s cs d e = filled s cs (if_some (is_full s cs) _ d e).0
+at_last s cs d e = filled s cs (if_some (is_full_store s cs) _ d e).0
 
 by_lease : {P : Type 0} (b : Bool) (x y : Option Denied) (d : Denied) → (if b then x else y) ≡ Some d → (x ≡ Some d → P) → (b ≡ false → y ≡ Some d → P) → P
 by_lease true x y d e there gone = there e
@@ -80,7 +80,7 @@ pub lapse_full : (s t : Store) (id : ℤ) → lapse s id ≡ Some t → IsFull s
 unfolding lapse
 lapse_full s t id e h =
     let without : Store = record s { leases = remove s.leases id } in
-    let is = chosen (not (has_lease s id) || is_full s (removals (leased_keys s id))) (grown without (removals (leased_keys s id))) t e in
+    let is = chosen (not (has_lease s id) || is_full_store s (removals (leased_keys s id))) (grown without (removals (leased_keys s id))) t e in
     let rises = revision_rises without (removals (leased_keys s id)) in
     subst IsFull is (omega (arith, ints, h, rises))
 

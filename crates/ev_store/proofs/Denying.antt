@@ -15,7 +15,7 @@ use Rattle.ev_types.specs.declared.answer.ActAns.{ActAns}
 use Rattle.ev_types.specs.declared.answer.RangeAns.{RangeAns}
 use Rattle.ev_types.specs.Ranges.{found}
 use Rattle.ev_types.specs.Store.{Store, Change, revision, worked, grown, succeeds, chosen, carried_out, txn_done, looked_at, present, seconds}
-use Rattle.ev_types.specs.Denials.{has_lease, names_missing, writes, puts, is_long, lacks_lease, is_future, is_compacted, writes_twice, has_long_list, is_full, chosen_acts, is_denied, carry}
+use Rattle.ev_types.specs.Denials.{has_lease, names_missing, writes, puts, is_long, lacks_lease, is_future, is_compacted, writes_twice, has_long_list, is_full_store, chosen_acts, is_denied, carry}
 use Rattle.ev_store.specs.declared.fault.Denied.{Denied}
 use Rattle.ev_store.specs.declared.fault.Denied.TheVariants as denied
 use Rattle.ev_store.specs.declared.fault.StoreFault.{StoreFault}
@@ -85,8 +85,8 @@ form-there t =
     or-there (long_list t) (option_or (twice t.success) (twice t.failure)) ∙ (λ i. long-there t i || or-there (twice t.success) (twice t.failure) i)
     ∙ (λ i. has_long_list t || (twice-there t.success i || twice-there t.failure i)) ∙ regroup (has_long_list t) (writes_twice t.success) (writes_twice t.failure)
 
-pub full-there : (s : Store) (cs : List Change) → is_some (full s cs) ≡ is_full s cs
-full-there s cs = if-there (is_full s cs) (denied.Full (revision s))
+pub full-there : (s : Store) (cs : List Change) → is_some (full s cs) ≡ is_full_store s cs
+full-there s cs = if-there (is_full_store s cs) (denied.Full (revision s))
 
 txn-there : (s : Store) (t : TxnReq) → is_some (txn_denial s t) ≡ is_denied s (ask.Txn t)
 unfolding is_denied

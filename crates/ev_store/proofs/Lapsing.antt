@@ -17,7 +17,7 @@ use Rattle.zx_base.specs.Maps.{Bytes}
 use Rattle.zx_base.proofs.MapLaws.{get-retain}
 use Rattle.ev_types.specs.declared.answer.Kv.{Kv}
 use Rattle.ev_types.specs.Store.{Store, Change, Puts, grown, present}
-use Rattle.ev_types.specs.Denials.{has_lease, is_full}
+use Rattle.ev_types.specs.Denials.{has_lease, is_full_store}
 use Rattle.ev_types.specs.Lapses.{is_leased, leased_keys, removals, lapse, foreign}
 use Rattle.ev_store.specs.declared.fault.Denied.{Denied}
 use Rattle.ev_store.specs.declared.fault.Denied.TheVariants as denied
@@ -89,8 +89,8 @@ pub lapse_done : (s mid new : Store) (id : ℤ) (cs : List Change) → has_lease
     new ≡ record mid { leases = remove mid.leases id } → lapse s id ≡ Some new
 unfolding lapse
 lapse_done s mid new id cs there all room added dropped =
-    ap (λ b. cond (not b || is_full s (removals (leased_keys s id))) None (Some (grown (record s { leases = remove s.leases id }) (removals (leased_keys s id))))) there
-    ∙ ap (λ ds. cond (is_full s ds) None (Some (grown (record s { leases = remove s.leases id }) ds))) (sym all)
+    ap (λ b. cond (not b || is_full_store s (removals (leased_keys s id))) None (Some (grown (record s { leases = remove s.leases id }) (removals (leased_keys s id))))) there
+    ∙ ap (λ ds. cond (is_full_store s ds) None (Some (grown (record s { leases = remove s.leases id }) ds))) (sym all)
     ∙ ap (λ b. cond b None (Some (grown (record s { leases = remove s.leases id }) cs))) (sym (full-there s cs) ∙ ap is_some room)
     ∙ ap Some (grown-leases s id cs ∙ ap (λ (m : Store). record m { leases = remove m.leases id }) (sym added) ∙ sym dropped)
 
@@ -107,7 +107,7 @@ unfolding lapse_denial lapse
 lapse-named s id =
     named_or (has_lease s id) (full s (removals (leased_keys s id))) (denied.NoLease id)
     ∙ (λ i. not (has_lease s id) || full-there s (removals (leased_keys s id)) i)
-    ∙ sym (none-there (not (has_lease s id) || is_full s (removals (leased_keys s id))) (grown (record s { leases = remove s.leases id }) (removals (leased_keys s id))))
+    ∙ sym (none-there (not (has_lease s id) || is_full_store s (removals (leased_keys s id))) (grown (record s { leases = remove s.leases id }) (removals (leased_keys s id))))
 
 is_nothing : {A : Type 0} (o : Option A) → is_none o ≡ true → o ≡ None
 is_nothing None h = refl
@@ -121,12 +121,12 @@ lapse_denied s id d h = is_nothing (lapse s id) (sym (lapse-named s id) ∙ ap i
 pub foreign_done : (s new : Store) (k v : Bytes) (cs : List Change) → cs ≡ Puts k v (pos 0) ∷ [] → full s cs ≡ None → new ≡ grown s cs → foreign s k v ≡ Some new
 unfolding foreign
 foreign_done s new k v cs is room added =
-    ap (λ ds. cond (is_full s ds) None (Some (grown s ds))) (sym is)
+    ap (λ ds. cond (is_full_store s ds) None (Some (grown s ds))) (sym is)
     ∙ ap (λ b. cond b None (Some (grown s cs))) (sym (full-there s cs) ∙ ap is_some room) ∙ ap Some (sym added)
 
 pub foreign-named : (s : Store) (k v : Bytes) → is_some (foreign_denial s k v) ≡ is_none (foreign s k v)
 unfolding foreign
-foreign-named s k v = full-there s (Puts k v (pos 0) ∷ []) ∙ sym (none-there (is_full s (Puts k v (pos 0) ∷ [])) (grown s (Puts k v (pos 0) ∷ [])))
+foreign-named s k v = full-there s (Puts k v (pos 0) ∷ []) ∙ sym (none-there (is_full_store s (Puts k v (pos 0) ∷ [])) (grown s (Puts k v (pos 0) ∷ [])))
 
 pub foreign_denied : (s : Store) (k v : Bytes) (d : Denied) → foreign_denial s k v ≡ Some d → foreign s k v ≡ None
 foreign_denied s k v d h = is_nothing (foreign s k v) (sym (foreign-named s k v) ∙ ap is_some h)

@@ -20,9 +20,9 @@ use Rattle.ev_types.specs.declared.ask.Ask.{Ask}
 use Rattle.ev_types.specs.declared.ask.Ask.TheVariants as ask
 use Rattle.ev_types.specs.declared.ask.RangeReq.{RangeReq}
 use Rattle.ev_types.specs.declared.ask.TxnReq.{TxnReq}
-use Rattle.ev_types.specs.Denials.{carry, chosen_acts, has_long_list, is_denied, is_full, names_missing, writes_twice}
+use Rattle.ev_types.specs.Denials.{carry, chosen_acts, has_long_list, is_denied, is_full_store, names_missing, writes_twice}
 use Rattle.ev_types.specs.Ranges.{Keys, found, in_range, is_within, shown}
-use Rattle.ev_types.specs.Store.{Store, Change, acts_from, after_changes, carried_out, chosen, grown, last_revision, looked_at, max_revisions, one_act, present, removal, revision, store_at, succeeds, txn_done, worked}
+use Rattle.ev_types.specs.Store.{Store, Change, acts_from, after_changes, carried_out, chosen, grown, last_revision, looked_at, max_revisions, one_act, present, key_removal, revision, store_at, succeeds, txn_done, worked}
 use Rattle.ev_store.specs.Changes.{are_distinct, put_keys, puts_once}
 use Rattle.ev_store.specs.Numbers.{HasNumbers, IsPutBy, ShowsPuts}
 use Rattle.ev_store.proofs.Entries.{All-values}
@@ -137,7 +137,7 @@ looked-put n s m r now named = go (int_eq r (pos 0))
 
 -- ---- what operations show
 
-deleted-put : (r : ℤ) (k : Bytes) (o : Option Kv) → All (ShowsPuts r) (removal k o).parts
+deleted-put : (r : ℤ) (k : Bytes) (o : Option Kv) → All (ShowsPuts r) (key_removal k o).parts
 deleted-put r k None = All-cons (ShowsPuts r) _ [] tt (All-nil (ShowsPuts r))
 deleted-put r k (Some kv) = All-cons (ShowsPuts r) _ [] tt (All-nil (ShowsPuts r))
 
@@ -167,7 +167,7 @@ worked-put s acts kept once = acts-put s [] acts (worked s acts).changes (presen
 
 -- ---- what an ask is answered
 
-grown-room : (s : Store) (cs : List Change) → IsKept s → is_full s cs ≡ false → revision (grown s cs) ≤ℤ last_revision
+grown-room : (s : Store) (cs : List Change) → IsKept s → is_full_store s cs ≡ false → revision (grown s cs) ≤ℤ last_revision
 grown-room s [] kept room = let short = kept.short in omega (arith, ints)
 grown-room s (c ∷ cs) kept room = grown_below (length s.revisions) (length (grown s (c ∷ cs)).revisions) (length-append s.revisions ((c ∷ cs) ∷ [])) room
   where
@@ -182,7 +182,7 @@ answered : (s : Store) (q : Ask) → IsKept s → is_denied s q ≡ false → Ha
 unfolding is_denied carried_out txn_done
 answered s (ask.Txn t) kept h =
     let acts = chosen_acts s t in
-    let full = or_parts _ (is_full s (worked s acts).changes) h in
+    let full = or_parts _ (is_full_store s (worked s acts).changes) h in
     let named = or_parts _ (list_any (names_missing s) acts) full.0 in
     let failure = or_parts _ (writes_twice t.failure) named.0 in
     let success = or_parts (has_long_list t) (writes_twice t.success) failure.0 in

@@ -9,7 +9,7 @@ use Rattle.ev_types.specs.declared.ask.Act.TheVariants.{Put, Delete, Range}
 use Rattle.ev_types.specs.declared.answer.ActAns.{ActAns}
 use Rattle.ev_types.specs.declared.answer.Kv.{Kv}
 use Rattle.ev_types.specs.Ranges.{Keys}
-use Rattle.ev_types.specs.Store.{Store, Change, Puts, Removes, Done, removal, one_act, then_done, acts_from, after_changes, changed, worked, present, revision}
+use Rattle.ev_types.specs.Store.{Store, Change, Puts, Removes, Done, key_removal, one_act, then_done, acts_from, after_changes, changed, worked, present, revision}
 use Rattle.ev_types.specs.Denials.{writes, puts, writes_twice}
 use Rattle.ev_store.specs.Changes.{put_keys, are_distinct}
 use Rattle.std.proofs.lemmas.Bool.{not_from_false, not-true, or_parts, or_from, and_parts, and_from}
@@ -70,7 +70,7 @@ own_keys (Put k v lease) = k ∷ []
 own_keys (Delete k) = []
 own_keys (Range q) = []
 
-removal-keys : (k : Bytes) (o : Option Kv) → put_keys (removal k o).changes ≡ []
+removal-keys : (k : Bytes) (o : Option Kv) → put_keys (key_removal k o).changes ≡ []
 removal-keys k None = refl
 removal-keys k (Some kv) = refl
 

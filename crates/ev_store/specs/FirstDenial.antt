@@ -9,7 +9,7 @@ use Rattle.ev_types.specs.declared.ask.RangeReq.{RangeReq}
 use Rattle.ev_types.specs.declared.ask.Ask.{Ask}
 use Rattle.ev_types.specs.declared.ask.Ask.TheVariants as ask
 use Rattle.ev_types.specs.Store.{Store, Change, Puts, revision, worked}
-use Rattle.ev_types.specs.Denials.{has_lease, lacks_lease, is_future, is_compacted, writes, puts, max_operations, is_full, chosen_acts}
+use Rattle.ev_types.specs.Denials.{has_lease, lacks_lease, is_future, is_compacted, writes, puts, max_operations, is_full_store, chosen_acts}
 use Rattle.ev_types.specs.Lapses.{leased_keys, removals}
 use Rattle.ev_store.specs.declared.fault.Denied.{Denied}
 use Rattle.ev_store.specs.declared.fault.Denied.TheVariants as denied
@@ -60,7 +60,7 @@ acts_denial s (a ∷ acts) = option_or (act_denial s a) (acts_denial s acts)
 
 -- something would change, and the store stands at its last revision
 abbrev pub full : Store → List Change → Option Denied
-full s changes = if is_full s changes then Some (denied.Full (revision s)) else None
+full s changes = if is_full_store s changes then Some (denied.Full (revision s)) else None
 
 -- a grant names a lease that is there
 abbrev pub grant_denial : Store → ℤ → Option Denied

@@ -11,7 +11,7 @@ use Rattle.ev_types.specs.declared.ask.RangeReq.{RangeReq}
 use Rattle.ev_types.specs.declared.ask.TxnReq.{TxnReq}
 use Rattle.ev_types.specs.declared.ask.Ask.TheVariants as ask
 use Rattle.ev_types.specs.Store.{Store, succeeds, chosen, worked}
-use Rattle.ev_types.specs.Denials.{is_future, names_missing, writes_twice, max_operations, has_long_list, is_full, chosen_acts, is_denied}
+use Rattle.ev_types.specs.Denials.{is_future, names_missing, writes_twice, max_operations, has_long_list, is_full_store, chosen_acts, is_denied}
 use Rattle.ev_types.specs.Reads.{are_present_reads}
 use Rattle.ev_types.proofs.Transactions.{unchanged-reads}
 
@@ -45,7 +45,7 @@ pub record IsPlain (s : Store) (t : TxnReq) : Type 0 where
   pub failure_once : writes_twice t.failure ≡ false
   pub success_named : list_any (names_missing s) t.success ≡ false
   pub failure_named : list_any (names_missing s) t.failure ≡ false
-  pub room : is_full s (worked s (chosen_acts s t)).changes ≡ false
+  pub room : is_full_store s (worked s (chosen_acts s t)).changes ≡ false
 
 chosen_named : (s : Store) (t : TxnReq) (b : Bool) → list_any (names_missing s) t.success ≡ false → list_any (names_missing s) t.failure ≡ false → list_any (names_missing s) (chosen b t) ≡ false
 chosen_named s t true g h = g
@@ -66,5 +66,5 @@ reads-not_denied s acts few reads = plain-not_denied s (record { guards = []; su
   failure_once = refl;
   success_named = reads_named s acts reads;
   failure_named = refl;
-  room = ap (is_full s) (unchanged-reads s acts reads);
+  room = ap (is_full_store s) (unchanged-reads s acts reads);
 })

@@ -14,7 +14,7 @@ use Rattle.zx_base.proofs.Options.{some_is}
 use Rattle.ev_types.specs.declared.answer.Kv.{Kv}
 use Rattle.ev_types.specs.Ranges.{Keys}
 use Rattle.ev_types.specs.Store.{Store, Change, Puts, revision, after_changes, present, store_at, put_over, grown, last_revision, max_revisions}
-use Rattle.ev_types.specs.Denials.{has_lease, is_full}
+use Rattle.ev_types.specs.Denials.{has_lease, is_full_store}
 use Rattle.ev_types.specs.Lapses.{is_leased, leased_keys, removals, lapse, foreign}
 use Rattle.ev_types.proofs.Grown.{present-grown, earlier-grown, revision-grown}
 
@@ -79,10 +79,10 @@ was_there false c h = absurd cc
 lapsed : (s new : Store) (id : ℤ) → lapse s id ≡ Some new → IsLapsed s new id
 unfolding lapse
 lapsed s new id e =
-    let c = chosen (not (has_lease s id) || is_full s (removals (leased_keys s id))) (grown (without s id) (removals (leased_keys s id))) new e in
+    let c = chosen (not (has_lease s id) || is_full_store s (removals (leased_keys s id))) (grown (without s id) (removals (leased_keys s id))) new e in
     record { there = was_there (has_lease s id) _ c.0; is = sym c.1 }
 
-has_room : (s : Store) (cs : List Change) → revision s <ℤ last_revision → is_full s cs ≡ false
+has_room : (s : Store) (cs : List Change) → revision s <ℤ last_revision → is_full_store s cs ≡ false
 has_room s [] room = refl
 has_room s (c ∷ cs) room = ap not (lt-ltb (length s.revisions) max_revisions (omega (arith, ints)))
 
@@ -138,7 +138,7 @@ lapse-earlier s new id r e le =
 
 put_foreign : (s new : Store) (k v : Bytes) → foreign s k v ≡ Some new → new ≡ grown s (Puts k v (pos 0) ∷ [])
 unfolding foreign
-put_foreign s new k v e = sym (chosen (is_full s (Puts k v (pos 0) ∷ [])) (grown s (Puts k v (pos 0) ∷ [])) new e).1
+put_foreign s new k v e = sym (chosen (is_full_store s (Puts k v (pos 0) ∷ [])) (grown s (Puts k v (pos 0) ∷ [])) new e).1
 
 get-put : (m : Keys) (k q : Bytes) (kv : Kv) → get (insert m k kv) q ≡ cond (same q k) (Some kv) (get m q)
 get-put m k q kv = ⊎_elim

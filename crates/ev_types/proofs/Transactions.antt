@@ -9,7 +9,7 @@ use Rattle.ev_types.specs.declared.ask.Act.{Act}
 use Rattle.ev_types.specs.declared.ask.Act.TheVariants as act
 use Rattle.ev_types.specs.Ranges.{Keys, found}
 use Rattle.ev_types.specs.Reads.{are_present_reads}
-use Rattle.ev_types.specs.Store.{Store, Done, revision, changed, after_changes, present, looked_at, removal, one_act, then_done, acts_from, worked, grown, act_changes, acts_applied}
+use Rattle.ev_types.specs.Store.{Store, Done, revision, changed, after_changes, present, looked_at, key_removal, one_act, then_done, acts_from, worked, grown, act_changes, acts_applied}
 use Rattle.zx_base.proofs.MapLaws.{remove-absent}
 use Rattle.ev_types.proofs.Grown.{present-grown}
 
@@ -17,7 +17,7 @@ use Rattle.ev_types.proofs.Grown.{present-grown}
 
 one_act-changes : (s : Store) (r : ℤ) (m : Keys) (a : Act) → after_changes r m (one_act s m a).changes ≡ after_changes r m (act_changes a)
 one_act-changes s r m (act.Put k v lease) = refl
-one_act-changes s r m (act.Delete k) = elim (get m k) as (λ o. get m k ≡ o → after_changes r m (removal k o).changes ≡ remove m k) [
+one_act-changes s r m (act.Delete k) = elim (get m k) as (λ o. get m k ≡ o → after_changes r m (key_removal k o).changes ≡ remove m k) [
   | None ↦ λ e. sym (remove-absent m k e)
   | Some kv ↦ λ e. refl
 ] refl

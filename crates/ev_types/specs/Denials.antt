@@ -69,9 +69,9 @@ abbrev pub has_long_list : TxnReq → Bool
 has_long_list t = is_long t.guards || is_long t.success || is_long t.failure
 
 -- something would change, and the store stands at the last revision
-abbrev pub is_full : Store → List Change → Bool
-is_full s [] = false
-is_full s (c ∷ cs) = not (int_lt (revision s) last_revision)
+abbrev pub is_full_store : Store → List Change → Bool
+is_full_store s [] = false
+is_full_store s (c ∷ cs) = not (int_lt (revision s) last_revision)
 
 abbrev pub chosen_acts : Store → TxnReq → List Act
 chosen_acts s t = chosen (succeeds s t) t
@@ -80,7 +80,7 @@ unfoldable pub is_denied : Store → Ask → Bool
 is_denied s (ask.Txn t) =
     has_long_list t || writes_twice t.success || writes_twice t.failure
     || list_any (names_missing s) (chosen_acts s t)
-    || is_full s (worked s (chosen_acts s t)).changes
+    || is_full_store s (worked s (chosen_acts s t)).changes
 is_denied s (ask.Range q) = is_future s q.revision || is_compacted s q.revision
 is_denied s (ask.Grant id ttl) = has_lease s id
 is_denied s (ask.Alive id) = false

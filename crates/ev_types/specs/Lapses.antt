@@ -5,7 +5,7 @@ use Rattle.std.specs.Ordering.{int_eq}
 use Rattle.std.specs.FinMap.{get, remove, retain_keys, keys}
 use Rattle.ev_types.specs.declared.answer.Kv.{Kv}
 use Rattle.ev_types.specs.Store.{Store, Change, Puts, Removes, present, grown}
-use Rattle.ev_types.specs.Denials.{is_lease, has_lease, is_full}
+use Rattle.ev_types.specs.Denials.{is_lease, has_lease, is_full_store}
 use Rattle.zx_base.specs.Maps.{Bytes}
 
 -- a key is there and is attached to this lease; 0 is no lease
@@ -23,9 +23,9 @@ removals ks = map Removes ks
 -- the lease goes, and all its keys at one revision; None where the lease isn't there, or has keys and no revision is to come
 unfoldable pub lapse : Store → ℤ → Option Store
 lapse s id =
-    if not (has_lease s id) || is_full s (removals (leased_keys s id)) then None
+    if not (has_lease s id) || is_full_store s (removals (leased_keys s id)) then None
     else Some (grown (record s { leases = remove s.leases id }) (removals (leased_keys s id)))
 
 -- a put without a lease; None where there is no revision to come
 unfoldable pub foreign : Store → Bytes → Bytes → Option Store
-foreign s k v = if is_full s (Puts k v (pos 0) ∷ []) then None else Some (grown s (Puts k v (pos 0) ∷ []))
+foreign s k v = if is_full_store s (Puts k v (pos 0) ∷ []) then None else Some (grown s (Puts k v (pos 0) ∷ []))

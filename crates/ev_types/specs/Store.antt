@@ -102,13 +102,13 @@ pub record Done : Type 0 where
   pub changes : List Change
   pub parts : List ActAns
 
-abbrev pub removal : Bytes → Option Kv → Done
-removal k None = record { changes = []; parts = part.Deleted (pos 0) ∷ [] }
-removal k (Some kv) = record { changes = Removes k ∷ []; parts = part.Deleted (pos 1) ∷ [] }
+abbrev pub key_removal : Bytes → Option Kv → Done
+key_removal k None = record { changes = []; parts = part.Deleted (pos 0) ∷ [] }
+key_removal k (Some kv) = record { changes = Removes k ∷ []; parts = part.Deleted (pos 1) ∷ [] }
 
 abbrev pub one_act : Store → Keys → Act → Done
 one_act s m (act.Put k v lease) = record { changes = Puts k v lease ∷ []; parts = part.Put ∷ [] }
-one_act s m (act.Delete k) = removal k (get m k)
+one_act s m (act.Delete k) = key_removal k (get m k)
 one_act s m (act.Range q) = record { changes = []; parts = part.Range (found q (looked_at s m q.revision)) ∷ [] }
 
 abbrev pub then_done : Done → Done → Done

@@ -1,7 +1,7 @@
 //! Connects.
 
 ghost use Rattle.std.specs.Prelude.{◌≡◌, Some, option_copied};
-ghost use Rattle.zs_session.specs.Connecting.{asked_in, MayStep};
+ghost use Rattle.zs_session.specs.Connecting.{asked_in_phase, MayStepConnect};
 
 use crate::answers::answer_of;
 use crate::words::{ask_text, damaged_text};
@@ -19,7 +19,7 @@ use zx_base::{Bytes, Memory};
 pub struct Begun {
     connecting: Connecting,
     asked: Ask,
-    ghost waits: { asked_in connecting connecting.phase ≡ Some asked },
+    ghost waits: { asked_in_phase connecting connecting.phase ≡ Some asked },
 }
 
 /// The 16 bytes of a password.
@@ -72,7 +72,7 @@ fn stepped(
     connecting: Connecting,
     answer: Option<&Answer>,
 ) -> Result<(String, Option<Begun>), Memory>
-    requires { MayStep connecting (option_copied answer) }
+    requires { MayStepConnect connecting (option_copied answer) }
 {
     let mut connecting = connecting;
     match connecting.step(answer) {

@@ -1,7 +1,7 @@
 //! Reaps.
 
 ghost use Rattle.std.specs.Prelude.{◌≡◌, option_copied};
-ghost use Rattle.zs_reap.specs.Steps.{MayStep};
+ghost use Rattle.zs_reap.specs.Steps.{MayStepReaper};
 
 use crate::answers::answer_of;
 use crate::words::{ask_text, damaged_text};
@@ -52,7 +52,7 @@ fn stepped(
     reaper: Reaper,
     answer: Option<&Answer>,
 ) -> Result<(String, Option<BegunReap>), Memory>
-    requires { MayStep reaper (option_copied answer) }
+    requires { MayStepReaper reaper (option_copied answer) }
 {
     let mut reaper = reaper;
     match reaper.step(answer) {

@@ -14,8 +14,8 @@ use Rattle.zd_etcd.specs.declared.serving.Stop.TheVariants as stop
 abbrev pub listening_text : List ℕ → List ℕ
 listening_text listen = codes "listening " ++ (listen ++ 10 ∷ [])
 
-abbrev pub fault_text : List ℕ
-fault_text = codes "net fault\n"
+abbrev pub net_fault_text : List ℕ
+net_fault_text = codes "net fault\n"
 
 -- ---- what is counted
 
@@ -32,43 +32,43 @@ abbrev pub door_fault : NetCounts → NetCounts
 door_fault counts = record counts { door_faults = one_more counts.door_faults }
 
 -- the counts of the sink: a write fault is one fault, and there is none else
-abbrev pub counts_after : EtcdEnd → OutputCounts → OutputCounts
-counts_after ends.WriteFault counts = counts_after_write took.Failed counts
-counts_after _ counts = counts
+abbrev pub counts_at_end : EtcdEnd → OutputCounts → OutputCounts
+counts_at_end ends.WriteFault counts = counts_after_write took.Failed counts
+counts_at_end _ counts = counts
 
 -- ---- the parts
 
 -- n connections were accepted; or fewer, and then the door had a fault, or memory was refused
-abbrev pub Stops : Result (Unit {0}) Stop → ℕ → NetCounts → NetCounts → Type 0
-Stops (Ok _) n counts counts' = counts' ≡ accepts n counts
-Stops (Err stop.Door) n counts counts' = (k : ℕ) × (k < n) × (counts' ≡ door_fault (accepts k counts))
-Stops (Err stop.Memory) n counts counts' = (k : ℕ) × (k < n) × (counts' ≡ accepts k counts)
+abbrev pub EtcdStops : Result (Unit {0}) Stop → ℕ → NetCounts → NetCounts → Type 0
+EtcdStops (Ok _) n counts counts' = counts' ≡ accepts n counts
+EtcdStops (Err stop.Door) n counts counts' = (k : ℕ) × (k < n) × (counts' ≡ door_fault (accepts k counts))
+EtcdStops (Err stop.Memory) n counts counts' = (k : ℕ) × (k < n) × (counts' ≡ accepts k counts)
 
 -- a fault of the net was told, or a front of it up to a fault of the sink
 abbrev pub Faults : EtcdEnd → Option (List ℕ) → Option (List ℕ) → Type 0
-Faults ends.Net taken taken' = Takes fault_text taken taken'
-Faults ends.WriteFault taken taken' = TakesFront fault_text taken taken'
+Faults ends.Net taken taken' = Takes net_fault_text taken taken'
+Faults ends.WriteFault taken taken' = TakesFront net_fault_text taken taken'
 Faults _ taken taken' = ⊥
 
 -- what is written once no further connection is accepted
-abbrev pub Finishes : Result (Unit {0}) Stop → EtcdEnd → Option (List ℕ) → Option (List ℕ) → Type 0
-Finishes (Ok _) end taken taken' = (end ≡ ends.Done) × (taken' ≡ taken)
-Finishes (Err stop.Door) end taken taken' = Faults end taken taken'
-Finishes (Err stop.Memory) end taken taken' = (end ≡ ends.Memory) × (taken' ≡ taken)
+abbrev pub EtcdFinishes : Result (Unit {0}) Stop → EtcdEnd → Option (List ℕ) → Option (List ℕ) → Type 0
+EtcdFinishes (Ok _) end taken taken' = (end ≡ ends.Done) × (taken' ≡ taken)
+EtcdFinishes (Err stop.Door) end taken taken' = Faults end taken taken'
+EtcdFinishes (Err stop.Memory) end taken taken' = (end ≡ ends.Memory) × (taken' ≡ taken)
 
 -- how it ended once it listened
-abbrev pub Serves : EtcdEnd → ℕ → NetCounts → NetCounts → Option (List ℕ) → Option (List ℕ) → Type 0
-Serves ends.Done limit counts counts' taken taken' = (counts' ≡ accepts limit counts) × (taken' ≡ taken)
-Serves ends.Net limit counts counts' taken taken' = (n : ℕ) × (n < limit) × (counts' ≡ door_fault (accepts n counts)) × Takes fault_text taken taken'
-Serves ends.WriteFault limit counts counts' taken taken' = (n : ℕ) × (n < limit) × (counts' ≡ door_fault (accepts n counts)) × TakesFront fault_text taken taken'
-Serves ends.Memory limit counts counts' taken taken' = (n : ℕ) × (n < limit) × (counts' ≡ accepts n counts) × (taken' ≡ taken)
+abbrev pub EtcdAccepts : EtcdEnd → ℕ → NetCounts → NetCounts → Option (List ℕ) → Option (List ℕ) → Type 0
+EtcdAccepts ends.Done limit counts counts' taken taken' = (counts' ≡ accepts limit counts) × (taken' ≡ taken)
+EtcdAccepts ends.Net limit counts counts' taken taken' = (n : ℕ) × (n < limit) × (counts' ≡ door_fault (accepts n counts)) × Takes net_fault_text taken taken'
+EtcdAccepts ends.WriteFault limit counts counts' taken taken' = (n : ℕ) × (n < limit) × (counts' ≡ door_fault (accepts n counts)) × TakesFront net_fault_text taken taken'
+EtcdAccepts ends.Memory limit counts counts' taken taken' = (n : ℕ) × (n < limit) × (counts' ≡ accepts n counts) × (taken' ≡ taken)
 
 -- ---- the whole
 
 -- The line that says that it listens was written, and then it ended so.
-abbrev pub Listened : EtcdEnd → List ℕ → ℕ → NetCounts → NetCounts → Option (List ℕ) → Option (List ℕ) → Type 0
-Listened end listen limit counts counts' taken taken' =
-    (between : Option (List ℕ)) × Takes (listening_text listen) taken between × Serves end limit counts counts' between taken'
+abbrev pub EtcdListened : EtcdEnd → List ℕ → ℕ → NetCounts → NetCounts → Option (List ℕ) → Option (List ℕ) → Type 0
+EtcdListened end listen limit counts counts' taken taken' =
+    (between : Option (List ℕ)) × Takes (listening_text listen) taken between × EtcdAccepts end limit counts counts' between taken'
 
 -- The address could not be listened on.
 abbrev pub Unbound : EtcdEnd → NetCounts → NetCounts → Option (List ℕ) → Option (List ℕ) → Type 0
@@ -76,12 +76,12 @@ Unbound end counts counts' taken taken' = (counts' ≡ door_fault counts) × Fau
 
 -- How it ended. With Done as many connections as the limit allows were accepted, and no door had a fault. With Net a door had one,
 -- which is told, and fewer connections were accepted. Out of memory, no door had one.
-abbrev pub Ends : EtcdEnd → List ℕ → ℕ → NetCounts → NetCounts → Option (List ℕ) → Option (List ℕ) → Type 0
-Ends ends.Done listen limit counts counts' taken taken' = Listened ends.Done listen limit counts counts' taken taken'
-Ends ends.Net listen limit counts counts' taken taken' =
-    Unbound ends.Net counts counts' taken taken' ⊎ Listened ends.Net listen limit counts counts' taken taken'
-Ends ends.WriteFault listen limit counts counts' taken taken' =
+abbrev pub EtcdEnds : EtcdEnd → List ℕ → ℕ → NetCounts → NetCounts → Option (List ℕ) → Option (List ℕ) → Type 0
+EtcdEnds ends.Done listen limit counts counts' taken taken' = EtcdListened ends.Done listen limit counts counts' taken taken'
+EtcdEnds ends.Net listen limit counts counts' taken taken' =
+    Unbound ends.Net counts counts' taken taken' ⊎ EtcdListened ends.Net listen limit counts counts' taken taken'
+EtcdEnds ends.WriteFault listen limit counts counts' taken taken' =
     ((counts' ≡ counts) × TakesFront (listening_text listen) taken taken')
-    ⊎ (Unbound ends.WriteFault counts counts' taken taken' ⊎ Listened ends.WriteFault listen limit counts counts' taken taken')
-Ends ends.Memory listen limit counts counts' taken taken' =
-    ((counts' ≡ counts) × (taken' ≡ taken)) ⊎ Listened ends.Memory listen limit counts counts' taken taken'
+    ⊎ (Unbound ends.WriteFault counts counts' taken taken' ⊎ EtcdListened ends.WriteFault listen limit counts counts' taken taken')
+EtcdEnds ends.Memory listen limit counts counts' taken taken' =
+    ((counts' ≡ counts) × (taken' ≡ taken)) ⊎ EtcdListened ends.Memory listen limit counts counts' taken taken'

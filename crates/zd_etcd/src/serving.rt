@@ -1,7 +1,7 @@
 //! The server.
 
 ghost use Rattle.std.specs.Prelude.{◌≡◌};
-ghost use Rattle.zd_etcd.specs.Serving.{Ends, Faults, Finishes, Serves, Stops, counts_after};
+ghost use Rattle.zd_etcd.specs.Serving.{EtcdEnds, Faults, EtcdFinishes, EtcdAccepts, EtcdStops, counts_at_end};
 
 use crate::writing::{listening, write_all};
 use ev_gateway::gateway;
@@ -98,7 +98,7 @@ fn accept_one<
     spawner: &mut P,
     clock: &C,
 ) -> Result<(), Stop>
-    ensures { Stops result 1 (N.counts net.old) (N.counts net.new) }
+    ensures { EtcdStops result 1 (N.counts net.old) (N.counts net.new) }
 {
     let Ok(store) = Arc::try_clone(store) else {
         return Err(Stop::Memory);
@@ -129,7 +129,7 @@ fn accept_all<
     spawner: &mut P,
     clock: &C,
 ) -> Result<(), Stop>
-    ensures { Stops result limit (N.counts net.old) (N.counts net.new) }
+    ensures { EtcdStops result limit (N.counts net.old) (N.counts net.new) }
 {
     'accepts: for accepted in 0..limit {
         if let Err(stop) = accept_one(rt, alloc, store, net, door, spawner, clock) {
@@ -142,7 +142,7 @@ fn accept_all<
 /// Says that the net had a fault.
 fn net_fault<O: Sink>(out: &mut O) -> EtcdEnd
     ensures told { Faults result (O.taken out.old) (O.taken out.new) }
-    ensures counts { O.counts out.new ≡ counts_after result (O.counts out.old) }
+    ensures counts { O.counts out.new ≡ counts_at_end result (O.counts out.old) }
 {
     if write_all(out, NET_FAULT) {
         EtcdEnd::Net
@@ -158,8 +158,8 @@ fn finish<W: Wait, O: Sink>(
     accepted: Result<(), Stop>,
     out: &mut O,
 ) -> EtcdEnd
-    ensures told { Finishes accepted result (O.taken out.old) (O.taken out.new) }
-    ensures counts { O.counts out.new ≡ counts_after result (O.counts out.old) }
+    ensures told { EtcdFinishes accepted result (O.taken out.old) (O.taken out.new) }
+    ensures counts { O.counts out.new ≡ counts_at_end result (O.counts out.old) }
 {
     match accepted {
         Ok(()) => {
@@ -198,8 +198,8 @@ fn serve<
     spawner: &mut P,
     clock: &C,
 ) -> EtcdEnd
-    ensures told { Serves result limit (N.counts net.old) (N.counts net.new) (O.taken out.old) (O.taken out.new) }
-    ensures counts { O.counts out.new ≡ counts_after result (O.counts out.old) }
+    ensures told { EtcdAccepts result limit (N.counts net.old) (N.counts net.new) (O.taken out.old) (O.taken out.new) }
+    ensures counts { O.counts out.new ≡ counts_at_end result (O.counts out.old) }
 {
     let mut door = door;
     let accepted = accept_all(*rt, alloc, &store, limit, net, &mut door, spawner, clock);
@@ -228,9 +228,9 @@ pub fn etcd<
     clock: &C,
 ) -> EtcdEnd
     // What was accepted and written, by the end.
-    ensures told { Ends result listen.now limit (N.counts net.old) (N.counts net.new) (O.taken out.old) (O.taken out.new) }
+    ensures told { EtcdEnds result listen.now limit (N.counts net.old) (N.counts net.new) (O.taken out.old) (O.taken out.new) }
     // A write fault is one fault of the sink; with any other end it had none.
-    ensures counts { O.counts out.new ≡ counts_after result (O.counts out.old) }
+    ensures counts { O.counts out.new ≡ counts_at_end result (O.counts out.old) }
 {
     let Ok(text) = listening(alloc, listen) else {
         return EtcdEnd::Memory;

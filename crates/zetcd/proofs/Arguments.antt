@@ -7,7 +7,7 @@ use Rattle.zetcd_cmd.specs.Outcomes.{IsWord}
 use Rattle.zetcd_cmd.specs.Proxying.{IsServe}
 use Rattle.zetcd_cmd.specs.Serving.{IsEtcd, is_address, limit_in}
 use Rattle.std.specs.Prelude.{true, Some}
-use Rattle.zetcd.specs.Arguments.{IsProxying, IsServing, arguments}
+use Rattle.zetcd.specs.Arguments.{IsProxying, IsServeWords, arguments}
 
 abbrev pub texts : List (Bor (List ℕ)) → List (List ℕ)
 texts words = map (λ (w : Bor (List ℕ)). w.now) words
@@ -33,7 +33,7 @@ arguments-after (w ∷ words) n h = rw (h ∙ one) (ap (map string_bytes) (whole
     whole : take (suc (length words) - 1) words ≡ take (length words) words
     whole = ap (λ n. take n words) (omega arith)
 
-pub serving-etcd : (words : List (Bor (List ℕ))) (listen : List ℕ) (limit : ℕ) → IsServing (texts words) listen limit → IsEtcd words listen limit
+pub serving-etcd : (words : List (Bor (List ℕ))) (listen : List ℕ) (limit : ℕ) → IsServeWords (texts words) listen limit → IsEtcd words listen limit
 serving-etcd [] listen limit is = absurd cc
 serving-etcd (w ∷ []) listen limit is = absurd cc
 serving-etcd (w ∷ v ∷ []) listen limit is = absurd cc
@@ -43,7 +43,7 @@ serving-etcd (w ∷ v ∷ u ∷ []) listen limit is =
     (cc, cc, is.2, ap limit_in third ∙ is.3)
 serving-etcd (w ∷ v ∷ u ∷ t ∷ words) listen limit is = absurd cc
 
-pub etcd-serving : (words : List (Bor (List ℕ))) (listen : List ℕ) (limit : ℕ) → IsEtcd words listen limit → IsServing (texts words) listen limit
+pub etcd-serving : (words : List (Bor (List ℕ))) (listen : List ℕ) (limit : ℕ) → IsEtcd words listen limit → IsServeWords (texts words) listen limit
 etcd-serving [] listen limit is = absurd is
 etcd-serving (w ∷ []) listen limit is = absurd is
 etcd-serving (w ∷ v ∷ []) listen limit is = absurd is

@@ -8,12 +8,12 @@ abbrev pub arguments : {Z : Type 0} → List (String Z) → List (List ℕ)
 arguments words = drop 1 (map string_bytes words)
 
 -- the words after the program's name are `etcd`, this address, and the text of this limit
-abbrev pub IsServing : List (List ℕ) → List ℕ → ℕ → Type 0
-IsServing words listen limit =
+abbrev pub IsServeWords : List (List ℕ) → List ℕ → ℕ → Type 0
+IsServeWords words listen limit =
     (text : List ℕ) × (words ≡ codes "etcd" ∷ (listen ∷ (text ∷ []))) × (is_address listen ≡ true) × (limit_in text ≡ Some limit)
 
 abbrev pub IsNoServing : List (List ℕ) → Type 0
-IsNoServing words = (listen : List ℕ) (limit : ℕ) → ¬ IsServing words listen limit
+IsNoServing words = (listen : List ℕ) (limit : ℕ) → ¬ IsServeWords words listen limit
 
 -- the words after the program's name are `serve`, this address, these one to five addresses, and the text of this limit
 abbrev pub IsProxying : List (List ℕ) → List ℕ → List ℕ → ℕ → Type 0

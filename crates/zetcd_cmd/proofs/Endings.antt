@@ -11,7 +11,7 @@ use Rattle.zetcd_cmd.specs.declared.script.Script.{Script}
 use Rattle.zetcd_cmd.specs.declared.script.Stop.{Stop}
 use Rattle.zetcd_cmd.specs.Ending.{EndsAll, EndsAt, EndsReading}
 use Rattle.zetcd_cmd.specs.Outcomes.{IsAtItsEnd}
-use Rattle.zetcd_cmd.specs.Scripting.{Stands, EndsEarly}
+use Rattle.zetcd_cmd.specs.Scripting.{ScriptStands, EndsEarly}
 
 pub at_its_end : (ended : Bool) (left left' : Option (List ℕ)) → ended ≡ true → IsAtEnd left → left' ≡ left → IsAtItsEnd ended left'
 at_its_end ended left left' is none stays = record { ended = is; left = subst IsAtEnd (sym stays) none }
@@ -39,7 +39,7 @@ no_fault_at_end end.ReadFault seen s ends is = ends
 
 -- it was cut short
 pub EndsReading-fault : (seen : List ℕ) (ended : Bool) (given given' given'' left left' left'' : Option (List ℕ)) (s : Script) → Gives seen given given' left left' → GivesNone given' given'' left' left'' →
-    Stands seen s → EndsReading end.ReadFault ended s given given'' left left''
+    ScriptStands seen s → EndsReading end.ReadFault ended s given given'' left left''
 EndsReading-fault seen ended given given' given'' left left' left'' s gives stays read = (seen, Gives-none seen given given' given'' left left' left'' gives stays, read)
 
 -- a buffer that was written over whole

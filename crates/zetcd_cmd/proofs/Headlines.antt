@@ -20,7 +20,7 @@ use Rattle.zetcd_cmd.specs.declared.status.Status.TheVariants as status
 use Rattle.zetcd_cmd.specs.Ending.{EndsAt, EndsReading}
 use Rattle.zetcd_cmd.specs.Outcomes.{Did, IsAtItsEnd, IsFront, StopsAt, ReplayWrites, Replays, TakesSome, IsUnharmed, Failed}
 use Rattle.zetcd_cmd.specs.Reporting.{ending_text, status_after, stop_text}
-use Rattle.zetcd_cmd.specs.Scripting.{HasNoLineFeed, Stands, IsApplied, IsHalted}
+use Rattle.zetcd_cmd.specs.Scripting.{HasNoLineFeed, ScriptStands, IsApplied, IsHalted}
 use Rattle.zetcd_cmd.proofs.Progress.{script-lines}
 use Rattle.zetcd_cmd.proofs.Reaching.{AreHeld, reached-claims, reached-judged}
 
@@ -84,7 +84,7 @@ stops read s n ended left why held at reason ends =
 lacks : (bytes : List ℕ) → HasNoLineFeed bytes → Contains bytes 10 → ⊥
 lacks bytes none some = true≢false (All-contains (λ b. (b == 10) ≡ false) bytes 10 none some)
 
-cut_short : (input : List ℕ) (s : Script) → AreHeld s.world.lines → Stands input s → IsCutShort input (transcript_text s.world.lines ++ [])
+cut_short : (input : List ℕ) (s : Script) → AreHeld s.world.lines → ScriptStands input s → IsCutShort input (transcript_text s.world.lines ++ [])
 cut_short input s held st =
     let left = st.room in
     record {

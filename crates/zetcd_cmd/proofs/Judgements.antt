@@ -14,7 +14,7 @@ use Rattle.zetcd_cmd.specs.declared.judge.Reading.TheVariants as reading
 use Rattle.zetcd_cmd.specs.declared.status.Status.{Status}
 use Rattle.zetcd_cmd.specs.declared.status.Status.TheVariants as status
 use Rattle.zetcd_cmd.specs.Judged.{Finds}
-use Rattle.zetcd_cmd.specs.Judging.{IsRead, Tells}
+use Rattle.zetcd_cmd.specs.Judging.{IsReadWhole, TellsVerdict}
 use Rattle.zetcd_cmd.specs.Outcomes.{Did, IsAtItsEnd, JudgeWrites, Judges}
 
 -- ---- a text that is too long
@@ -62,7 +62,7 @@ writes status.Net ended left text output settled finds = absurd finds
 writes (status.Feed end) ended left text output settled finds = absurd finds
 
 pub Did-judged : (s : Status) (text : List ℕ) (ended : Bool) (given given' left left' taken taken' : Option (List ℕ)) → Gives text given given' left left' →
-    IsAtItsEnd ended left' ⊎ (max_script < length text) → Tells s text taken taken' → Did (Judges s ended left') given given' left left' taken taken'
+    IsAtItsEnd ended left' ⊎ (max_script < length text) → TellsVerdict s text taken taken' → Did (Judges s ended left') given given' left left' taken taken'
 Did-judged status.Done text ended given given' left left' taken taken' gives settled tells =
     record { read = text; output = tells.0; gives = gives; takes = tells.2; holds = writes status.Done ended left' text tells.0 settled tells.1 }
 Did-judged status.Unlawful text ended given given' left left' taken taken' gives settled tells =
@@ -87,21 +87,21 @@ Did-judged (status.Feed end) text ended given given' left left' taken taken' giv
 
 -- it came whole
 Did-whole : (how : Reading) (s : Status) (text shown : List ℕ) (ended : Bool) (given given' left left' taken taken' : Option (List ℕ)) → how ≡ reading.Whole → shown ≡ text →
-    IsRead how text ended given given' left left' → Tells s shown taken taken' → Did (Judges s ended left') given given' left left' taken taken'
+    IsReadWhole how text ended given given' left left' → TellsVerdict s shown taken taken' → Did (Judges s ended left') given given' left left' taken taken'
 Did-whole how s text shown ended given given' left left' taken taken' is same read tells =
-    let whole = subst (λ (h : Reading). IsRead h text ended given given' left left') is read in
+    let whole = subst (λ (h : Reading). IsReadWhole h text ended given given' left left') is read in
     Did-judged s text ended given given' left left' taken taken' (subst (λ (t : List ℕ). Gives t given given' left left') whole.2.1 whole.1) (inl whole.2.0)
-    (subst (λ (t : List ℕ). Tells s t taken taken') same tells)
+    (subst (λ (t : List ℕ). TellsVerdict s t taken taken') same tells)
 
 -- it was too long
 Did-long : (how : Reading) (s : Status) (text shown : List ℕ) (ended : Bool) (given given' left left' taken taken' : Option (List ℕ)) → how ≡ reading.TooLong → shown ≡ text →
-    IsRead how text ended given given' left left' → Tells s shown taken taken' → Did (Judges s ended left') given given' left left' taken taken'
+    IsReadWhole how text ended given given' left left' → TellsVerdict s shown taken taken' → Did (Judges s ended left') given given' left left' taken taken'
 Did-long how s text shown ended given given' left left' taken taken' is same read tells =
-    let long = subst (λ (h : Reading). IsRead h text ended given given' left left') is read in
+    let long = subst (λ (h : Reading). IsReadWhole h text ended given given' left left') is read in
     Did-judged s text ended given given' left left' taken taken' (subst (λ (t : List ℕ). Gives t given given' left left') long.2.1 long.1) (inr long.2.0)
-    (subst (λ (t : List ℕ). Tells s t taken taken') same tells)
+    (subst (λ (t : List ℕ). TellsVerdict s t taken taken') same tells)
 
 pub Did-read : (how : Reading) (s : Status) (text shown : List ℕ) (ended : Bool) (given given' left left' taken taken' : Option (List ℕ)) → (how ≡ reading.Whole) ⊎ (how ≡ reading.TooLong) → shown ≡ text →
-    IsRead how text ended given given' left left' → Tells s shown taken taken' → Did (Judges s ended left') given given' left left' taken taken'
+    IsReadWhole how text ended given given' left left' → TellsVerdict s shown taken taken' → Did (Judges s ended left') given given' left left' taken taken'
 Did-read how s text shown ended given given' left left' taken taken' (inl is) same read tells = Did-whole how s text shown ended given given' left left' taken taken' is same read tells
 Did-read how s text shown ended given given' left left' taken taken' (inr is) same read tells = Did-long how s text shown ended given given' left left' taken taken' is same read tells

@@ -6,7 +6,7 @@ use Rattle.std.specs.Prelude.{Bool, ℤ, pos, ◌≤ℤ◌, ◌==◌, ◌&&◌, 
 use Rattle.zk_model.specs.Limits.{max_long}
 use Rattle.zt_text.specs.declared.script.Happening.{Happening}
 use Rattle.zt_text.specs.declared.script.Happening.TheVariants as line
-use Rattle.zt_text.specs.Scripts.{as_session_id, bytes_line, digits_value, foreign_line, four_words, frame_line, happening, hex, hex_byte, hex_digit, hex_pairs, lapse_line, line_of_form, line_read, max_line, number, number_and_bytes, numbered_line, of_number, one_word, open_line, password, pieces, reap_line, session_id, three_words, two_words, ◌>>=◌}
+use Rattle.zt_text.specs.Scripts.{as_session_id, bytes_line, digits_value, foreign_line, four_words, frame_happening, happening, hex, hex_byte, hex_value, hex_pairs, lapse_happening, happening_of_form, happening_read, max_line, number, number_and_bytes, numbered_line, of_number, one_word, open_happening, password, pieces, reap_line, session_id, three_words, two_words, ◌>>=◌}
 use Rattle.zp_verdict_laws.specs.Written.{NamesSession}
 use Rattle.zp_world.specs.Applying.{IsOfScript}
 
@@ -41,7 +41,7 @@ in-range n = if-holds IsNumber (nat_lt 0 n && nat_lt n (2 ^ 63)) (Some (pos n)) 
 
 id-range : (w : List ℕ) → IfSome (session_id w) IsNumber
 unfolding session_id
-id-range w = either IsNumber (length w == 16) _ None (bind IsNumber (digits_value 16 hex_digit 0 w) as_session_id (λ n is. in-range n)) tt
+id-range w = either IsNumber (length w == 16) _ None (bind IsNumber (digits_value 16 hex_value 0 w) as_session_id (λ n is. in-range n)) tt
 
 pairs-length : (w : List ℕ) → IfSome (hex_pairs w) (λ bytes. length w ≡ 2 * length bytes)
 unfolding hex_pairs
@@ -62,23 +62,23 @@ password-length w = if-holds (λ bytes. length bytes ≡ 16) (length w == 32) (h
 abbrev Offers : Happening → Type 0
 Offers h = NamesSession h × IsOfScript h
 
-open-offers : (words : List (List ℕ)) → IfSome (open_line words) Offers
-unfolding open_line
+open-offers : (words : List (List ℕ)) → IfSome (open_happening words) Offers
+unfolding open_happening
 open-offers words =
     bind Offers (four_words words) _ (λ w is. bind Offers (number w.0) _ (λ c is1. bind Offers (number w.1) _ (λ p is2. bind Offers (session_id w.2) _ (λ id is3. bind Offers (password w.3) _ (λ passwd is4.
     (let n = some-of IsNumber (session_id w.2) id (id-range w.2) is3 in
     (record { least = n.0; most = n.1; long = some-of _ (password w.3) passwd (password-length w.3) is4 }, n.0)))))))
 
-frame-offers : (words : List (List ℕ)) → IfSome (frame_line words) Offers
-unfolding frame_line
+frame-offers : (words : List (List ℕ)) → IfSome (frame_happening words) Offers
+unfolding frame_happening
 frame-offers words = bind Offers (number_and_bytes words) _ (λ x is. (tt, tt))
 
 bytes-offers : (words : List (List ℕ)) → IfSome (bytes_line words) Offers
 unfolding bytes_line
 bytes-offers words = bind Offers (number_and_bytes words) _ (λ x is. (tt, tt))
 
-lapse-offers : (words : List (List ℕ)) → IfSome (lapse_line words) Offers
-unfolding lapse_line
+lapse-offers : (words : List (List ℕ)) → IfSome (lapse_happening words) Offers
+unfolding lapse_happening
 lapse-offers words = bind Offers (one_word words) _ (λ w is. bind Offers (session_id w) _ (λ id is1. ((some-of IsNumber (session_id w) id (id-range w) is1).0, tt)))
 
 foreign-offers : (words : List (List ℕ)) → IfSome (foreign_line words) Offers
@@ -180,10 +180,10 @@ foreign-on-offers : (form : List ℕ) (words : List (List ℕ)) → IfSome (of_f
 foreign-on-offers form words = either Offers (bytes_eq form (codes "foreign")) (foreign_line words) (of_reap form words) (foreign-offers words) (reap-on-offers form words)
 
 abbrev of_lapse : List ℕ → List (List ℕ) → Option Happening
-of_lapse form words = if bytes_eq form (codes "lapse") then lapse_line words else of_foreign form words
+of_lapse form words = if bytes_eq form (codes "lapse") then lapse_happening words else of_foreign form words
 
 lapse-on-offers : (form : List ℕ) (words : List (List ℕ)) → IfSome (of_lapse form words) Offers
-lapse-on-offers form words = either Offers (bytes_eq form (codes "lapse")) (lapse_line words) (of_foreign form words) (lapse-offers words) (foreign-on-offers form words)
+lapse-on-offers form words = either Offers (bytes_eq form (codes "lapse")) (lapse_happening words) (of_foreign form words) (lapse-offers words) (foreign-on-offers form words)
 
 abbrev of_bytes : List ℕ → List (List ℕ) → Option Happening
 of_bytes form words = if bytes_eq form (codes "bytes") then bytes_line words else of_lapse form words
@@ -192,28 +192,28 @@ bytes-on-offers : (form : List ℕ) (words : List (List ℕ)) → IfSome (of_byt
 bytes-on-offers form words = either Offers (bytes_eq form (codes "bytes")) (bytes_line words) (of_lapse form words) (bytes-offers words) (lapse-on-offers form words)
 
 abbrev of_frame : List ℕ → List (List ℕ) → Option Happening
-of_frame form words = if bytes_eq form (codes "frame") then frame_line words else of_bytes form words
+of_frame form words = if bytes_eq form (codes "frame") then frame_happening words else of_bytes form words
 
 frame-on-offers : (form : List ℕ) (words : List (List ℕ)) → IfSome (of_frame form words) Offers
-frame-on-offers form words = either Offers (bytes_eq form (codes "frame")) (frame_line words) (of_bytes form words) (frame-offers words) (bytes-on-offers form words)
+frame-on-offers form words = either Offers (bytes_eq form (codes "frame")) (frame_happening words) (of_bytes form words) (frame-offers words) (bytes-on-offers form words)
 
 abbrev of_open : List ℕ → List (List ℕ) → Option Happening
-of_open form words = if bytes_eq form (codes "open") then open_line words else of_frame form words
+of_open form words = if bytes_eq form (codes "open") then open_happening words else of_frame form words
 
 open-on-offers : (form : List ℕ) (words : List (List ℕ)) → IfSome (of_open form words) Offers
-open-on-offers form words = either Offers (bytes_eq form (codes "open")) (open_line words) (of_frame form words) (open-offers words) (frame-on-offers form words)
+open-on-offers form words = either Offers (bytes_eq form (codes "open")) (open_happening words) (of_frame form words) (open-offers words) (frame-on-offers form words)
 
-form-offers : (form : List ℕ) (words : List (List ℕ)) → IfSome (line_of_form form words) Offers
-unfolding line_of_form
+form-offers : (form : List ℕ) (words : List (List ℕ)) → IfSome (happening_of_form form words) Offers
+unfolding happening_of_form
 form-offers form words = open-on-offers form words
 
 words-offer : (words : List (List ℕ)) → IfSome (happening words) Offers
 words-offer [] = tt
 words-offer (form ∷ words) = form-offers form words
 
-line-offers : (line : List ℕ) → IfSome (line_read line) Offers
-unfolding line_read
+line-offers : (line : List ℕ) → IfSome (happening_read line) Offers
+unfolding happening_read
 line-offers line = either Offers (nat_lt max_line (length line)) None _ tt (words-offer (pieces 32 line))
 
-pub read-offers : (line : List ℕ) (h : Happening) → line_read line ≡ Some h → Offers h
-read-offers line h is = some-of Offers (line_read line) h (line-offers line) is
+pub read-offers : (line : List ℕ) (h : Happening) → happening_read line ≡ Some h → Offers h
+read-offers line h is = some-of Offers (happening_read line) h (line-offers line) is

@@ -6,7 +6,7 @@ use Rattle.std.proofs.lemmas.List.Elements.{All-append, All-nil}
 use Rattle.zt_text.specs.declared.script.Happening.{Happening}
 use Rattle.zt_text.specs.declared.script.Unread.{Unread}
 use Rattle.zt_text.specs.declared.script.Unread.TheVariants.{Unreadable, TooLong}
-use Rattle.zt_text.specs.Scripts.{Script as Reading, then_script, last_line, line_read, max_line, max_script, script, script_from}
+use Rattle.zt_text.specs.Scripts.{Script as Reading, then_script, last_happening, happening_read, max_line, max_script, script, script_from}
 use Rattle.zp_script.specs.Worlds.{World}
 use Rattle.zp_script.specs.Faults.{fault}
 use Rattle.zetcd_cmd.specs.Reached.{Reached}
@@ -14,7 +14,7 @@ use Rattle.zetcd_cmd.specs.declared.script.Script.{Script}
 use Rattle.zetcd_cmd.specs.declared.script.Stop.{Stop}
 use Rattle.zetcd_cmd.specs.declared.script.Stop.TheVariants as stop
 use Rattle.zetcd_cmd.specs.Replayed.{IsOver}
-use Rattle.zetcd_cmd.specs.Scripting.{HasNoLineFeed, Plays, Halts, IsKeptOut, Says, after, HasRead, Stands, IsApplied, Ends, EndsEarly, IsOverAt}
+use Rattle.zetcd_cmd.specs.Scripting.{HasNoLineFeed, Plays, ScriptHalts, IsKeptOut, ScriptSays, after, HasRead, ScriptStands, IsApplied, ScriptEnds, EndsEarly, IsOverAt}
 use Rattle.zetcd_cmd.proofs.ScriptLaws.{Says-line, script_from-line, line_read-long, script_from-long, script_from-last, script_from-cut}
 
 abbrev no_line_feed : ℕ → Type 0
@@ -25,7 +25,7 @@ unfolding script
 script-from bytes = refl
 
 -- what whole lines say alone
-script-says : (lines : List ℕ) (happenings : List Happening) → Says lines happenings → length lines ≤ max_script → script lines ≡ (happenings, None)
+script-says : (lines : List ℕ) (happenings : List Happening) → ScriptSays lines happenings → length lines ≤ max_script → script lines ≡ (happenings, None)
 script-says lines happenings says fits =
     script-from lines ∙ ap (script_from 1 max_script) (sym (append-nil lines))
     ∙ script_from-last max_script lines [] happenings says (All-nil no_line_feed) (omega arith)
@@ -33,14 +33,14 @@ script-says lines happenings says fits =
 
 -- ---- why a line is not applied
 
-pub Halts-kept_out : (line : List ℕ) (w : World) (why : Stop) → IsKeptOut line why → Halts line w why w
+pub Halts-kept_out : (line : List ℕ) (w : World) (why : Stop) → IsKeptOut line why → ScriptHalts line w why w
 Halts-kept_out line w (stop.Unread why) out = (out.0, line_read-long line out.1, refl)
 Halts-kept_out line w (stop.Refused why) out = absurd out
 Halts-kept_out line w stop.Memory out = tt {0}
 
 -- a line that stands next in the script was not applied
 Ends-at : (input line : List ℕ) (happenings : List Happening) (later : Reading) (w : World) (new : Script) (why : Stop) → Reached happenings w → new.line ≡ length happenings + 1 →
-    script input ≡ with_first happenings (then_script (length happenings + 1) (line_read line) later) → Halts line w why new.world → Ends input new why
+    script input ≡ with_first happenings (then_script (length happenings + 1) (happening_read line) later) → ScriptHalts line w why new.world → ScriptEnds input new why
 Ends-at input line happenings later w new (stop.Unread why) reached number read halts = record {
   before = happenings;
   later = [];
@@ -96,8 +96,8 @@ HasRead-line seen bytes old new lacks plays empty next r fits =
       reached = applied.2;
     }
 
-pub Ends-line : (seen bytes rest : List ℕ) (old new : Script) (why : Stop) → HasNoLineFeed bytes → Halts (old.pending.items ++ bytes) old.world why new.world → new.line ≡ old.line →
-    HasRead seen old → length (seen ++ bytes) < max_script → Ends (seen ++ (bytes ++ 10 ∷ rest)) new why
+pub Ends-line : (seen bytes rest : List ℕ) (old new : Script) (why : Stop) → HasNoLineFeed bytes → ScriptHalts (old.pending.items ++ bytes) old.world why new.world → new.line ≡ old.line →
+    HasRead seen old → length (seen ++ bytes) < max_script → ScriptEnds (seen ++ (bytes ++ 10 ∷ rest)) new why
 Ends-line seen bytes rest old new why lacks halts same r fits =
     let line = old.pending.items ++ bytes in
     let size = length-after seen r.lines old.pending.items bytes r.parts in
@@ -122,7 +122,7 @@ HasRead-begun seen bytes old new lacks grown short world line r = record {
 }
 
 pub Ends-begun : (seen bytes rest : List ℕ) (old new : Script) (why : Stop) → HasNoLineFeed bytes → IsKeptOut (old.pending.items ++ bytes) why → new.world ≡ old.world → new.line ≡ old.line →
-    HasRead seen old → length (seen ++ bytes) ≤ max_script → Ends ((seen ++ bytes) ++ rest) new why
+    HasRead seen old → length (seen ++ bytes) ≤ max_script → ScriptEnds ((seen ++ bytes) ++ rest) new why
 Ends-begun seen bytes rest old new (stop.Unread why) lacks out world line r fits =
     let begun = old.pending.items ++ bytes in
     let size = length-after seen r.lines old.pending.items bytes r.parts in
@@ -167,14 +167,14 @@ Goes-line old now new bytes rest line later parts one goes seen r fits =
     )
 
 pub Goes-halts : (old now new : Script) (bytes rest line later : List ℕ) (why : Stop) → rest ≡ line ++ 10 ∷ later →
-    ((seen after : List ℕ) → HasRead seen now → length (seen ++ line) < max_script → Ends (seen ++ (line ++ 10 ∷ after)) new why) → Goes old bytes now rest →
-    (seen after : List ℕ) → HasRead seen old → length (seen ++ bytes) ≤ max_script → Ends ((seen ++ bytes) ++ after) new why
+    ((seen after : List ℕ) → HasRead seen now → length (seen ++ line) < max_script → ScriptEnds (seen ++ (line ++ 10 ∷ after)) new why) → Goes old bytes now rest →
+    (seen after : List ℕ) → HasRead seen old → length (seen ++ bytes) ≤ max_script → ScriptEnds ((seen ++ bytes) ++ after) new why
 Goes-halts old now new bytes rest line later why parts one goes seen after r fits =
     let far = goes seen r fits in
     let whole : seen ++ bytes ≡ far.0 ++ (line ++ 10 ∷ later) = far.2 ∙ ap (λ t. far.0 ++ t) parts in
     let place : (seen ++ bytes) ++ after ≡ far.0 ++ (line ++ 10 ∷ (later ++ after)) =
     ap (λ t. t ++ after) whole ∙ append_assoc far.0 (line ++ 10 ∷ later) after ∙ ap (λ t. far.0 ++ t) (append_assoc line (10 ∷ later) after) in
-    subst (λ (t : List ℕ). Ends t new why) (sym place) (one far.0 (later ++ after) far.1 (line_fits (seen ++ bytes) far.0 line later whole fits))
+    subst (λ (t : List ℕ). ScriptEnds t new why) (sym place) (one far.0 (later ++ after) far.1 (line_fits (seen ++ bytes) far.0 line later whole fits))
 
 pub Goes-begun : (old now new : Script) (bytes rest : List ℕ) → HasNoLineFeed rest → new.pending.items ≡ now.pending.items ++ rest → length new.pending.items ≤ max_line →
     new.world ≡ now.world → new.line ≡ now.line → Goes old bytes now rest → (seen : List ℕ) → HasRead seen old → length (seen ++ bytes) ≤ max_script → HasRead (seen ++ bytes) new
@@ -183,10 +183,10 @@ Goes-begun old now new bytes rest lacks grown short world line goes seen r fits 
     subst (λ (t : List ℕ). HasRead t new) (sym far.2) (HasRead-begun far.0 rest now new lacks grown short world line far.1)
 
 pub Goes-kept_out : (old now new : Script) (bytes rest : List ℕ) (why : Stop) → HasNoLineFeed rest → IsKeptOut (now.pending.items ++ rest) why → new.world ≡ now.world → new.line ≡ now.line →
-    Goes old bytes now rest → (seen after : List ℕ) → HasRead seen old → length (seen ++ bytes) ≤ max_script → Ends ((seen ++ bytes) ++ after) new why
+    Goes old bytes now rest → (seen after : List ℕ) → HasRead seen old → length (seen ++ bytes) ≤ max_script → ScriptEnds ((seen ++ bytes) ++ after) new why
 Goes-kept_out old now new bytes rest why lacks out world line goes seen after r fits =
     let far = goes seen r fits in
-    subst (λ (t : List ℕ). Ends (t ++ after) new why) (sym far.2)
+    subst (λ (t : List ℕ). ScriptEnds (t ++ after) new why) (sym far.2)
     (Ends-begun far.0 rest after now new why lacks out world line far.1 (subst (λ (t : List ℕ). length t ≤ max_script) far.2 fits))
 
 -- ---- whole pieces
@@ -195,7 +195,7 @@ piece_fits : (seen piece : List ℕ) (room : ℕ) → length seen + room ≡ max
 piece_fits seen piece room left fits = rw (length-append seen piece) (omega arith)
 
 pub Ends-piece : (seen piece rest : List ℕ) (old new : Script) (why : Stop) → length piece ≤ old.room →
-    ((seen after : List ℕ) → HasRead seen old → length (seen ++ piece) ≤ max_script → Ends ((seen ++ piece) ++ after) new why) → Stands seen old → Ends ((seen ++ piece) ++ rest) new why
+    ((seen after : List ℕ) → HasRead seen old → length (seen ++ piece) ≤ max_script → ScriptEnds ((seen ++ piece) ++ after) new why) → ScriptStands seen old → ScriptEnds ((seen ++ piece) ++ rest) new why
 Ends-piece seen piece rest old new why fits one s = one seen rest s.read (piece_fits seen piece old.room s.room fits)
 
 -- a piece that has more bytes than may come
@@ -206,13 +206,13 @@ front_place seen piece rest room =
     ∙ append_assoc (seen ++ take room piece) (drop room piece) rest
 
 pub Ends-front : (seen piece front rest : List ℕ) (old new : Script) (why : Stop) → front ≡ take old.room piece → length front ≤ old.room →
-    ((seen after : List ℕ) → HasRead seen old → length (seen ++ front) ≤ max_script → Ends ((seen ++ front) ++ after) new why) → Stands seen old → Ends ((seen ++ piece) ++ rest) new why
+    ((seen after : List ℕ) → HasRead seen old → length (seen ++ front) ≤ max_script → ScriptEnds ((seen ++ front) ++ after) new why) → ScriptStands seen old → ScriptEnds ((seen ++ piece) ++ rest) new why
 Ends-front seen piece front rest old new why front_is fits one s =
-    subst (λ (t : List ℕ). Ends t new why) (sym (front_place seen piece rest old.room ∙ ap (λ t. (seen ++ t) ++ (drop old.room piece ++ rest)) (sym front_is)))
+    subst (λ (t : List ℕ). ScriptEnds t new why) (sym (front_place seen piece rest old.room ∙ ap (λ t. (seen ++ t) ++ (drop old.room piece ++ rest)) (sym front_is)))
     (Ends-piece seen front (drop old.room piece ++ rest) old new why fits one s)
 
 -- all bytes that a script may have came, and one more
-Ends-cut : (seen rest : List ℕ) (s : Script) → HasRead seen s → length seen ≡ max_script → 0 < length rest → Ends (seen ++ rest) s (stop.Unread TooLong)
+Ends-cut : (seen rest : List ℕ) (s : Script) → HasRead seen s → length seen ≡ max_script → 0 < length rest → ScriptEnds (seen ++ rest) s (stop.Unread TooLong)
 Ends-cut seen rest s r full more =
     let size : length seen ≡ length r.lines + length s.pending.items = ap length r.parts ∙ length-append r.lines s.pending.items in
     record {
@@ -228,38 +228,38 @@ Ends-cut seen rest s r full more =
     }
 
 pub Ends-over : (seen piece front rest : List ℕ) (old new : Script) → front ≡ take old.room piece → length front ≡ old.room → old.room < length piece →
-    ((seen : List ℕ) → HasRead seen old → length (seen ++ front) ≤ max_script → HasRead (seen ++ front) new) → Stands seen old → Ends ((seen ++ piece) ++ rest) new (stop.Unread TooLong)
+    ((seen : List ℕ) → HasRead seen old → length (seen ++ front) ≤ max_script → HasRead (seen ++ front) new) → ScriptStands seen old → ScriptEnds ((seen ++ piece) ++ rest) new (stop.Unread TooLong)
 Ends-over seen piece front rest old new front_is full more one s =
     let left = s.room in
     let size : length (seen ++ front) ≡ max_script = rw (length-append seen front) (omega arith) in
     let parts : length piece ≡ length front + length (drop old.room piece) =
     ap length (sym (take-append-drop old.room piece) ∙ ap (λ t. t ++ drop old.room piece) (sym front_is)) ∙ length-append front (drop old.room piece) in
-    subst (λ (t : List ℕ). Ends t new (stop.Unread TooLong)) (sym (front_place seen piece rest old.room ∙ ap (λ t. (seen ++ t) ++ (drop old.room piece ++ rest)) (sym front_is)))
+    subst (λ (t : List ℕ). ScriptEnds t new (stop.Unread TooLong)) (sym (front_place seen piece rest old.room ∙ ap (λ t. (seen ++ t) ++ (drop old.room piece ++ rest)) (sym front_is)))
     (Ends-cut (seen ++ front) (drop old.room piece ++ rest) new (one seen s.read (omega arith)) size (rw (length-append (drop old.room piece) rest) (omega arith)))
 
 -- ---- the end of a script
 
-last_line-some : (n : ℕ) (line : List ℕ) → 0 < length line → last_line false n line ≡ then_script n (line_read line) ([], None)
+last_line-some : (n : ℕ) (line : List ℕ) → 0 < length line → last_happening false n line ≡ then_script n (happening_read line) ([], None)
 last_line-some n [] some = absurd (omega arith)
 last_line-some n (b ∷ bs) some = refl
 
 -- what is read of it all
-script-seen : (seen : List ℕ) (s : Script) (r : HasRead seen s) → length seen ≤ max_script → script seen ≡ after r.happenings (last_line false (length r.happenings + 1) s.pending.items)
+script-seen : (seen : List ℕ) (s : Script) (r : HasRead seen s) → length seen ≤ max_script → script seen ≡ after r.happenings (last_happening false (length r.happenings + 1) s.pending.items)
 script-seen seen s r fits =
     let size : length seen ≡ length r.lines + length s.pending.items = ap length r.parts ∙ length-append r.lines s.pending.items in
     script-from seen ∙ ap (script_from 1 max_script) r.parts ∙ script_from-last max_script r.lines s.pending.items r.happenings r.says r.begun (omega arith)
 
-pub IsApplied-whole : (seen : List ℕ) (s : Script) → s.pending.items ≡ [] → Stands seen s → IsApplied seen s
+pub IsApplied-whole : (seen : List ℕ) (s : Script) → s.pending.items ≡ [] → ScriptStands seen s → IsApplied seen s
 IsApplied-whole seen s empty st =
     let left = st.room in
     let hs = st.read.happenings in
     record {
       happenings = hs;
       reached = st.read.reached;
-      read = script-seen seen s st.read (omega arith) ∙ ap (λ p. with_first hs (last_line false (length hs + 1) p)) empty ∙ ap (λ (all : List Happening). (all, None)) (append-nil hs);
+      read = script-seen seen s st.read (omega arith) ∙ ap (λ p. with_first hs (last_happening false (length hs + 1) p)) empty ∙ ap (λ (all : List Happening). (all, None)) (append-nil hs);
     }
 
-pub IsApplied-line : (seen : List ℕ) (old new : Script) → 0 < length old.pending.items → Plays old.pending.items old.world new.world → Stands seen old → IsApplied seen new
+pub IsApplied-line : (seen : List ℕ) (old new : Script) → 0 < length old.pending.items → Plays old.pending.items old.world new.world → ScriptStands seen old → IsApplied seen new
 IsApplied-line seen old new some plays st =
     let left = st.room in
     let hs = st.read.happenings in
@@ -272,7 +272,7 @@ IsApplied-line seen old new some plays st =
           ∙ ap (λ o. with_first hs (then_script (length hs + 1) o ([], None))) applied.1;
     }
 
-pub Ends-last : (seen : List ℕ) (old new : Script) (why : Stop) → 0 < length old.pending.items → Halts old.pending.items old.world why new.world → new.line ≡ old.line → Stands seen old → Ends seen new why
+pub Ends-last : (seen : List ℕ) (old new : Script) (why : Stop) → 0 < length old.pending.items → ScriptHalts old.pending.items old.world why new.world → new.line ≡ old.line → ScriptStands seen old → ScriptEnds seen new why
 Ends-last seen old new why some halts same st =
     let left = st.room in
     let hs = st.read.happenings in
@@ -280,7 +280,7 @@ Ends-last seen old new why some halts same st =
     (script-seen seen old st.read (omega arith) ∙ ap (with_first hs) (last_line-some (length hs + 1) old.pending.items some)) halts
 
 -- what the lines say that were applied
-pub script-lines : (seen : List ℕ) (s : Script) (st : Stands seen s) → script st.read.lines ≡ (st.read.happenings, None)
+pub script-lines : (seen : List ℕ) (s : Script) (st : ScriptStands seen s) → script st.read.lines ≡ (st.read.happenings, None)
 script-lines seen s st =
     let r = st.read in
     let left = st.room in
@@ -362,14 +362,14 @@ Over-kept_out old now new bytes rest why out line goes seen r fits =
 
 -- ---- a piece that ends a script
 
-ends_early : (read : List ℕ) (s : Script) (why : Stop) → ((rest : List ℕ) → Ends (read ++ rest) s why) → IsOverAt read s why → EndsEarly read s why
+ends_early : (read : List ℕ) (s : Script) (why : Stop) → ((rest : List ℕ) → ScriptEnds (read ++ rest) s why) → IsOverAt read s why → EndsEarly read s why
 ends_early read s (stop.Unread why) ends over = (ends, over)
 ends_early read s (stop.Refused why) ends over = (ends, over)
 ends_early read s stop.Memory ends over = tt {0}
 
 pub EndsEarly-piece : (seen piece : List ℕ) (old new : Script) (why : Stop) → length piece ≤ old.room →
-    ((seen after : List ℕ) → HasRead seen old → length (seen ++ piece) ≤ max_script → Ends ((seen ++ piece) ++ after) new why) →
-    ((seen : List ℕ) → HasRead seen old → length (seen ++ piece) ≤ max_script → IsOverAt (seen ++ piece) new why) → Stands seen old → EndsEarly (seen ++ piece) new why
+    ((seen after : List ℕ) → HasRead seen old → length (seen ++ piece) ≤ max_script → ScriptEnds ((seen ++ piece) ++ after) new why) →
+    ((seen : List ℕ) → HasRead seen old → length (seen ++ piece) ≤ max_script → IsOverAt (seen ++ piece) new why) → ScriptStands seen old → EndsEarly (seen ++ piece) new why
 EndsEarly-piece seen piece old new why fits ends over s =
     let short = piece_fits seen piece old.room s.room fits in
     ends_early (seen ++ piece) new why (λ rest. ends seen rest s.read short) (over seen s.read short)
@@ -399,8 +399,8 @@ over_more read rest s (stop.Refused why) over = IsOver-more read rest s.line ove
 over_more read rest s stop.Memory over = tt {0}
 
 pub EndsEarly-front : (seen piece front : List ℕ) (old new : Script) (why : Stop) → front ≡ take old.room piece → length front ≤ old.room →
-    ((seen after : List ℕ) → HasRead seen old → length (seen ++ front) ≤ max_script → Ends ((seen ++ front) ++ after) new why) →
-    ((seen : List ℕ) → HasRead seen old → length (seen ++ front) ≤ max_script → IsOverAt (seen ++ front) new why) → Stands seen old → EndsEarly (seen ++ piece) new why
+    ((seen after : List ℕ) → HasRead seen old → length (seen ++ front) ≤ max_script → ScriptEnds ((seen ++ front) ++ after) new why) →
+    ((seen : List ℕ) → HasRead seen old → length (seen ++ front) ≤ max_script → IsOverAt (seen ++ front) new why) → ScriptStands seen old → EndsEarly (seen ++ piece) new why
 EndsEarly-front seen piece front old new why front_is fits ends over s =
     let short = piece_fits seen front old.room s.room fits in
     let parts : seen ++ piece ≡ (seen ++ front) ++ drop old.room piece =
@@ -409,7 +409,7 @@ EndsEarly-front seen piece front old new why front_is fits ends over s =
     (subst (λ (t : List ℕ). IsOverAt t new why) (sym parts) (over_more (seen ++ front) (drop old.room piece) new why (over seen s.read short)))
 
 pub EndsEarly-over : (seen piece front : List ℕ) (old new : Script) → front ≡ take old.room piece → length front ≡ old.room → old.room < length piece →
-    ((seen : List ℕ) → HasRead seen old → length (seen ++ front) ≤ max_script → HasRead (seen ++ front) new) → Stands seen old → EndsEarly (seen ++ piece) new (stop.Unread TooLong)
+    ((seen : List ℕ) → HasRead seen old → length (seen ++ front) ≤ max_script → HasRead (seen ++ front) new) → ScriptStands seen old → EndsEarly (seen ++ piece) new (stop.Unread TooLong)
 EndsEarly-over seen piece front old new front_is full more one s =
     let left = s.room in
     let size : length (seen ++ front) ≡ max_script = rw (length-append seen front) (omega arith) in

@@ -10,14 +10,14 @@ use Rattle.zx_outside.specs.Counts.{one_more}
 use Rattle.zx_outside.specs.Writing.{counts_after_write}
 use Rattle.zx_outside.specs.declared.sink.Took.TheVariants as took
 use Rattle.zx_net.specs.Nets.{NetCounts}
-use Rattle.zp_server.specs.Ends.{Ends, IsAfterLines, IsNext, IsShut, IsUnbound, IsUnstarted, IsWriting}
+use Rattle.zp_server.specs.Ends.{ServeEnds, IsAfterLines, IsNextTold, IsShut, IsUnbound, IsUnstarted, IsWriting}
 use Rattle.zp_server.specs.Telling.{Output, Seen}
 use Rattle.zp_server.specs.declared.ends.ServeEnd.{ServeEnd}
 use Rattle.zp_server.specs.declared.ends.ServeEnd.TheVariants as ends
 use Rattle.zetcd_cmd.specs.Outcomes.{IsWord}
 use Rattle.ev_addresses.specs.Lists.{addresses_in}
 use Rattle.zetcd_cmd.specs.Serving.{NamesEtcd, are_addresses, are_plain, is_address, is_visible, limit_in}
-use Rattle.zetcd_cmd.specs.Proxying.{HasNetCause, IsServe, NamesServe, Proxies, status_of}
+use Rattle.zetcd_cmd.specs.Proxying.{HasNetCause, IsServe, NamesServe, Proxies, serve_status}
 use Rattle.zetcd_cmd.specs.declared.status.Status.{Status}
 use Rattle.zetcd_cmd.specs.declared.status.Status.TheVariants as status
 
@@ -88,7 +88,7 @@ address_of (w ∷ v ∷ u ∷ t ∷ s ∷ words) listen endpoint limit is = absu
 -- ---- the statuses
 
 by_status : (size : ℕ) (end : ServeEnd) (listen : List ℕ) (limit failures failures' refusals refusals' : ℕ) (t t' : Seen) →
-    Ends size end listen limit failures failures' refusals refusals' t t' → Proxies size (status_of end) listen limit failures failures' refusals refusals' t t'
+    ServeEnds size end listen limit failures failures' refusals refusals' t t' → Proxies size (serve_status end) listen limit failures failures' refusals refusals' t t'
 by_status size ends.Done listen limit failures failures' refusals refusals' t t' told = told
 by_status size ends.WriteFault listen limit failures failures' refusals refusals' t t' told = told
 by_status size ends.Net listen limit failures failures' refusals refusals' t t' told = told
@@ -97,7 +97,7 @@ by_status size (ends.Feed end) listen limit failures failures' refusals refusals
 
 -- the words name one address and one limit, with which the server was called
 pub proxied : (words : List (Bor (List ℕ))) (listen other endpoint another : List ℕ) (limit n failures failures' refusals refusals' : ℕ) (t t' : Seen) (end : ServeEnd) (s : Status) →
-    IsServe words other another n → s ≡ status_of end → Ends (length (addresses_in another)) end other n failures failures' refusals refusals' t t' → IsServe words listen endpoint limit →
+    IsServe words other another n → s ≡ serve_status end → ServeEnds (length (addresses_in another)) end other n failures failures' refusals refusals' t t' → IsServe words listen endpoint limit →
     Proxies (length (addresses_in endpoint)) s listen limit failures failures' refusals refusals' t t'
 proxied words listen other endpoint another limit n failures failures' refusals refusals' t t' end s called is told named =
     let one = serves_one words other listen another endpoint n limit called named in
@@ -106,7 +106,7 @@ proxied words listen other endpoint another limit n failures failures' refusals 
     (subst (λ (m : ℕ). Proxies (length (addresses_in another)) s other m failures failures' refusals refusals' t t') one.2
     (subst (λ (x : Status). Proxies (length (addresses_in another)) x other n failures failures' refusals refusals' t t') (sym is) (by_status (length (addresses_in another)) end other n failures failures' refusals refusals' t t' told))))
 
-pub never_read : (end : ServeEnd) → status_of end ≡ status.ReadFault → ⊥
+pub never_read : (end : ServeEnd) → serve_status end ≡ status.ReadFault → ⊥
 never_read ends.Done is = let apart : status.Done ≡ status.ReadFault = is in cc
 never_read ends.WriteFault is = let apart : status.WriteFault ≡ status.ReadFault = is in cc
 never_read ends.Net is = let apart : status.Net ≡ status.ReadFault = is in cc
@@ -131,7 +131,7 @@ shut_doors size listen limit t t' shut =
     ∙ ap one_more (shut.stopped.logs.doors ∙ ap (λ (c : NetCounts). c.door_faults) shut.listens.net)
 
 -- what was there when the next line was to be written
-next_counts : (text : List ℕ) (n k : ℕ) (left : List ℕ) (between from : Seen) → IsNext text n k left between from → (from.out).counts ≡ (between.out).counts
+next_counts : (text : List ℕ) (n k : ℕ) (left : List ℕ) (between from : Seen) → IsNextTold text n k left between from → (from.out).counts ≡ (between.out).counts
 next_counts text n k left between from (inl line) = ap (λ (s : Seen). (s.out).counts) line.1.1
 next_counts text n k left between from (inr (inl fault)) = ap (λ (o : Output). o.counts) fault.1.out
 next_counts text n k left between from (inr (inr end)) = ap (λ (s : Seen). (s.out).counts) end.1.1
@@ -148,8 +148,8 @@ unstarted_cause : (failures failures' refusals refusals' : ℕ) (t t' : Seen) �
     HasNetCause failures failures' refusals refusals' t.net t'.net (t.out).taken (t'.out).taken
 unstarted_cause failures failures' refusals refusals' t t' unstarted = inr (unstarted.rose, unstarted.tells.out.taken)
 
-pub net_cause : (size : ℕ) (end : ServeEnd) (listen : List ℕ) (limit failures failures' refusals refusals' : ℕ) (t t' : Seen) → status_of end ≡ status.Net →
-    Ends size end listen limit failures failures' refusals refusals' t t' → HasNetCause failures failures' refusals refusals' t.net t'.net (t.out).taken (t'.out).taken
+pub net_cause : (size : ℕ) (end : ServeEnd) (listen : List ℕ) (limit failures failures' refusals refusals' : ℕ) (t t' : Seen) → serve_status end ≡ status.Net →
+    ServeEnds size end listen limit failures failures' refusals refusals' t t' → HasNetCause failures failures' refusals refusals' t.net t'.net (t.out).taken (t'.out).taken
 net_cause size ends.Net listen limit failures failures' refusals refusals' t t' is (inl unstarted) = unstarted_cause failures failures' refusals refusals' t t' unstarted
 net_cause size ends.Net listen limit failures failures' refusals refusals' t t' is (inr (inl unbound)) = inl (unbound_doors t t' unbound)
 net_cause size ends.Net listen limit failures failures' refusals refusals' t t' is (inr (inr shut)) = inl (shut_doors size listen limit t t' shut)
@@ -158,8 +158,8 @@ net_cause size ends.WriteFault listen limit failures failures' refusals refusals
 net_cause size ends.Memory listen limit failures failures' refusals refusals' t t' is told = let apart : status.Memory ≡ status.Net = is in absurd cc
 net_cause size (ends.Feed end) listen limit failures failures' refusals refusals' t t' is told = let apart : status.Feed end ≡ status.Net = is in absurd cc
 
-pub no_door_fault : (size : ℕ) (end : ServeEnd) (listen : List ℕ) (limit failures failures' refusals refusals' : ℕ) (t t' : Seen) → (status_of end ≡ status.Net → ⊥) → (status_of end ≡ status.WriteFault → ⊥) →
-    Ends size end listen limit failures failures' refusals refusals' t t' → (t'.net).door_faults ≡ (t.net).door_faults
+pub no_door_fault : (size : ℕ) (end : ServeEnd) (listen : List ℕ) (limit failures failures' refusals refusals' : ℕ) (t t' : Seen) → (serve_status end ≡ status.Net → ⊥) → (serve_status end ≡ status.WriteFault → ⊥) →
+    ServeEnds size end listen limit failures failures' refusals refusals' t t' → (t'.net).door_faults ≡ (t.net).door_faults
 no_door_fault size ends.Done listen limit failures failures' refusals refusals' t t' net write told =
     told.0.logs.doors ∙ ap (λ (c : NetCounts). c.door_faults) told.0.listens.net
 no_door_fault size ends.Net listen limit failures failures' refusals refusals' t t' net write told = absurd (net refl)
@@ -170,8 +170,8 @@ no_door_fault size ends.Memory listen limit failures failures' refusals refusals
 no_door_fault size (ends.Feed end) listen limit failures failures' refusals refusals' t t' net write told =
     ap (λ (c : NetCounts). c.door_faults) told.tells.net ∙ lines_doors size listen limit [] t told.between told.lines
 
-pub write_count : (size : ℕ) (end : ServeEnd) (listen : List ℕ) (limit failures failures' refusals refusals' : ℕ) (t t' : Seen) → status_of end ≡ status.WriteFault →
-    Ends size end listen limit failures failures' refusals refusals' t t' → (t'.out).counts ≡ counts_after_write took.Failed (t.out).counts
+pub write_count : (size : ℕ) (end : ServeEnd) (listen : List ℕ) (limit failures failures' refusals refusals' : ℕ) (t t' : Seen) → serve_status end ≡ status.WriteFault →
+    ServeEnds size end listen limit failures failures' refusals refusals' t t' → (t'.out).counts ≡ counts_after_write took.Failed (t.out).counts
 write_count size ends.WriteFault listen limit failures failures' refusals refusals' t t' is told =
     told.cut.out.harmed ∙ ap (counts_after_write took.Failed) (writing_counts size told.text listen limit t told.from told.writing)
 write_count size ends.Done listen limit failures failures' refusals refusals' t t' is told = let apart : status.Done ≡ status.WriteFault = is in absurd cc
@@ -179,15 +179,15 @@ write_count size ends.Net listen limit failures failures' refusals refusals' t t
 write_count size ends.Memory listen limit failures failures' refusals refusals' t t' is told = let apart : status.Memory ≡ status.WriteFault = is in absurd cc
 write_count size (ends.Feed end) listen limit failures failures' refusals refusals' t t' is told = let apart : status.Feed end ≡ status.WriteFault = is in absurd cc
 
-net_counts : (size : ℕ) (listen : List ℕ) (limit failures failures' refusals refusals' : ℕ) (t t' : Seen) → Ends size ends.Net listen limit failures failures' refusals refusals' t t' →
+net_counts : (size : ℕ) (listen : List ℕ) (limit failures failures' refusals refusals' : ℕ) (t t' : Seen) → ServeEnds size ends.Net listen limit failures failures' refusals refusals' t t' →
     (t'.out).counts ≡ (t.out).counts
 net_counts size listen limit failures failures' refusals refusals' t t' (inl unstarted) = unstarted.tells.out.unharmed
 net_counts size listen limit failures failures' refusals refusals' t t' (inr (inl unbound)) = unbound.tells.out.unharmed ∙ ap (λ (o : Output). o.counts) unbound.faulted.out
 net_counts size listen limit failures failures' refusals refusals' t t' (inr (inr shut)) =
     shut.tells.out.unharmed ∙ ap (λ (o : Output). o.counts) shut.stopped.faulted.out ∙ shut.stopped.logs.unharmed ∙ shut.listens.out.unharmed
 
-pub no_write_count : (size : ℕ) (end : ServeEnd) (listen : List ℕ) (limit failures failures' refusals refusals' : ℕ) (t t' : Seen) → (status_of end ≡ status.WriteFault → ⊥) →
-    Ends size end listen limit failures failures' refusals refusals' t t' → (t'.out).counts ≡ (t.out).counts
+pub no_write_count : (size : ℕ) (end : ServeEnd) (listen : List ℕ) (limit failures failures' refusals refusals' : ℕ) (t t' : Seen) → (serve_status end ≡ status.WriteFault → ⊥) →
+    ServeEnds size end listen limit failures failures' refusals refusals' t t' → (t'.out).counts ≡ (t.out).counts
 no_write_count size ends.Done listen limit failures failures' refusals refusals' t t' write told = told.0.logs.unharmed ∙ told.0.listens.out.unharmed
 no_write_count size ends.Net listen limit failures failures' refusals refusals' t t' write told = net_counts size listen limit failures failures' refusals refusals' t t' told
 no_write_count size ends.WriteFault listen limit failures failures' refusals refusals' t t' write told = absurd (write refl)

@@ -9,14 +9,14 @@ use Rattle.zt_text.specs.Transcripts.{line_text, transcript_text}
 use Rattle.zx_outside.specs.Writing.{Takes}
 use Rattle.zx_outside.proofs.Streams.{append_known-nil, Takes-append}
 use Rattle.zetcd_cmd.specs.Outcomes.{TakesSome}
-use Rattle.zetcd_cmd.specs.Reporting.{Passes}
+use Rattle.zetcd_cmd.specs.Reporting.{ReportPasses}
 use Rattle.zetcd_cmd.proofs.Fronts.{TakesSome-after, TakesSome-more}
 
-pub Passes-nil : (buffer : List ℕ) (taken : Option (List ℕ)) → Passes [] buffer buffer taken taken
+pub Passes-nil : (buffer : List ℕ) (taken : Option (List ℕ)) → ReportPasses [] buffer buffer taken taken
 Passes-nil buffer taken = ([], sym (append-nil buffer), sym (append_known-nil taken))
 
-pub Passes-append : (first second buffer buffer' buffer'' : List ℕ) (taken taken' taken'' : Option (List ℕ)) → Passes first buffer buffer' taken taken' → Passes second buffer' buffer'' taken' taken'' →
-    Passes (first ++ second) buffer buffer'' taken taken''
+pub Passes-append : (first second buffer buffer' buffer'' : List ℕ) (taken taken' taken'' : Option (List ℕ)) → ReportPasses first buffer buffer' taken taken' → ReportPasses second buffer' buffer'' taken' taken'' →
+    ReportPasses (first ++ second) buffer buffer'' taken taken''
 Passes-append first second buffer buffer' buffer'' taken taken' taken'' early late = (
   early.0 ++ late.0,
   append_assoc early.0 late.0 buffer'' ∙ ap (λ t. early.0 ++ t) late.1 ∙ sym (append_assoc early.0 buffer' second) ∙ ap (λ t. t ++ second) early.1 ∙ append_assoc buffer first second,
@@ -34,12 +34,12 @@ transcript_text-more lines i line within =
     ∙ ap (λ t. transcript_text (take i lines) ++ t) (append-nil (line_text (get_or lines i line)))
 
 -- what passed, and what is written after it
-pub Passes-out : (bytes last buffer' : List ℕ) (taken taken' taken'' : Option (List ℕ)) → Passes bytes [] buffer' taken taken' → Takes (buffer' ++ last) taken' taken'' → Takes (bytes ++ last) taken taken''
+pub Passes-out : (bytes last buffer' : List ℕ) (taken taken' taken'' : Option (List ℕ)) → ReportPasses bytes [] buffer' taken taken' → Takes (buffer' ++ last) taken' taken'' → Takes (bytes ++ last) taken taken''
 Passes-out bytes last buffer' taken taken' taken'' early late =
     Takes-append early.0 (buffer' ++ last) taken taken' taken'' early.2 late ∙ ap (append_known taken) (sym (append_assoc early.0 buffer' last) ∙ ap (λ t. t ++ last) early.1)
 
 -- a front of what passes a buffer after what passed before
-pub TakesSome-passed : (first second buffer buffer' : List ℕ) (taken taken' taken'' : Option (List ℕ)) → Passes first buffer buffer' taken taken' → TakesSome (buffer' ++ second) taken' taken'' →
+pub TakesSome-passed : (first second buffer buffer' : List ℕ) (taken taken' taken'' : Option (List ℕ)) → ReportPasses first buffer buffer' taken taken' → TakesSome (buffer' ++ second) taken' taken'' →
     TakesSome (buffer ++ (first ++ second)) taken taken''
 TakesSome-passed first second buffer buffer' taken taken' taken'' early some =
     subst (λ (t : List ℕ). TakesSome t taken taken'')
@@ -59,6 +59,6 @@ TakesSome-lines buffer lines i taken taken' some =
     (TakesSome-more (buffer ++ transcript_text (take i lines)) (transcript_text (drop i lines)) taken taken' some)
 
 -- what passed through an empty buffer is a front of what was to be written
-pub TakesSome-begun : (first second buffer' : List ℕ) (taken taken' : Option (List ℕ)) → Passes first [] buffer' taken taken' → TakesSome (first ++ second) taken taken'
+pub TakesSome-begun : (first second buffer' : List ℕ) (taken taken' : Option (List ℕ)) → ReportPasses first [] buffer' taken taken' → TakesSome (first ++ second) taken taken'
 TakesSome-begun first second buffer' taken taken' early =
     (early.0, buffer' ++ second, ap (λ t. t ++ second) (sym early.1) ∙ append_assoc early.0 buffer' second, early.2)

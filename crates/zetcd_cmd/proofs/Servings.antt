@@ -11,11 +11,11 @@ use Rattle.zx_outside.specs.declared.sink.Took.TheVariants as took
 use Rattle.zx_net.specs.Nets.{NetCounts}
 use Rattle.zd_etcd.specs.declared.serving.EtcdEnd.{EtcdEnd}
 use Rattle.zd_etcd.specs.declared.serving.EtcdEnd.TheVariants as ends
-use Rattle.zd_etcd.specs.Serving.{Ends, counts_after}
+use Rattle.zd_etcd.specs.Serving.{EtcdEnds, counts_at_end}
 use Rattle.zetcd_cmd.specs.declared.status.Status.{Status}
 use Rattle.zetcd_cmd.specs.declared.status.Status.TheVariants as status
 use Rattle.zetcd_cmd.specs.Outcomes.{IsWord}
-use Rattle.zetcd_cmd.specs.Serving.{IsEtcd, NamesEtcd, Serves, digits_number, limit_in, status_of}
+use Rattle.zetcd_cmd.specs.Serving.{IsEtcd, NamesEtcd, EtcdServes, digits_number, limit_in, etcd_status}
 
 -- ---- the words
 
@@ -44,7 +44,7 @@ digits_above word value at digit told within read above =
 
 -- ---- the statuses
 
-pub never_read : (end : EtcdEnd) → status_of end ≡ status.ReadFault → ⊥
+pub never_read : (end : EtcdEnd) → etcd_status end ≡ status.ReadFault → ⊥
 never_read ends.Done is = let apart : status.Done ≡ status.ReadFault = is in cc
 never_read ends.Net is = let apart : status.Net ≡ status.ReadFault = is in cc
 never_read ends.WriteFault is = let apart : status.WriteFault ≡ status.ReadFault = is in cc
@@ -53,29 +53,29 @@ never_read ends.Memory is = let apart : status.Memory ≡ status.ReadFault = is 
 abbrev door_faults : NetCounts → ℕ
 door_faults counts = counts.door_faults
 
-pub net_fault : (end : EtcdEnd) (listen : List ℕ) (limit : ℕ) (counts counts' : NetCounts) (taken taken' : Option (List ℕ)) → status_of end ≡ status.Net →
-    Ends end listen limit counts counts' taken taken' → counts'.door_faults ≡ one_more counts.door_faults
+pub net_fault : (end : EtcdEnd) (listen : List ℕ) (limit : ℕ) (counts counts' : NetCounts) (taken taken' : Option (List ℕ)) → etcd_status end ≡ status.Net →
+    EtcdEnds end listen limit counts counts' taken taken' → counts'.door_faults ≡ one_more counts.door_faults
 net_fault ends.Net listen limit counts counts' taken taken' is (inl unbound) = ap door_faults unbound.0
 net_fault ends.Net listen limit counts counts' taken taken' is (inr listened) = ap door_faults listened.2.2
 net_fault ends.Done listen limit counts counts' taken taken' is told = let apart : status.Done ≡ status.Net = is in absurd cc
 net_fault ends.WriteFault listen limit counts counts' taken taken' is told = let apart : status.WriteFault ≡ status.Net = is in absurd cc
 net_fault ends.Memory listen limit counts counts' taken taken' is told = let apart : status.Memory ≡ status.Net = is in absurd cc
 
-pub no_fault : (end : EtcdEnd) (listen : List ℕ) (limit : ℕ) (counts counts' : NetCounts) (taken taken' : Option (List ℕ)) → (status_of end ≡ status.Net → ⊥) →
-    (status_of end ≡ status.WriteFault → ⊥) → Ends end listen limit counts counts' taken taken' → counts'.door_faults ≡ counts.door_faults
+pub no_fault : (end : EtcdEnd) (listen : List ℕ) (limit : ℕ) (counts counts' : NetCounts) (taken taken' : Option (List ℕ)) → (etcd_status end ≡ status.Net → ⊥) →
+    (etcd_status end ≡ status.WriteFault → ⊥) → EtcdEnds end listen limit counts counts' taken taken' → counts'.door_faults ≡ counts.door_faults
 no_fault ends.Done listen limit counts counts' taken taken' net write told = ap door_faults told.2.0
 no_fault ends.Net listen limit counts counts' taken taken' net write told = absurd (net refl)
 no_fault ends.WriteFault listen limit counts counts' taken taken' net write told = absurd (write refl)
 no_fault ends.Memory listen limit counts counts' taken taken' net write (inl before) = ap door_faults before.0
 no_fault ends.Memory listen limit counts counts' taken taken' net write (inr listened) = ap door_faults listened.2.2
 
-pub write_counts : (end : EtcdEnd) (counts : OutputCounts) → status_of end ≡ status.WriteFault → counts_after end counts ≡ counts_after_write took.Failed counts
+pub write_counts : (end : EtcdEnd) (counts : OutputCounts) → etcd_status end ≡ status.WriteFault → counts_at_end end counts ≡ counts_after_write took.Failed counts
 write_counts ends.WriteFault counts is = refl
 write_counts ends.Done counts is = let apart : status.Done ≡ status.WriteFault = is in absurd cc
 write_counts ends.Net counts is = let apart : status.Net ≡ status.WriteFault = is in absurd cc
 write_counts ends.Memory counts is = let apart : status.Memory ≡ status.WriteFault = is in absurd cc
 
-pub other_counts : (end : EtcdEnd) (counts : OutputCounts) → (status_of end ≡ status.WriteFault → ⊥) → counts_after end counts ≡ counts
+pub other_counts : (end : EtcdEnd) (counts : OutputCounts) → (etcd_status end ≡ status.WriteFault → ⊥) → counts_at_end end counts ≡ counts
 other_counts ends.WriteFault counts isnt = absurd (isnt refl)
 other_counts ends.Done counts isnt = refl
 other_counts ends.Net counts isnt = refl

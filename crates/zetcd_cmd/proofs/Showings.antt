@@ -4,8 +4,8 @@ use Rattle.std.specs.Prelude.{Option, Some, None, Bool, true, false, ◌==◌, i
 use Rattle.zk_jute.proofs.Framing.{no_frame}
 use Rattle.zt_show.specs.declared.ending.Ending.{Ending}
 use Rattle.zt_show.specs.declared.ending.Ending.TheVariants as ending
-use Rattle.zt_show.specs.Shown.{joined, ending_line, ending_of, ending_before_more}
-use Rattle.zt_show.specs.Showing.{Showing, unshown, Follows, Ends, Adds}
+use Rattle.zt_show.specs.Shown.{joined, ending_line, ending_of_stream, ending_before_more}
+use Rattle.zt_show.specs.Showing.{Showing, unshown, ShowingFollows, ShowingEnds, Adds}
 use Rattle.zt_show.proofs.Framings.{framed_none}
 use Rattle.zt_show.proofs.Passing.{joined-append}
 use Rattle.zt_show.proofs.Stopping.{IsShown-whole}
@@ -18,14 +18,14 @@ use Rattle.zetcd_cmd.specs.declared.show.Close.TheVariants as close
 use Rattle.zetcd_cmd.specs.declared.status.Status.{Status}
 use Rattle.zetcd_cmd.specs.declared.status.Status.TheVariants as status
 use Rattle.zetcd_cmd.specs.Outcomes.{Did, IsAtItsEnd, IsFront, IsBegun, ShowWrites, Shows, TakesSome, IsUnharmed, Failed}
-use Rattle.zetcd_cmd.specs.Streaming.{status_at, Closes, Finishes, IsOpen, counts_at}
+use Rattle.zetcd_cmd.specs.Streaming.{status_at, Closes, ShowFinishes, IsOpen, counts_at}
 use Rattle.zetcd_cmd.proofs.Fronts.{TakesSome-after}
 
 -- ---- piece by piece
 
 -- at the start
-pub Follows-unshown : (s : Showing) → s ≡ unshown → Follows [] [] s
-Follows-unshown s is = subst (λ (t : Showing). Follows [] [] t) (sym is) (record {
+pub Follows-unshown : (s : Showing) → s ≡ unshown → ShowingFollows [] [] s
+Follows-unshown s is = subst (λ (t : Showing). ShowingFollows [] [] t) (sym is) (record {
   frames = [];
   framed = framed_none [] (no_frame [] refl);
   good = refl;
@@ -53,9 +53,9 @@ open_of true place size = inl (tt {0})
 open_of false place size = inr (tt {0})
 
 -- nothing of it ends the stream
-pub open_end : (seen : List ℕ) (lines : List (List ℕ)) (s : Showing) → Follows seen lines s → IsBegun seen (joined lines)
+pub open_end : (seen : List ℕ) (lines : List (List ℕ)) (s : Showing) → ShowingFollows seen lines s → IsBegun seen (joined lines)
 open_end seen lines s follows =
-    let end = ending_of s.progress.place (length s.rest) None in
+    let end = ending_of_stream s.progress.place (length s.rest) None in
     record {
       shown = record { lines = lines; ending = end };
       is_shown = IsShown-whole seen lines s end follows refl;
@@ -64,8 +64,8 @@ open_end seen lines s follows =
     }
 
 -- an end that more bytes leave as it is stands neither at a frame's end nor inside one
-settled_end : (end : Ending) (count : ℕ) (lines : List (List ℕ)) (ended : Bool) (left : Option (List ℕ)) (read : List ℕ) → ending_before_more end ≡ end → Ends read lines end count →
-    ((rest : List ℕ) → Ends (read ++ rest) lines end count) → ShowWrites (status_at (close.Ended end) count) ended left read (joined lines ++ ending_line end)
+settled_end : (end : Ending) (count : ℕ) (lines : List (List ℕ)) (ended : Bool) (left : Option (List ℕ)) (read : List ℕ) → ending_before_more end ≡ end → ShowingEnds read lines end count →
+    ((rest : List ℕ) → ShowingEnds (read ++ rest) lines end count) → ShowWrites (status_at (close.Ended end) count) ended left read (joined lines ++ ending_line end)
 settled_end (ending.End place) count lines ended left read stays ends all = absurd cc
 settled_end (ending.Cut place) count lines ended left read stays ends all = absurd cc
 settled_end (ending.Length place n) count lines ended left read stays ends all = record {
@@ -94,7 +94,7 @@ settled_end ending.Long count lines ended left read stays ends all = record {
 }
 
 -- it came whole
-whole_end : (end : Ending) (count : ℕ) (lines : List (List ℕ)) (ended : Bool) (left : Option (List ℕ)) (read : List ℕ) → IsAtItsEnd ended left → Ends read lines end count →
+whole_end : (end : Ending) (count : ℕ) (lines : List (List ℕ)) (ended : Bool) (left : Option (List ℕ)) (read : List ℕ) → IsAtItsEnd ended left → ShowingEnds read lines end count →
     ShowWrites (status_at (close.Ended end) count) ended left read (joined lines ++ ending_line end)
 whole_end (ending.End place) count lines ended left read whole ends =
     (whole, record { shown = record { lines = lines; ending = ending.End place }; is_shown = ends.shown; written = refl; end = tt {0} })
@@ -144,13 +144,13 @@ shows_ended ending.Long count ended left read output w = w
 
 -- the piece ends the stream for good
 ended_in : (end : Ending) (seen piece : List ℕ) (lines added : List (List ℕ)) (count : ℕ) (ended : Bool) (left : Option (List ℕ)) →
-    ((more : List ℕ) → Ends ((seen ++ piece) ++ more) (lines ++ added) end count × (ending_before_more end ≡ end)) →
+    ((more : List ℕ) → ShowingEnds ((seen ++ piece) ++ more) (lines ++ added) end count × (ending_before_more end ≡ end)) →
     ShowWrites (status_at (close.Ended end) count) ended left (seen ++ piece) (joined (lines ++ added) ++ ending_line end)
 ended_in end seen piece lines added count ended left all =
-    settled_end end count (lines ++ added) ended left (seen ++ piece) (all []).1 (subst (λ (t : List ℕ). Ends t (lines ++ added) end count) (append-nil (seen ++ piece)) (all []).0) (λ rest. (all rest).0)
+    settled_end end count (lines ++ added) ended left (seen ++ piece) (all []).1 (subst (λ (t : List ℕ). ShowingEnds t (lines ++ added) end count) (append-nil (seen ++ piece)) (all []).0) (λ rest. (all rest).0)
 
 -- what the piece adds, written in part
-front_in : (found : Option Ending) (seen piece text : List ℕ) (lines : List (List ℕ)) (s new : Showing) (ended : Bool) (left taken taken' taken'' : Option (List ℕ)) → Follows seen lines s →
+front_in : (found : Option Ending) (seen piece text : List ℕ) (lines : List (List ℕ)) (s new : Showing) (ended : Bool) (left taken taken' taken'' : Option (List ℕ)) → ShowingFollows seen lines s →
     Takes (joined lines) taken taken' → Adds found s piece [] text new → TakesSome text taken' taken'' →
     (output : List ℕ) × Takes output taken taken'' × IsFront (λ other whole. ShowWrites other ended left (seen ++ piece) whole) output
 front_in None seen piece text lines s new ended left taken taken' taken'' follows takes adds some =
@@ -179,7 +179,7 @@ front_in (Some end) seen piece text lines s new ended left taken taken' taken'' 
     )
 
 pub Did-closed : (how : Close) (seen piece : List ℕ) (lines : List (List ℕ)) (s new : Showing) (ended : Bool) (given given' left left' taken taken' taken'' : Option (List ℕ)) →
-    Gives (seen ++ piece) given given' left left' → Follows seen lines s → Takes (joined lines) taken taken' → Closes how s piece taken' taken'' new →
+    Gives (seen ++ piece) given given' left left' → ShowingFollows seen lines s → Takes (joined lines) taken taken' → Closes how s piece taken' taken'' new →
     Did (Shows (status_at how new.progress.lines) ended left') given given' left left' taken taken''
 Did-closed (close.Ended end) seen piece lines s new ended given given' left left' taken taken' taken'' gives follows takes closes =
     let adds = closes.1 in
@@ -206,7 +206,7 @@ Did-closed close.Memory seen piece lines s new ended given given' left left' tak
 -- ---- it came whole
 
 pub Did-finished : (how : Close) (seen : List ℕ) (lines : List (List ℕ)) (s new : Showing) (ended : Bool) (given given' left left' taken taken' taken'' : Option (List ℕ)) →
-    Gives seen given given' left left' → IsAtItsEnd ended left' → Follows seen lines s → Takes (joined lines) taken taken' → Finishes how s taken' taken'' new →
+    Gives seen given given' left left' → IsAtItsEnd ended left' → ShowingFollows seen lines s → Takes (joined lines) taken taken' → ShowFinishes how s taken' taken'' new →
     Did (Shows (status_at how new.progress.lines) ended left') given given' left left' taken taken''
 Did-finished (close.Ended end) seen lines s new ended given given' left left' taken taken' taken'' gives whole follows takes finishes =
     let text = finishes.1 in
@@ -245,7 +245,7 @@ Did-finished close.Memory seen lines s new ended given given' left left' taken t
 
 -- ---- the input failed
 
-pub Did-begun : (seen : List ℕ) (lines : List (List ℕ)) (s : Showing) (ended : Bool) (given given' left left' taken taken' : Option (List ℕ)) → Gives seen given given' left left' → Follows seen lines s →
+pub Did-begun : (seen : List ℕ) (lines : List (List ℕ)) (s : Showing) (ended : Bool) (given given' left left' taken taken' : Option (List ℕ)) → Gives seen given given' left left' → ShowingFollows seen lines s →
     Takes (joined lines) taken taken' → Did (Shows status.ReadFault ended left') given given' left left' taken taken'
 Did-begun seen lines s ended given given' left left' taken taken' gives follows takes =
     record { read = seen; output = joined lines; gives = gives; takes = takes; holds = open_end seen lines s follows }

@@ -19,11 +19,11 @@ IsText reading.Fault ended left read text = ⊤
 IsText reading.Memory ended left read text = ⊤
 
 -- some bytes were read from the source, and this text is kept of them
-abbrev pub IsRead : Reading → List ℕ → Bool → Option (List ℕ) → Option (List ℕ) → Option (List ℕ) → Option (List ℕ) → Type 0
-IsRead how text ended given given' left left' = (read : List ℕ) × Gives read given given' left left' × IsText how ended left' read text
+abbrev pub IsReadWhole : Reading → List ℕ → Bool → Option (List ℕ) → Option (List ℕ) → Option (List ℕ) → Option (List ℕ) → Type 0
+IsReadWhole how text ended given given' left left' = (read : List ℕ) × Gives read given given' left left' × IsText how ended left' read text
 
 -- what is found of a text was written; a front of it, where the output has a fault; nothing, where memory was refused
-abbrev pub Tells : Status → List ℕ → Option (List ℕ) → Option (List ℕ) → Type 0
-Tells status.WriteFault text taken taken' = (other : Status) × (whole : List ℕ) × Finds other text whole × TakesSome whole taken taken'
-Tells status.Memory text taken taken' = taken' ≡ taken
-Tells s text taken taken' = (output : List ℕ) × Finds s text output × Takes output taken taken'
+abbrev pub TellsVerdict : Status → List ℕ → Option (List ℕ) → Option (List ℕ) → Type 0
+TellsVerdict status.WriteFault text taken taken' = (other : Status) × (whole : List ℕ) × Finds other text whole × TakesSome whole taken taken'
+TellsVerdict status.Memory text taken taken' = taken' ≡ taken
+TellsVerdict s text taken taken' = (output : List ℕ) × Finds s text output × Takes output taken taken'

@@ -80,21 +80,21 @@ Replays s ended left read output = ReplayWrites s ended left read output
 -- ---- show
 
 -- it ended at a frame's end
-abbrev pub IsEnd : Ending → Type 0
-IsEnd (ending.End place) = ⊤
-IsEnd _ = ⊥
+abbrev pub IsEndStream : Ending → Type 0
+IsEndStream (ending.End place) = ⊤
+IsEndStream _ = ⊥
 
 -- it ended inside a frame
-abbrev pub IsCut : Ending → Type 0
-IsCut (ending.Cut place) = ⊤
-IsCut _ = ⊥
+abbrev pub IsCutStream : Ending → Type 0
+IsCutStream (ending.Cut place) = ⊤
+IsCutStream _ = ⊥
 
 -- what is shown of the whole stream, which ends at a frame's end
-pub record IsWhole (stream output : List ℕ) : Type 0 where
+pub record IsWholeStream (stream output : List ℕ) : Type 0 where
   pub shown : Shown
   pub is_shown : IsShown stream shown
   pub written : output ≡ shown_text shown
-  pub end : IsEnd shown.ending
+  pub end : IsEndStream shown.ending
 
 -- what is shown of the stream, in so many lines, and it does not end at a frame's end; the whole input was read, or no later byte
 -- changes what is shown
@@ -103,7 +103,7 @@ pub record IsBroken (line : ℕ) (ended : Bool) (left : Option (List ℕ)) (stre
   pub is_shown : IsShown stream shown
   pub written : output ≡ shown_text shown
   pub number : line ≡ count_of_lines shown
-  pub otherwise : ¬ IsEnd shown.ending
+  pub otherwise : ¬ IsEndStream shown.ending
   pub settled : IsAtItsEnd ended left ⊎ ((rest : List ℕ) → IsShown (stream ++ rest) shown)
 
 -- the lines of the stream's whole frames; it ends at a frame's end or inside a frame
@@ -111,11 +111,11 @@ pub record IsBegun (stream output : List ℕ) : Type 0 where
   pub shown : Shown
   pub is_shown : IsShown stream shown
   pub written : output ≡ joined shown.lines
-  pub goes_on : IsEnd shown.ending ⊎ IsCut shown.ending
+  pub goes_on : IsEndStream shown.ending ⊎ IsCutStream shown.ending
 
 -- what a show writes where the output has no fault and memory is not refused
 abbrev pub ShowWrites : Status → Bool → Option (List ℕ) → List ℕ → List ℕ → Type 0
-ShowWrites status.Done ended left read output = IsAtItsEnd ended left × IsWhole read output
+ShowWrites status.Done ended left read output = IsAtItsEnd ended left × IsWholeStream read output
 ShowWrites (status.Script line) ended left read output = IsBroken line ended left read output
 ShowWrites status.ReadFault ended left read output = IsBegun read output
 ShowWrites _ ended left read output = ⊥
@@ -153,10 +153,10 @@ abbrev pub TakesSome : List ℕ → Option (List ℕ) → Option (List ℕ) → 
 TakesSome whole taken taken' = (output : List ℕ) × (later : List ℕ) × (whole ≡ output ++ later) × Takes output taken taken'
 
 -- the usage was written, or a front of it
-abbrev pub Refuses : Status → Option (List ℕ) → Option (List ℕ) → Type 0
-Refuses status.Usage taken taken' = Takes usage_text taken taken'
-Refuses status.WriteFault taken taken' = TakesSome usage_text taken taken'
-Refuses _ taken taken' = ⊥
+abbrev pub RefusesWords : Status → Option (List ℕ) → Option (List ℕ) → Type 0
+RefusesWords status.Usage taken taken' = Takes usage_text taken taken'
+RefusesWords status.WriteFault taken taken' = TakesSome usage_text taken taken'
+RefusesWords _ taken taken' = ⊥
 
 -- ---- faults
 
@@ -185,13 +185,13 @@ abbrev pub Failed : InputCounts → InputCounts → Type 0
 Failed before now = HadFault before now ⊎ WasIdle before now
 
 -- the number that the process ends with
-abbrev pub number_of : Status → ℕ
-number_of status.Done = 0
-number_of status.Usage = 2
-number_of (status.Script line) = 3
-number_of status.ReadFault = 4
-number_of status.WriteFault = 5
-number_of status.Net = 6
-number_of status.Memory = 7
-number_of status.Unlawful = 8
-number_of (status.Feed end) = 10
+abbrev pub status_number : Status → ℕ
+status_number status.Done = 0
+status_number status.Usage = 2
+status_number (status.Script line) = 3
+status_number status.ReadFault = 4
+status_number status.WriteFault = 5
+status_number status.Net = 6
+status_number status.Memory = 7
+status_number status.Unlawful = 8
+status_number (status.Feed end) = 10

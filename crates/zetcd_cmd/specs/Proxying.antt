@@ -5,7 +5,7 @@ use denote.Ref.{Bor}
 use Rattle.zx_outside.specs.Counts.{OutputCounts, one_more}
 use Rattle.zx_outside.specs.Writing.{Takes}
 use Rattle.zx_net.specs.Nets.{NetCounts}
-use Rattle.zp_server.specs.Ends.{FeedTold, IsDone, IsShut, IsStarved, IsUnbound, IsUnstarted, IsUnwritten}
+use Rattle.zp_server.specs.Ends.{FeedTold, IsServeDone, IsShut, IsStarved, IsUnbound, IsUnstarted, IsUnwritten}
 use Rattle.zp_server.specs.Lines.{fault_text}
 use Rattle.zp_server.specs.Telling.{Seen}
 use Rattle.zp_server.specs.declared.ends.ServeEnd.{ServeEnd}
@@ -32,15 +32,15 @@ NamesServe words = (listen : List ℕ) × (endpoint : List ℕ) × (limit : ℕ)
 -- ---- the outcome
 
 -- what the net and the output tell; no book is kept
-abbrev pub seen : NetCounts → Option (List ℕ) → OutputCounts → Seen
-seen counts taken written = record { net = counts; out = record { taken = taken; counts = written }; book = None }
+abbrev pub seen_so_far : NetCounts → Option (List ℕ) → OutputCounts → Seen
+seen_so_far counts taken written = record { net = counts; out = record { taken = taken; counts = written }; book = None }
 
-abbrev pub status_of : ServeEnd → Status
-status_of ends.Done = status.Done
-status_of ends.WriteFault = status.WriteFault
-status_of ends.Net = status.Net
-status_of ends.Memory = status.Memory
-status_of (ends.Feed end) = status.Feed end
+abbrev pub serve_status : ServeEnd → Status
+serve_status ends.Done = status.Done
+serve_status ends.WriteFault = status.WriteFault
+serve_status ends.Net = status.Net
+serve_status ends.Memory = status.Memory
+serve_status (ends.Feed end) = status.Feed end
 
 -- A proxy ended with this status, by what its net and its output tell, by the failures of its first ask, and by the starts of workers
 -- that were refused.
@@ -54,7 +54,7 @@ status_of (ends.Feed end) = status.Feed end
 -- 5: a front of what was to be written next: a line about a client is about one that has none yet. 7: the lines so far, and perhaps one
 -- more, about such a client.
 abbrev pub Proxies : ℕ → Status → List ℕ → ℕ → ℕ → ℕ → ℕ → ℕ → Seen → Seen → Type 0
-Proxies size status.Done listen limit failures failures' refusals refusals' t t' = IsDone size listen limit t t' × (failures' ≡ failures)
+Proxies size status.Done listen limit failures failures' refusals refusals' t t' = IsServeDone size listen limit t t' × (failures' ≡ failures)
 Proxies size (status.Feed end) listen limit failures failures' refusals refusals' t t' = FeedTold size (arc_value end) listen limit t t'
 Proxies size status.Net listen limit failures failures' refusals refusals' t t' = IsUnstarted failures failures' refusals refusals' t t' ⊎ (IsUnbound t t' ⊎ IsShut size listen limit t t')
 Proxies size status.WriteFault listen limit failures failures' refusals refusals' t t' = IsUnwritten size listen limit t t'

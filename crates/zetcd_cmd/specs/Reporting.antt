@@ -34,10 +34,10 @@ status_after (end.Stopped stop.Memory) n = status.Memory
 status_after end.ReadFault n = status.ReadFault
 
 -- bytes went through a buffer: some were written, and the buffer has the rest
-abbrev pub Passes : List ℕ → List ℕ → List ℕ → Option (List ℕ) → Option (List ℕ) → Type 0
-Passes bytes buffer buffer' taken taken' = (written : List ℕ) × (written ++ buffer' ≡ buffer ++ bytes) × Takes written taken taken'
+abbrev pub ReportPasses : List ℕ → List ℕ → List ℕ → Option (List ℕ) → Option (List ℕ) → Type 0
+ReportPasses bytes buffer buffer' taken taken' = (written : List ℕ) × (written ++ buffer' ≡ buffer ++ bytes) × Takes written taken taken'
 
 -- the count of a sink, by why not all was written to it
-abbrev pub counts_after : Unwritten → OutputCounts → OutputCounts
-counts_after unwritten.Sink counts = counts_after_write took.Failed counts
-counts_after unwritten.Memory counts = counts
+abbrev pub counts_unwritten : Unwritten → OutputCounts → OutputCounts
+counts_unwritten unwritten.Sink counts = counts_after_write took.Failed counts
+counts_unwritten unwritten.Memory counts = counts

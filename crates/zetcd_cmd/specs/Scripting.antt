@@ -3,7 +3,7 @@ use Rattle.std.specs.Prelude.{◌≡◌, ℕ, ◌+◌, ◌<◌, ◌≤◌, Bool,
 use Rattle.zt_text.specs.declared.script.Happening.{Happening}
 use Rattle.zt_text.specs.declared.script.Unread.{Unread}
 use Rattle.zt_text.specs.declared.script.Unread.TheVariants.{Unreadable}
-use Rattle.zt_text.specs.Scripts.{Script as Reading, lines_from, pieces, script, line_read, max_line, max_script}
+use Rattle.zt_text.specs.Scripts.{Script as Reading, happenings_from, pieces, script, happening_read, max_line, max_script}
 use Rattle.zt_text.specs.Scripts.{IsWholeLines}
 use Rattle.zp_script.specs.Worlds.{World}
 use Rattle.zp_script.specs.Faults.{fault}
@@ -25,13 +25,13 @@ IsFirstLine bytes line later = (bytes ≡ line ++ 10 ∷ later) × HasNoLineFeed
 
 -- the line was read, and what it says was applied
 abbrev pub Plays : List ℕ → World → World → Type 0
-Plays line w w' = (happenings : List Happening) → Reached happenings w → (h : Happening) × (line_read line ≡ Some h) × Reached (happenings ++ h ∷ []) w'
+Plays line w w' = (happenings : List Happening) → Reached happenings w → (h : Happening) × (happening_read line ≡ Some h) × Reached (happenings ++ h ∷ []) w'
 
 -- the line can't be read, or what it says isn't possible, and the world is as before; where memory was refused, nothing is said
-abbrev pub Halts : List ℕ → World → Stop → World → Type 0
-Halts line w (stop.Unread why) w' = (why ≡ Unreadable) × (line_read line ≡ None) × (w' ≡ w)
-Halts line w (stop.Refused why) w' = (h : Happening) × (line_read line ≡ Some h) × (fault w h ≡ Some why) × (w' ≡ w)
-Halts line w stop.Memory w' = Unit {0}
+abbrev pub ScriptHalts : List ℕ → World → Stop → World → Type 0
+ScriptHalts line w (stop.Unread why) w' = (why ≡ Unreadable) × (happening_read line ≡ None) × (w' ≡ w)
+ScriptHalts line w (stop.Refused why) w' = (h : Happening) × (happening_read line ≡ Some h) × (fault w h ≡ Some why) × (w' ≡ w)
+ScriptHalts line w stop.Memory w' = Unit {0}
 
 -- the line is too long to be kept, or memory was refused
 abbrev pub IsKeptOut : List ℕ → Stop → Type 0
@@ -46,8 +46,8 @@ abbrev pub with_first : List Happening → Reading → Reading
 with_first happenings later = (happenings ++ later.0, later.1)
 
 -- these bytes are whole lines that say these happenings, whatever follows them
-pub record Says (lines : List ℕ) (happenings : List Happening) : Type 0 where
-  pub says : (is_cut : Bool) (rest : List ℕ) → lines_from is_cut 1 (pieces 10 (lines ++ rest)) ≡ with_first happenings (lines_from is_cut (length happenings + 1) (pieces 10 rest))
+pub record ScriptSays (lines : List ℕ) (happenings : List Happening) : Type 0 where
+  pub says : (is_cut : Bool) (rest : List ℕ) → happenings_from is_cut 1 (pieces 10 (lines ++ rest)) ≡ with_first happenings (happenings_from is_cut (length happenings + 1) (pieces 10 rest))
   pub whole : IsWholeLines lines
   pub many : length happenings ≤ length lines
 
@@ -55,7 +55,7 @@ pub record Says (lines : List ℕ) (happenings : List Happening) : Type 0 where
 pub record HasRead (seen : List ℕ) (s : Script) : Type 0 where
   pub lines : List ℕ
   pub happenings : List Happening
-  pub says : Says lines happenings
+  pub says : ScriptSays lines happenings
   pub parts : seen ≡ lines ++ s.pending.items
   pub begun : HasNoLineFeed s.pending.items
   pub short : length s.pending.items ≤ max_line
@@ -63,7 +63,7 @@ pub record HasRead (seen : List ℕ) (s : Script) : Type 0 where
   pub reached : Reached happenings s.world
 
 -- these bytes were read, and the script may have as many more as its room says
-pub record Stands (seen : List ℕ) (s : Script) : Type 0 where
+pub record ScriptStands (seen : List ℕ) (s : Script) : Type 0 where
   pub read : HasRead seen s
   pub room : length seen + s.room ≡ max_script
 
@@ -86,15 +86,15 @@ pub record IsHalted (input : List ℕ) (s : Script) (why : Stop) : Type 0 where
   pub against : StandsAgainst s.world s.line later end (stop_text why)
 
 -- the lines before the next were applied, and this stands against the next; where memory was refused, nothing is said
-abbrev pub Ends : List ℕ → Script → Stop → Type 0
-Ends input s (stop.Unread why) = IsHalted input s (stop.Unread why)
-Ends input s (stop.Refused why) = IsHalted input s (stop.Refused why)
-Ends input s stop.Memory = Unit {0}
+abbrev pub ScriptEnds : List ℕ → Script → Stop → Type 0
+ScriptEnds input s (stop.Unread why) = IsHalted input s (stop.Unread why)
+ScriptEnds input s (stop.Refused why) = IsHalted input s (stop.Refused why)
+ScriptEnds input s stop.Memory = Unit {0}
 
 -- the script ends so whatever follows these bytes, and they tell that its line is over; where memory was refused, nothing is said
 abbrev pub EndsEarly : List ℕ → Script → Stop → Type 0
-EndsEarly read s (stop.Unread why) = ((rest : List ℕ) → Ends (read ++ rest) s (stop.Unread why)) × IsOver read s.line
-EndsEarly read s (stop.Refused why) = ((rest : List ℕ) → Ends (read ++ rest) s (stop.Refused why)) × IsOver read s.line
+EndsEarly read s (stop.Unread why) = ((rest : List ℕ) → ScriptEnds (read ++ rest) s (stop.Unread why)) × IsOver read s.line
+EndsEarly read s (stop.Refused why) = ((rest : List ℕ) → ScriptEnds (read ++ rest) s (stop.Refused why)) × IsOver read s.line
 EndsEarly read s stop.Memory = Unit {0}
 
 -- these bytes tell that the line that wasn't applied is over; where memory was refused, nothing is said

@@ -7,7 +7,7 @@ use Rattle.zt_text.specs.Scripts.{◌>>=◌, decimal_digit, digits_value, max_nu
 use Rattle.zx_net.specs.Nets.{NetCounts}
 use Rattle.zd_etcd.specs.declared.serving.EtcdEnd.{EtcdEnd}
 use Rattle.zd_etcd.specs.declared.serving.EtcdEnd.TheVariants as ends
-use Rattle.zd_etcd.specs.Serving.{Ends}
+use Rattle.zd_etcd.specs.Serving.{EtcdEnds}
 use Rattle.zetcd_cmd.specs.declared.status.Status.{Status}
 use Rattle.zetcd_cmd.specs.declared.status.Status.TheVariants as status
 
@@ -56,12 +56,12 @@ NamesEtcd words = (listen : List ℕ) × (limit : ℕ) × IsEtcd words listen li
 
 -- ---- the outcome
 
-abbrev pub status_of : EtcdEnd → Status
-status_of ends.Done = status.Done
-status_of ends.Net = status.Net
-status_of ends.WriteFault = status.WriteFault
-status_of ends.Memory = status.Memory
+abbrev pub etcd_status : EtcdEnd → Status
+etcd_status ends.Done = status.Done
+etcd_status ends.Net = status.Net
+etcd_status ends.WriteFault = status.WriteFault
+etcd_status ends.Memory = status.Memory
 
 -- a server ended with this status: by the counts of its net, and by what was written
-abbrev pub Serves : Status → List ℕ → ℕ → NetCounts → NetCounts → Option (List ℕ) → Option (List ℕ) → Type 0
-Serves s listen limit counts counts' taken taken' = (end : EtcdEnd) × (s ≡ status_of end) × Ends end listen limit counts counts' taken taken'
+abbrev pub EtcdServes : Status → List ℕ → ℕ → NetCounts → NetCounts → Option (List ℕ) → Option (List ℕ) → Type 0
+EtcdServes s listen limit counts counts' taken taken' = (end : EtcdEnd) × (s ≡ etcd_status end) × EtcdEnds end listen limit counts counts' taken taken'

@@ -8,16 +8,16 @@ use Rattle.zetcd_cmd.specs.declared.streams.Piece.TheVariants as piece
 use Rattle.zetcd_cmd.specs.Outcomes.{patience}
 
 -- a piece has at least one byte, and no more than the buffer holds
-abbrev pub Fits : Piece → ℕ → Type 0
-Fits (piece.Bytes n) room = (0 < n) × (n ≤ room)
-Fits piece.End room = Unit {0}
-Fits piece.Fault room = Unit {0}
+abbrev pub PieceFits : Piece → ℕ → Type 0
+PieceFits (piece.Bytes n) room = (0 < n) × (n ≤ room)
+PieceFits piece.End room = Unit {0}
+PieceFits piece.Fault room = Unit {0}
 
 -- the bytes at the front of the buffer were given, or none; an end comes only where no byte is left
-abbrev pub Comes : Piece → List ℕ → Option (List ℕ) → Option (List ℕ) → Option (List ℕ) → Option (List ℕ) → Type 0
-Comes (piece.Bytes n) buffer given given' left left' = Gives (take n buffer) given given' left left'
-Comes piece.End buffer given given' left left' = IsAtEnd left × GivesNone given given' left left'
-Comes piece.Fault buffer given given' left left' = GivesNone given given' left left'
+abbrev pub PieceComes : Piece → List ℕ → Option (List ℕ) → Option (List ℕ) → Option (List ℕ) → Option (List ℕ) → Type 0
+PieceComes (piece.Bytes n) buffer given given' left left' = Gives (take n buffer) given given' left left'
+PieceComes piece.End buffer given given' left left' = IsAtEnd left × GivesNone given given' left left'
+PieceComes piece.Fault buffer given given' left left' = GivesNone given given' left left'
 
 -- there were so many idle turns and no fault since the counts stood so
 pub record Waited (start : InputCounts) (turns : ℕ) (now : InputCounts) : Type 0 where

@@ -3,7 +3,7 @@
 ghost use Rattle.std.specs.Prelude.{◌≡◌, ◌≢◌, ◌⊎◌, IfSome, IsNone};
 ghost use Rattle.zx_outside.specs.Writing.{counts_after_write};
 ghost use Rattle.zx_outside.specs.declared.sink.Took.TheVariants.{Failed as TookFailed};
-ghost use Rattle.zetcd_cmd.specs.Outcomes.{IsJudge, IsReplay, IsShow, Did, Judges, Replays, Shows, Refuses, Failed, IsUnharmed};
+ghost use Rattle.zetcd_cmd.specs.Outcomes.{IsJudge, IsReplay, IsShow, Did, Judges, Replays, Shows, RefusesWords, Failed, IsUnharmed};
 ghost use Rattle.zetcd_cmd.specs.Commands.{IsCommand};
 ghost use Rattle.zetcd_cmd.specs.Proxying.{NamesServe};
 ghost use Rattle.zetcd_cmd.specs.Serving.{NamesEtcd};
@@ -22,7 +22,7 @@ const USAGE: &[u8] =
 
 /// Writes the usage line.
 fn refuse<O: Sink>(out: &mut O) -> Status
-    ensures refuses { Refuses result (O.taken out.old) (O.taken out.new) }
+    ensures refuses { RefusesWords result (O.taken out.old) (O.taken out.new) }
     ensures write { result ≡ Status.WriteFault → O.counts out.new ≡ counts_after_write TookFailed (O.counts out.old) }
     ensures unless_write_fault { result ≢ Status.WriteFault → O.counts out.new ≡ O.counts out.old }
 {
@@ -59,7 +59,7 @@ pub fn plain<I: Source, O: Sink>(
     // The status of `etcd` and `serve` for the net never comes.
     ensures never_net { IfSome result (λ s. s ≢ Status.Net) }
     // Of words that are in no row: the usage line was written, or a front of it where the output has a fault.
-    ensures usage { ¬ IsReplay words.now → ¬ IsShow words.now → ¬ IsJudge words.now → ¬ NamesEtcd words.now → ¬ NamesServe words.now → IfSome result (λ s. Refuses s (O.taken out.old) (O.taken out.new)) }
+    ensures usage { ¬ IsReplay words.now → ¬ IsShow words.now → ¬ IsJudge words.now → ¬ NamesEtcd words.now → ¬ NamesServe words.now → IfSome result (λ s. RefusesWords s (O.taken out.old) (O.taken out.new)) }
     // Of words other than these three: nothing was read.
     ensures unread { ¬ IsReplay words.now → ¬ IsShow words.now → ¬ IsJudge words.now → input.new ≡ input.old }
     // Status 4 has its cause in the input: one fault, or 1,000 idle turns.

@@ -5,7 +5,7 @@ ghost use Rattle.zx_outside.specs.Writing.{counts_after_write};
 ghost use Rattle.zx_outside.specs.declared.sink.Took.TheVariants.{Failed as TookFailed};
 ghost use Rattle.zetcd_cmd.specs.Outcomes.{Did, Failed, IsUnharmed, Judges};
 ghost use Rattle.zetcd_cmd.specs.Judged.{Finds, numbered_text, status_on, verdict_text};
-ghost use Rattle.zetcd_cmd.specs.Judging.{IsRead, Tells};
+ghost use Rattle.zetcd_cmd.specs.Judging.{IsReadWhole, TellsVerdict};
 
 use crate::replay::ROOM;
 use crate::status::Status;
@@ -52,7 +52,7 @@ pub fn judge<I: Source, O: Sink>(alloc: Global, input: &mut I, out: &mut O) -> S
 /// Reads the source into `text`, to its end or until `text` has more than [`MAX_SCRIPT`] bytes.
 fn read_text<I: Source>(alloc: Global, input: &mut I, text: &mut Vec<u8>) -> Reading
     requires { text.old.items ≡ [] }
-    ensures text { IsRead result text.new.items (I.ended input.new) (I.given input.old) (I.given input.new) (I.left input.old) (I.left input.new) }
+    ensures text { IsReadWhole result text.new.items (I.ended input.new) (I.given input.old) (I.given input.new) (I.left input.old) (I.left input.new) }
     ensures fault { result ≡ Reading.Fault → Failed (I.counts input.old) (I.counts input.new) }
     ensures unharmed { result ≢ Reading.Fault → IsUnharmed (I.counts input.old) (I.counts input.new) }
 {
@@ -76,7 +76,7 @@ fn read_text<I: Source>(alloc: Global, input: &mut I, text: &mut Vec<u8>) -> Rea
 
 /// Writes what is found of a text.
 fn judge_text<O: Sink>(alloc: Global, text: &[u8], out: &mut O) -> Status
-    ensures told { Tells result text.now (O.taken out.old) (O.taken out.new) }
+    ensures told { TellsVerdict result text.now (O.taken out.old) (O.taken out.new) }
     ensures write { result ≡ Status.WriteFault → O.counts out.new ≡ counts_after_write TookFailed (O.counts out.old) }
     ensures unless_write_fault { result ≢ Status.WriteFault → O.counts out.new ≡ O.counts out.old }
 {

@@ -4,7 +4,7 @@ ghost use Rattle.std.specs.Prelude.{◌≡◌, ◌≢◌, ◌⊎◌, [], ℕ, Li
 ghost use Rattle.zx_outside.specs.Writing.{counts_after_write};
 ghost use Rattle.zx_outside.specs.declared.sink.Took.TheVariants.{Failed as TookFailed};
 ghost use Rattle.zetcd_cmd.specs.Outcomes.{Did, Replays, Failed, IsUnharmed};
-ghost use Rattle.zetcd_cmd.specs.Scripting.{Stands};
+ghost use Rattle.zetcd_cmd.specs.Scripting.{ScriptStands};
 ghost use Rattle.zetcd_cmd.specs.Ending.{EndsReading, EndsAll};
 
 use crate::report::{End, Unwritten, report, status_of};
@@ -57,7 +57,7 @@ fn wants_memory(end: End) -> bool
 
 /// Reads a script from its first byte to its end, and applies its lines.
 fn read_script<I: Source>(alloc: Global, input: &mut I, script: &mut Script) -> End
-    requires { Stands [] script.old }
+    requires { ScriptStands [] script.old }
     ensures end { EndsReading result (I.ended input.new) script.new (I.given input.old) (I.given input.new) (I.left input.old) (I.left input.new) }
     ensures fault { result ≡ End.ReadFault → Failed (I.counts input.old) (I.counts input.new) }
     ensures unharmed { result ≢ End.ReadFault → IsUnharmed (I.counts input.old) (I.counts input.new) }
@@ -81,7 +81,7 @@ fn read_script<I: Source>(alloc: Global, input: &mut I, script: &mut Script) -> 
 
 /// Ends a script whose last byte has come.
 fn finish(script: &mut Script) -> End
-    ensures { (seen : List ℕ) → Stands seen script.old → EndsAll result seen script.new }
+    ensures { (seen : List ℕ) → ScriptStands seen script.old → EndsAll result seen script.new }
 {
     match script.finish() {
         Ok(()) => End::Whole,

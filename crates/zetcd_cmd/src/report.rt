@@ -4,7 +4,7 @@ ghost use Rattle.std.specs.Prelude.{◌≡◌, ◌++◌, [], OnOk, OnErr, IfErr}
 ghost use Rattle.zt_text.specs.Transcripts.{line_text, transcript_text};
 ghost use Rattle.zx_outside.specs.Writing.{Takes};
 ghost use Rattle.zetcd_cmd.specs.Outcomes.{TakesSome};
-ghost use Rattle.zetcd_cmd.specs.Reporting.{Passes, ending_text, status_after, counts_after};
+ghost use Rattle.zetcd_cmd.specs.Reporting.{ReportPasses, ending_text, status_after, counts_unwritten};
 
 use crate::script::Stop;
 use crate::status::Status;
@@ -72,7 +72,7 @@ pub fn report<O: Sink>(
     ensures ok { OnOk result (Takes (transcript_text lines.now ++ ending_text end line) (O.taken out.old) (O.taken out.new)) }
     ensures front { IfErr result (λ e. TakesSome (transcript_text lines.now ++ ending_text end line) (O.taken out.old) (O.taken out.new)) }
     ensures unharmed { OnOk result (O.counts out.new ≡ O.counts out.old) }
-    ensures err { IfErr result (λ e. O.counts out.new ≡ counts_after e (O.counts out.old)) }
+    ensures err { IfErr result (λ e. O.counts out.new ≡ counts_unwritten e (O.counts out.old)) }
 {
     let mut text = Vec::new(alloc);
     write_lines(lines, &mut text, out)?;
@@ -86,10 +86,10 @@ fn write_lines<O: Sink>(
     text: &mut Vec<u8>,
     out: &mut O,
 ) -> Result<(), Unwritten>
-    ensures ok { OnOk result (Passes (transcript_text lines.now) text.old.items text.new.items (O.taken out.old) (O.taken out.new)) }
+    ensures ok { OnOk result (ReportPasses (transcript_text lines.now) text.old.items text.new.items (O.taken out.old) (O.taken out.new)) }
     ensures front { IfErr result (λ e. TakesSome (text.old.items ++ transcript_text lines.now) (O.taken out.old) (O.taken out.new)) }
     ensures unharmed { OnOk result (O.counts out.new ≡ O.counts out.old) }
-    ensures err { IfErr result (λ e. O.counts out.new ≡ counts_after e (O.counts out.old)) }
+    ensures err { IfErr result (λ e. O.counts out.new ≡ counts_unwritten e (O.counts out.old)) }
 {
     for line in lines {
         write_line(line, text, out)?;
@@ -103,10 +103,10 @@ fn write_line<O: Sink>(
     text: &mut Vec<u8>,
     out: &mut O,
 ) -> Result<(), Unwritten>
-    ensures ok { OnOk result (Passes (line_text line.now) text.old.items text.new.items (O.taken out.old) (O.taken out.new)) }
+    ensures ok { OnOk result (ReportPasses (line_text line.now) text.old.items text.new.items (O.taken out.old) (O.taken out.new)) }
     ensures front { IfErr result (λ e. TakesSome (text.old.items ++ line_text line.now) (O.taken out.old) (O.taken out.new)) }
     ensures unharmed { OnOk result (O.counts out.new ≡ O.counts out.old) }
-    ensures err { IfErr result (λ e. O.counts out.new ≡ counts_after e (O.counts out.old)) }
+    ensures err { IfErr result (λ e. O.counts out.new ≡ counts_unwritten e (O.counts out.old)) }
 {
     push_line(text, line)?;
     if text.len() < MAX_KEPT {
@@ -121,7 +121,7 @@ fn write_out<O: Sink>(text: &mut Vec<u8>, out: &mut O) -> Result<(), Unwritten>
     ensures empty { OnOk result (text.new.items ≡ []) }
     ensures front { IfErr result (λ e. TakesSome text.old.items (O.taken out.old) (O.taken out.new)) }
     ensures unharmed { OnOk result (O.counts out.new ≡ O.counts out.old) }
-    ensures err { IfErr result (λ e. O.counts out.new ≡ counts_after e (O.counts out.old)) }
+    ensures err { IfErr result (λ e. O.counts out.new ≡ counts_unwritten e (O.counts out.old)) }
 {
     if !write_all(out, text.as_slice()) {
         return Err(Unwritten::Sink);

@@ -5,7 +5,7 @@ ghost use Rattle.zt_text.specs.Scripts.{max_line, max_script};
 ghost use Rattle.zt_lines.specs.Words.{max_place};
 ghost use Rattle.zp_verdict_laws.specs.Written.{AreTyped};
 ghost use Rattle.zetcd_cmd.specs.Replayed.{IsOver};
-ghost use Rattle.zetcd_cmd.specs.Scripting.{HasNoLineFeed, IsFirstLine, Plays, Halts, HasRead, Stands, IsApplied, Ends, EndsEarly, IsOverAt, IsKeptOut};
+ghost use Rattle.zetcd_cmd.specs.Scripting.{HasNoLineFeed, IsFirstLine, Plays, ScriptHalts, HasRead, ScriptStands, IsApplied, ScriptEnds, EndsEarly, IsOverAt, IsKeptOut};
 
 use std::alloc::Global;
 use zk_transcript::TranscriptLine;
@@ -44,7 +44,7 @@ pub struct Script {
 impl Script {
     /// A script of which nothing was read yet, over a new world.
     pub fn new(alloc: Global) -> Result<Script, Memory>
-        ensures { IfOk result (λ s. Stands [] s) }
+        ensures { IfOk result (λ s. ScriptStands [] s) }
     {
         let world = World::new(alloc)?;
         Ok(Script {
@@ -79,8 +79,8 @@ impl Script {
     /// Takes the next bytes, and applies each line that ends in them. Where they make the script longer than [`MAX_SCRIPT`], only
     /// those up to this limit are taken, and the answer is that the line which goes on past it is too long.
     pub fn take(&mut self, piece: &[u8]) -> Result<(), Stop>
-        ensures ok { OnOk result ((seen : List ℕ) → Stands seen self.old → Stands (seen ++ piece.now) self.new) }
-        ensures err { IfErr result (λ stop. (seen : List ℕ) → Stands seen self.old → EndsEarly (seen ++ piece.now) self.new stop) }
+        ensures ok { OnOk result ((seen : List ℕ) → ScriptStands seen self.old → ScriptStands (seen ++ piece.now) self.new) }
+        ensures err { IfErr result (λ stop. (seen : List ℕ) → ScriptStands seen self.old → EndsEarly (seen ++ piece.now) self.new stop) }
         ensures room { OnOk result (self.new.room + length piece.now ≡ self.old.room) }
     {
         if piece.len() > self.room {
@@ -95,7 +95,7 @@ impl Script {
     /// Applies each line that ends in these bytes, and keeps what follows the last of them.
     fn take_lines(&mut self, bytes: &[u8]) -> Result<(), Stop>
         ensures ok { OnOk result ((seen : List ℕ) → HasRead seen self.old → length (seen ++ bytes.now) ≤ max_script → HasRead (seen ++ bytes.now) self.new) }
-        ensures err { IfErr result (λ stop. (seen rest : List ℕ) → HasRead seen self.old → length (seen ++ bytes.now) ≤ max_script → Ends ((seen ++ bytes.now) ++ rest) self.new stop) }
+        ensures err { IfErr result (λ stop. (seen rest : List ℕ) → HasRead seen self.old → length (seen ++ bytes.now) ≤ max_script → ScriptEnds ((seen ++ bytes.now) ++ rest) self.new stop) }
         ensures over { IfErr result (λ stop. (seen : List ℕ) → HasRead seen self.old → length (seen ++ bytes.now) ≤ max_script → IsOverAt (seen ++ bytes.now) self.new stop) }
         ensures room { self.new.room ≡ self.old.room }
     {
@@ -111,7 +111,7 @@ impl Script {
     fn end_line(&mut self, bytes: &[u8]) -> Result<(), Stop>
         requires { HasNoLineFeed bytes.now }
         ensures ok { OnOk result ((seen : List ℕ) → HasRead seen self.old → length (seen ++ bytes.now) < max_script → HasRead (seen ++ (bytes.now ++ 10 ∷ [])) self.new) }
-        ensures err { IfErr result (λ stop. (seen rest : List ℕ) → HasRead seen self.old → length (seen ++ bytes.now) < max_script → Ends (seen ++ (bytes.now ++ 10 ∷ rest)) self.new stop) }
+        ensures err { IfErr result (λ stop. (seen rest : List ℕ) → HasRead seen self.old → length (seen ++ bytes.now) < max_script → ScriptEnds (seen ++ (bytes.now ++ 10 ∷ rest)) self.new stop) }
         ensures over { IfErr result (λ stop. (seen rest : List ℕ) → HasRead seen self.old → length (seen ++ bytes.now) < max_script → IsOver (seen ++ (bytes.now ++ 10 ∷ rest)) self.new.line) }
         ensures room { self.new.room ≡ self.old.room }
     {
@@ -124,7 +124,7 @@ impl Script {
     fn apply_with(&mut self, bytes: &[u8]) -> Result<(), Stop>
         ensures ok { OnOk result (Plays (self.old.pending.items ++ bytes.now) self.old.world self.new.world) }
         ensures empty { OnOk result (self.new.pending.items ≡ []) }
-        ensures err { IfErr result (λ stop. Halts (self.old.pending.items ++ bytes.now) self.old.world stop self.new.world) }
+        ensures err { IfErr result (λ stop. ScriptHalts (self.old.pending.items ++ bytes.now) self.old.world stop self.new.world) }
         ensures line { self.new.line ≡ self.old.line }
         ensures room { self.new.room ≡ self.old.room }
     {
@@ -139,7 +139,7 @@ impl Script {
     fn apply_pending(&mut self) -> Result<(), Stop>
         ensures ok { OnOk result (Plays self.old.pending.items self.old.world self.new.world) }
         ensures empty { OnOk result (self.new.pending.items ≡ []) }
-        ensures err { IfErr result (λ stop. Halts self.old.pending.items self.old.world stop self.new.world) }
+        ensures err { IfErr result (λ stop. ScriptHalts self.old.pending.items self.old.world stop self.new.world) }
         ensures line { self.new.line ≡ self.old.line }
         ensures room { self.new.room ≡ self.old.room }
     {
@@ -150,8 +150,8 @@ impl Script {
 
     /// Applies what follows the last line feed, if anything does.
     pub fn finish(&mut self) -> Result<(), Stop>
-        ensures ok { OnOk result ((seen : List ℕ) → Stands seen self.old → IsApplied seen self.new) }
-        ensures err { IfErr result (λ stop. (seen : List ℕ) → Stands seen self.old → Ends seen self.new stop) }
+        ensures ok { OnOk result ((seen : List ℕ) → ScriptStands seen self.old → IsApplied seen self.new) }
+        ensures err { IfErr result (λ stop. (seen : List ℕ) → ScriptStands seen self.old → ScriptEnds seen self.new stop) }
     {
         if self.pending.is_empty() {
             return Ok(());
@@ -189,7 +189,7 @@ fn keep(pending: &mut Vec<u8>, bytes: &[u8]) -> Result<(), Stop>
 /// Reads a line, and applies what it says.
 fn apply_line(alloc: Global, line: &[u8], world: &mut World) -> Result<(), Stop>
     ensures ok { OnOk result (Plays line.now world.old world.new) }
-    ensures err { IfErr result (λ stop. Halts line.now world.old stop world.new) }
+    ensures err { IfErr result (λ stop. ScriptHalts line.now world.old stop world.new) }
 {
     match read_line(alloc, line) {
         Ok(Some(happening)) => match world.apply(happening) {

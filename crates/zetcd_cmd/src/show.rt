@@ -5,7 +5,7 @@ ghost use Rattle.zx_outside.specs.Writing.{counts_after_write};
 ghost use Rattle.zx_outside.specs.declared.sink.Took.TheVariants.{Failed as TookFailed};
 ghost use Rattle.zt_show.specs.Showing.{unshown};
 ghost use Rattle.zetcd_cmd.specs.Outcomes.{Did, Shows, Failed, IsUnharmed};
-ghost use Rattle.zetcd_cmd.specs.Streaming.{status_at, Passes, Closes, Finishes, counts_at};
+ghost use Rattle.zetcd_cmd.specs.Streaming.{status_at, ShowPasses, Closes, ShowFinishes, counts_at};
 
 use crate::replay::ROOM;
 use crate::status::Status;
@@ -96,7 +96,7 @@ fn show_piece<O: Sink>(
     out: &mut O,
 ) -> Result<(), Close>
     requires { text.old ≡ [] }
-    ensures ok { OnOk result (Passes show.old piece.now (O.taken out.old) (O.taken out.new) show.new) }
+    ensures ok { OnOk result (ShowPasses show.old piece.now (O.taken out.old) (O.taken out.new) show.new) }
     ensures empty { OnOk result (text.new ≡ []) }
     ensures room { OnOk result (show.new.progress.room + length piece.now ≡ show.old.progress.room) }
     ensures err { IfErr result (λ close. Closes close show.old piece.now (O.taken out.old) (O.taken out.new) show.new) }
@@ -119,7 +119,7 @@ fn show_piece<O: Sink>(
 /// Writes the last line of a stream whose last byte has come.
 fn show_end<O: Sink>(show: &mut Show, text: &mut Lines, out: &mut O) -> Close
     requires { text.old ≡ [] }
-    ensures told { Finishes result show.old (O.taken out.old) (O.taken out.new) show.new }
+    ensures told { ShowFinishes result show.old (O.taken out.old) (O.taken out.new) show.new }
     ensures count { O.counts out.new ≡ counts_at result (O.counts out.old) }
 {
     let Ok(ending) = show.finish(text) else {

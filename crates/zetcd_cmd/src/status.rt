@@ -1,7 +1,7 @@
 //! The statuses of the program.
 
 ghost use Rattle.std.specs.Prelude.{◌≡◌};
-ghost use Rattle.zetcd_cmd.specs.Outcomes.{number_of};
+ghost use Rattle.zetcd_cmd.specs.Outcomes.{status_number};
 
 use std::alloc::Global;
 use std::sync::Arc;
@@ -37,7 +37,7 @@ pub enum Status {
 impl Status {
     /// The number that the process ends with.
     pub fn number(&self) -> u8
-        ensures { result ≡ number_of self.now }
+        ensures { result ≡ status_number self.now }
     {
         match self {
             Status::Done => 0,

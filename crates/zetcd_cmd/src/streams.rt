@@ -5,7 +5,7 @@ ghost use Rattle.zx_outside.specs.Counts.{InputCounts};
 ghost use Rattle.zx_outside.specs.Writing.{Takes, counts_after_write};
 ghost use Rattle.zx_outside.specs.declared.sink.Took.TheVariants.{Failed as TookFailed};
 ghost use Rattle.zetcd_cmd.specs.Outcomes.{Failed, TakesSome};
-ghost use Rattle.zetcd_cmd.specs.Streams.{Comes, Fits, Waited, MayWait};
+ghost use Rattle.zetcd_cmd.specs.Streams.{PieceComes, PieceFits, Waited, MayWait};
 
 use zx_outside::{Got, Sink, Source, Took};
 
@@ -27,8 +27,8 @@ pub enum Piece {
 /// is at fault.
 pub fn next_piece<I: Source>(input: &mut I, buffer: &mut [u8], idle: &mut u32) -> Piece
     requires { 0 < length buffer.old }
-    ensures size { Fits result (length buffer.new) }
-    ensures bytes { Comes result buffer.new (I.given input.old) (I.given input.new) (I.left input.old) (I.left input.new) }
+    ensures size { PieceFits result (length buffer.new) }
+    ensures bytes { PieceComes result buffer.new (I.given input.old) (I.given input.new) (I.left input.old) (I.left input.new) }
     ensures end { result ≡ Piece.End → I.ended input.new ≡ true }
     ensures fault { result ≡ Piece.Fault → (start : InputCounts) → Waited start idle.old (I.counts input.old) → Failed start (I.counts input.new) }
     ensures waited { result ≢ Piece.Fault → (start : InputCounts) → Waited start idle.old (I.counts input.old) → MayWait start idle.new (I.counts input.new) }

@@ -5,9 +5,9 @@ ghost use Rattle.ev_addresses.specs.Lists.{addresses_in};
 ghost use Rattle.zx_outside.specs.Counts.{one_more};
 ghost use Rattle.zx_outside.specs.Writing.{counts_after_write};
 ghost use Rattle.zx_outside.specs.declared.sink.Took.TheVariants.{Failed as TookFailed};
-ghost use Rattle.zetcd_cmd.specs.Outcomes.{IsJudge, IsReplay, IsShow, Did, Judges, Replays, Shows, Refuses, Failed, IsUnharmed};
-ghost use Rattle.zetcd_cmd.specs.Proxying.{HasNetCause, IsServe, NamesServe, Proxies, seen, status_of as status_of_proxy};
-ghost use Rattle.zetcd_cmd.specs.Serving.{IsEtcd, NamesEtcd, Serves, status_of};
+ghost use Rattle.zetcd_cmd.specs.Outcomes.{IsJudge, IsReplay, IsShow, Did, Judges, Replays, Shows, RefusesWords, Failed, IsUnharmed};
+ghost use Rattle.zetcd_cmd.specs.Proxying.{HasNetCause, IsServe, NamesServe, Proxies, seen_so_far, serve_status as status_of_proxy};
+ghost use Rattle.zetcd_cmd.specs.Serving.{IsEtcd, NamesEtcd, EtcdServes, etcd_status};
 
 use crate::command::plain;
 use crate::status::Status;
@@ -24,7 +24,7 @@ use zx_words::{HangsUp, Random};
 
 /// The status of an etcd in memory that ended so.
 fn status_of_etcd(end: EtcdEnd) -> Status
-    ensures { result ≡ status_of end }
+    ensures { result ≡ etcd_status end }
 {
     match end {
         EtcdEnd::Done => Status::Done,
@@ -89,11 +89,11 @@ where
     // Of `judge`, by the status: the verdict on the transcript that was read, or its first line that cannot be read.
     ensures judge { IsJudge words.now → Did (Judges result (I.ended input.new) (I.left input.new)) (I.given input.old) (I.given input.new) (I.left input.old) (I.left input.new) (O.taken out.old) (O.taken out.new) }
     // Of `etcd`, by the status: how many connections were accepted, and what was written.
-    ensures etcd { (listen : List ℕ) → (limit : ℕ) → IsEtcd words.now listen limit → Serves result listen limit (N.counts net.old) (N.counts net.new) (O.taken out.old) (O.taken out.new) }
+    ensures etcd { (listen : List ℕ) → (limit : ℕ) → IsEtcd words.now listen limit → EtcdServes result listen limit (N.counts net.old) (N.counts net.new) (O.taken out.old) (O.taken out.new) }
     // Of `serve`, by the status: which clients were accepted, what was written about each, and how it ended.
     ensures serve { (listen : List ℕ) → (endpoint : List ℕ) → (limit : ℕ) → IsServe words.now listen endpoint limit →
         Proxies (length (addresses_in endpoint)) result listen limit (L.failures cluster.old) (L.failures cluster.new) (P.refusals spawner.old) (P.refusals spawner.new)
-        (seen (N.counts net.old) (O.taken out.old) (O.counts out.old)) (seen (N.counts net.new) (O.taken out.new) (O.counts out.new)) }
+        (seen_so_far (N.counts net.old) (O.taken out.old) (O.counts out.old)) (seen_so_far (N.counts net.new) (O.taken out.new) (O.counts out.new)) }
     // Status 6 has its cause in the net: one fault of a door.
     ensures net { ¬ NamesServe words.now → result ≡ Status.Net → (N.counts net.new).door_faults ≡ one_more (N.counts net.old).door_faults }
     // Of `serve` it has its cause there, in the first ask of the etcd, or in the start of a worker; then nothing else was written.
@@ -106,7 +106,7 @@ where
     // Of all words but those of `serve`: no other etcd was asked, and no random word taken.
     ensures unasked { ¬ NamesServe words.now → (cluster.new ≡ cluster.old) × (random.new ≡ random.old) }
     // Of words that are in no row: the usage line was written, or a front of it where the output has a fault.
-    ensures usage { ¬ IsReplay words.now → ¬ IsShow words.now → ¬ IsJudge words.now → ¬ NamesEtcd words.now → ¬ NamesServe words.now → Refuses result (O.taken out.old) (O.taken out.new) }
+    ensures usage { ¬ IsReplay words.now → ¬ IsShow words.now → ¬ IsJudge words.now → ¬ NamesEtcd words.now → ¬ NamesServe words.now → RefusesWords result (O.taken out.old) (O.taken out.new) }
     // Of words other than these three: nothing was read.
     ensures unread { ¬ IsReplay words.now → ¬ IsShow words.now → ¬ IsJudge words.now → input.new ≡ input.old }
     // Status 4 has its cause in the input: one fault, or 1,000 idle turns.
@@ -150,7 +150,7 @@ fn run_etcd<
     clock: &mut C,
 ) -> Status
     requires { NamesEtcd words.now }
-    ensures told { (listen : List ℕ) → (limit : ℕ) → IsEtcd words.now listen limit → Serves result listen limit (N.counts net.old) (N.counts net.new) (O.taken out.old) (O.taken out.new) }
+    ensures told { (listen : List ℕ) → (limit : ℕ) → IsEtcd words.now listen limit → EtcdServes result listen limit (N.counts net.old) (N.counts net.new) (O.taken out.old) (O.taken out.new) }
     ensures read { result ≢ Status.ReadFault }
     ensures net { result ≡ Status.Net → (N.counts net.new).door_faults ≡ one_more (N.counts net.old).door_faults }
     ensures unless_net { result ≢ Status.Net → result ≢ Status.WriteFault → (N.counts net.new).door_faults ≡ (N.counts net.old).door_faults }
@@ -191,7 +191,7 @@ where
     requires fresh { (N.counts net.old).accepted ≡ 0 }
     ensures told { (listen : List ℕ) → (endpoint : List ℕ) → (limit : ℕ) → IsServe words.now listen endpoint limit →
         Proxies (length (addresses_in endpoint)) result listen limit (L.failures cluster.old) (L.failures cluster.new) (P.refusals spawner.old) (P.refusals spawner.new)
-        (seen (N.counts net.old) (O.taken out.old) (O.counts out.old)) (seen (N.counts net.new) (O.taken out.new) (O.counts out.new)) }
+        (seen_so_far (N.counts net.old) (O.taken out.old) (O.counts out.old)) (seen_so_far (N.counts net.new) (O.taken out.new) (O.counts out.new)) }
     ensures read { result ≢ Status.ReadFault }
     ensures net { result ≡ Status.Net → HasNetCause (L.failures cluster.old) (L.failures cluster.new) (P.refusals spawner.old) (P.refusals spawner.new)
         (N.counts net.old) (N.counts net.new) (O.taken out.old) (O.taken out.new) }

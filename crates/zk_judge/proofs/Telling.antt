@@ -14,7 +14,7 @@ use Rattle.zk_transcript.specs.declared.transcript.UpdateKind.{UpdateKind}
 use Rattle.zk_transcript.specs.declared.transcript.UpdateKind.TheVariants.{Begin, Session as NewSession, Attach, Asked, Closed, Reaped}
 use Rattle.zk_transcript.specs.declared.transcript.TranscriptLine.{TranscriptLine}
 use Rattle.zk_transcript.specs.declared.transcript.TranscriptLine.TheVariants.{Update}
-use Rattle.zk_transcript.specs.Answers.{Told, limit_in, plain_reply, session_refusal}
+use Rattle.zk_transcript.specs.Answers.{Told, owned_limit_in, plain_reply, session_refusal}
 use Rattle.zk_transcript.specs.History.{Commit, Session, State, after, asked_commit, session_at}
 use Rattle.zk_transcript.specs.Walks.{closes_session, looked, response_at, seen_told, told_as_of, told_by_state, told_response, with_end}
 use Rattle.zk_machine.specs.Faults.{IsWhole}
@@ -66,7 +66,7 @@ seen-told s limit id x w None sent whole frame = ends false (looked s limit id w
 
 state-told : (s : State) (c : ℕ) (id : ℤ) (x : Frame) (w : Watches) → IsWhole s.tree → IsShortFrame x → IfEnds (told_by_state s c id x w)
 state-told s c id x w whole frame =
-    seen-told s (limit_in (session_at id s)) id x w (session_refusal c (session_at id s)) (session-sent c (session_at id s)) whole frame
+    seen-told s (owned_limit_in (session_at id s)) id x w (session_refusal c (session_at id s)) (session-sent c (session_at id s)) whole frame
 
 -- ---- by an update of its own
 

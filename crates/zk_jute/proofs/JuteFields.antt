@@ -12,8 +12,8 @@ use Rattle.std.proofs.lemmas.List.{take_at, drop_at, take-append-drop, length-ap
 use Rattle.byteorder.specs.Endian.{big_number}
 use Rattle.byteorder.specs.Numbers.{big_from-append}
 use Rattle.zk_model.specs.declared.request.Acl.{Acl}
-use Rattle.zk_jute.specs.JuteValues.{Value, int, long, boolean, buffer, ustring, ustrings, acls, Kind, an_int, a_long, a_boolean, a_buffer, a_ustring, some_ustrings, some_acls, open_acl, the_open_acl, kind_of, Spelled, IsInt, IsLong, IsBoolean, IsCount, IsBuffer, IsUstring, IsVector, IsAcl, Spells}
-use Rattle.zk_jute.specs.JuteReading.{Read, ◌>>=◌, int_at, long_at, boolean_at, bytes_after, text_of, ustring_at, count_of, count_at, buffer_at, items_at, vector_at, acl_at, as_value, value_at, values_at, open_of}
+use Rattle.zk_jute.specs.JuteValues.{Value, int, long, boolean, buffer, ustring, ustrings, acls, Kind, an_int, a_long, a_boolean, a_buffer, a_ustring, some_ustrings, some_acls, open_acl, the_open_acl, kind_of, Spelled, IsInt, IsLong, IsBoolean, IsCountField, IsBuffer, IsUstring, IsVector, IsAcl, Spells}
+use Rattle.zk_jute.specs.JuteReading.{Read, ◌>>=◌, int_at, long_at, boolean_at, bytes_after, text_read, ustring_at, count_of, count_at, buffer_at, items_at, vector_at, acl_at, as_value, value_at, values_at, open_of}
 use Rattle.zk_model.specs.Access.{is_open_acl, open_entry}
 
 -- the bytes are a spelling of x, and then the rest
@@ -113,17 +113,17 @@ bytes_after_again all content rest =
     let long_enough : ltb (length (content ++ rest)) (length content) ≡ false = le-ltb _ _ (omega (arith, length-append content rest)) in
     rw (long_enough, take_at content rest (length content) refl, drop_at content rest (length content) refl) refl
 
-count_of_takes : (bytes : List ℕ) (left : ℕ) (z : ℤ) (after : List ℕ) (n : ℕ) (rest : List ℕ) → Takes IsInt bytes z after → count_of left z after ≡ Ok (n, rest) → Takes IsCount bytes n rest
-count_of_takes bytes left (pos m) after n rest t e = subst (λ (y : ℕ × List ℕ). Takes IsCount bytes y.0 y.1) (ok_is (m, after) (n, rest) e) (record { front = t.front; spelled = inl t.spelled; parts = t.parts })
-count_of_takes bytes left (negsuc zero) after n rest t e = subst (λ (y : ℕ × List ℕ). Takes IsCount bytes y.0 y.1) (ok_is (0, after) (n, rest) e) (record { front = t.front; spelled = inr (refl, t.spelled); parts = t.parts })
+count_of_takes : (bytes : List ℕ) (left : ℕ) (z : ℤ) (after : List ℕ) (n : ℕ) (rest : List ℕ) → Takes IsInt bytes z after → count_of left z after ≡ Ok (n, rest) → Takes IsCountField bytes n rest
+count_of_takes bytes left (pos m) after n rest t e = subst (λ (y : ℕ × List ℕ). Takes IsCountField bytes y.0 y.1) (ok_is (m, after) (n, rest) e) (record { front = t.front; spelled = inl t.spelled; parts = t.parts })
+count_of_takes bytes left (negsuc zero) after n rest t e = subst (λ (y : ℕ × List ℕ). Takes IsCountField bytes y.0 y.1) (ok_is (0, after) (n, rest) e) (record { front = t.front; spelled = inr (refl, t.spelled); parts = t.parts })
 count_of_takes bytes left (negsuc (suc m)) after n rest t e = absurd cc
 
-count_takes : (bytes : List ℕ) (n : ℕ) (rest : List ℕ) → count_at bytes ≡ Ok (n, rest) → Takes IsCount bytes n rest
+count_takes : (bytes : List ℕ) (n : ℕ) (rest : List ℕ) → count_at bytes ≡ Ok (n, rest) → Takes IsCountField bytes n rest
 count_takes bytes n rest e =
     let b = bind_ok (int_at bytes) (λ m. count_of (length bytes) m.0 m.1) (n, rest) e in
     count_of_takes bytes (length bytes) b.0.0 b.0.1 n rest (int_takes bytes b.0.0 b.0.1 b.1) b.2
 
-count_again : (n : ℕ) (front rest : List ℕ) → IsCount n front → count_at (front ++ rest) ≡ Ok (n, rest)
+count_again : (n : ℕ) (front rest : List ℕ) → IsCountField n front → count_at (front ++ rest) ≡ Ok (n, rest)
 count_again n front rest (inl is) = rw (int_again (pos n) front rest is) refl
 count_again n front rest (inr is) = rw (int_again (negsuc 0) front rest is.1, is.0) refl
 
@@ -132,7 +132,7 @@ buffer_takes bytes content rest e =
     let b = bind_ok (count_at bytes) (λ n. bytes_after bytes (pos n.0) n.1) (content, rest) e in
     let t = count_takes bytes b.0.0 b.0.1 b.1 in
     let c = bytes_after_takes bytes b.0.0 b.0.1 content rest b.2 in
-    record { front = t.front ++ content; spelled = (t.front, subst (λ (n : ℕ). IsCount n t.front) (sym c.0) t.spelled, refl); parts = joined bytes t.front b.0.1 content rest t.parts c.1 }
+    record { front = t.front ++ content; spelled = (t.front, subst (λ (n : ℕ). IsCountField n t.front) (sym c.0) t.spelled, refl); parts = joined bytes t.front b.0.1 content rest t.parts c.1 }
 
 buffer_again : (content front rest : List ℕ) → IsBuffer content front → buffer_at (front ++ rest) ≡ Ok (content, rest)
 buffer_again content front rest is =
@@ -152,8 +152,8 @@ length_takes all (negsuc n) bytes content rest e = absurd cc
 
 ustring_takes : (bytes text rest : List ℕ) → ustring_at bytes ≡ Ok (text, rest) → Takes IsUstring bytes text rest
 ustring_takes bytes text rest e =
-    let b = bind_ok (int_at bytes) (λ n. bytes_after bytes n.0 n.1 >>= text_of (length bytes)) (text, rest) e in
-    let a = bind_ok (bytes_after bytes b.0.0 b.0.1) (text_of (length bytes)) (text, rest) b.2 in
+    let b = bind_ok (int_at bytes) (λ n. bytes_after bytes n.0 n.1 >>= text_read (length bytes)) (text, rest) e in
+    let a = bind_ok (bytes_after bytes b.0.0 b.0.1) (text_read (length bytes)) (text, rest) b.2 in
     let u = ended_ok (is_utf8 a.0.0) (length bytes) a.0 (text, rest) a.2 in
     let t = int_takes bytes b.0.0 b.0.1 b.1 in
     let c = length_takes bytes b.0.0 b.0.1 a.0.0 a.0.1 a.1 in
@@ -197,7 +197,7 @@ vector_takes {A = A} Is item field bytes xs rest e =
     let b = bind_ok (count_at bytes) (λ n. items_at item n.0 n.1) (xs, rest) e in
     let t = count_takes bytes b.0.0 b.0.1 b.1 in
     let u = items_take Is item field b.0.0 b.0.1 xs rest b.2 in
-    record { front = t.front ++ u.0.front; spelled = (t.front, u.0.front, subst (λ (n : ℕ). IsCount n t.front) (sym u.1) t.spelled, u.0.spelled, refl); parts = joined bytes t.front b.0.1 u.0.front rest t.parts u.0.parts }
+    record { front = t.front ++ u.0.front; spelled = (t.front, u.0.front, subst (λ (n : ℕ). IsCountField n t.front) (sym u.1) t.spelled, u.0.spelled, refl); parts = joined bytes t.front b.0.1 u.0.front rest t.parts u.0.parts }
 
 vector_again : {A : Type 0} (Is : A → List ℕ → Type 0) (item : List ℕ → Read A) → IsField Is item → (xs : List A) (front rest : List ℕ) → IsVector Is xs front → vector_at item (front ++ rest) ≡ Ok (xs, rest)
 vector_again {A = A} Is item field xs front rest is =

@@ -13,7 +13,7 @@ use Rattle.zk_model.specs.Limits.{max_frame}
 use Rattle.zk_jute.specs.JuteValues.{Value, int, long, boolean, buffer, ustring, ustrings, acls, open_acl}
 use Rattle.zk_jute.specs.JuteWriting.{int_bytes, long_bytes, boolean_bytes, string_bytes, vector_bytes, acl_bytes, canonical, IsShort, IsShortAcl, CanBeWritten, FitsLength, written}
 use Rattle.zk_jute.specs.Connects.{optional, connect_response_values}
-use Rattle.zk_jute.specs.Numbers.{number_of, opcode_of}
+use Rattle.zk_jute.specs.Numbers.{opcode_number, opcode_of}
 use Rattle.zk_jute.specs.Sending.{request_bytes, asked_values}
 use Rattle.zk_jute.specs.Packets.{reply_bytes}
 use Rattle.zk_jute.specs.Replies.{body_values}
@@ -115,7 +115,7 @@ length-reply_bytes xid zxid x z (replies.Good body) = same_header xid zxid x z (
 
 pub length-request_bytes : (xid x : ℤ) (r : Request) → length (request_bytes xid r) ≡ length (request_bytes x r)
 length-request_bytes xid x r =
-    let rest : List ℕ = int_bytes (number_of (opcode_of r)) ++ written (asked_values r) in
+    let rest : List ℕ = int_bytes (opcode_number (opcode_of r)) ++ written (asked_values r) in
     same_length (int_bytes xid) (int_bytes x) rest rest (same_int xid x) refl
 
 optional_short : (flag : Option Bool) → length (written (optional flag)) ≤ 1

@@ -6,7 +6,7 @@ use Rattle.zk_jute.specs.declared.opcode.Opcode.{Opcode}
 use Rattle.zk_jute.specs.declared.opcode.Opcode.TheVariants as opcodes
 use Rattle.zk_jute.specs.declared.opcode.PartKind.{PartKind}
 use Rattle.zk_jute.specs.declared.opcode.PartKind.TheVariants as kinds
-use Rattle.zk_jute.specs.Numbers.{number_of, unsigned_opcode, opcode_numbered, part_number, part_numbered}
+use Rattle.zk_jute.specs.Numbers.{opcode_number, unsigned_opcode, opcode_numbered, part_number, part_numbered}
 
 -- the first entry of a table with this number
 chain : {K : Type 0} → List (ℕ × K) → ℕ → Option K
@@ -28,17 +28,17 @@ opcodes_by_number =
     (1, opcodes.Create) ∷ (2, opcodes.Delete) ∷ (3, opcodes.Exists) ∷ (4, opcodes.GetData) ∷ (5, opcodes.SetData) ∷ (6, opcodes.GetAcl) ∷ (8, opcodes.GetChildren) ∷ (9, opcodes.Sync)
     ∷ (11, opcodes.Ping) ∷ (12, opcodes.GetChildren2) ∷ (13, opcodes.Check) ∷ (14, opcodes.Multi) ∷ (100, opcodes.Auth) ∷ (101, opcodes.SetWatches) ∷ []
 
-unsigned_is : (n : ℕ) (code : Opcode) → unsigned_opcode n ≡ Some code → pos n ≡ number_of code
+unsigned_is : (n : ℕ) (code : Opcode) → unsigned_opcode n ≡ Some code → pos n ≡ opcode_number code
 unfolding chain opcodes_by_number
 unsigned_is n code e =
-    chain_is number_of opcodes_by_number n code (refl, (refl, (refl, (refl, (refl, (refl, (refl, (refl, (refl, (refl, (refl, (refl, (refl, (refl, tt)))))))))))))) e
+    chain_is opcode_number opcodes_by_number n code (refl, (refl, (refl, (refl, (refl, (refl, (refl, (refl, (refl, (refl, (refl, (refl, (refl, (refl, tt)))))))))))))) e
 
-pub opcode_numbered-is : (n : ℤ) (code : Opcode) → opcode_numbered n ≡ Some code → n ≡ number_of code
+pub opcode_numbered-is : (n : ℤ) (code : Opcode) → opcode_numbered n ≡ Some code → n ≡ opcode_number code
 opcode_numbered-is (pos n) code e = unsigned_is n code e
 opcode_numbered-is (negsuc n) code e =
-    if_some (λ (c : Opcode). negsuc n ≡ number_of c) (eqb n 10) opcodes.Close code None e (λ h. ap negsuc (eqb-true n 10 h)) (λ h. absurd cc)
+    if_some (λ (c : Opcode). negsuc n ≡ opcode_number c) (eqb n 10) opcodes.Close code None e (λ h. ap negsuc (eqb-true n 10 h)) (λ h. absurd cc)
 
-pub opcode_numbered-number_of : (code : Opcode) → opcode_numbered (number_of code) ≡ Some code
+pub opcode_numbered-number_of : (code : Opcode) → opcode_numbered (opcode_number code) ≡ Some code
 opcode_numbered-number_of opcodes.Create = refl
 opcode_numbered-number_of opcodes.Delete = refl
 opcode_numbered-number_of opcodes.Exists = refl

@@ -10,7 +10,7 @@ use Rattle.zk_jute.specs.FromValues.{value_in, part_from}
 use Rattle.zk_jute.specs.Grammar.{IsHeader, IsPart, IsLastHeader}
 use Rattle.zk_jute.specs.Numbers.{part_number, part_numbered, part_kind}
 use Rattle.zk_jute.specs.Records.{part_fields, part_values}
-use Rattle.zk_jute.specs.Requests.{listed, part_begun, header_at, part_after, part_at}
+use Rattle.zk_jute.specs.Requests.{listed_part, part_begun, header_at, part_after, part_at}
 use Rattle.zk_jute.proofs.Conforming.{normals_are, part_kinds, part_back, part_with-kind, part_with-values}
 use Rattle.zk_jute.proofs.JuteFields.{Takes, bind_ok, ok_is, joined, int_field, boolean_field, values_take, values_again}
 use Rattle.zk_jute.proofs.Listing.{TakesLast, IsNext}
@@ -23,7 +23,7 @@ abbrev Heads : Option PartKind → List ℕ → Type 0
 Heads None bytes = IsLastHeader bytes
 Heads (Some kind) bytes = IsHeader (part_number kind) false bytes
 
-listed_heads : (type err : ℤ) (left : ℕ) (o part : Option PartKind) (bytes : List ℕ) → part_numbered type ≡ o → listed left o ≡ Ok part → Spelled Spells (int type ∷ boolean false ∷ int err ∷ []) bytes → Heads part bytes
+listed_heads : (type err : ℤ) (left : ℕ) (o part : Option PartKind) (bytes : List ℕ) → part_numbered type ≡ o → listed_part left o ≡ Ok part → Spelled Spells (int type ∷ boolean false ∷ int err ∷ []) bytes → Heads part bytes
 listed_heads type err left None part bytes n e is = absurd cc
 listed_heads type err left (Some kind) part bytes n e is =
     subst (λ (p : Option PartKind). Heads p bytes) (ok_is (Some kind) part e) (subst (λ (t : ℤ). IsHeader t false bytes) (part_numbered-is type kind n) (err, is))
@@ -87,7 +87,7 @@ header_again type err last part front rest is begun =
     ap header_at h.parts ∙ rw (int_field.again type h.a (h.b ++ (h.c ++ rest)) h.is_type, boolean_field.again last h.b (h.c ++ rest) h.is_last, begun_at, int_field.again err h.c rest h.is_err) refl
 
 begins_part : (left : ℕ) (kind : PartKind) → part_begun left (part_number kind) false ≡ Ok (Some kind)
-begins_part left kind = ap (listed left) (part_numbered-part_number kind)
+begins_part left kind = ap (listed_part left) (part_numbered-part_number kind)
 
 -- ---- parts
 

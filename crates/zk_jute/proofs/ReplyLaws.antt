@@ -17,7 +17,7 @@ use Rattle.zk_jute.specs.JuteValues.{Value, buffer, ustrings, open_acl, Kind, a_
 use Rattle.zk_jute.specs.JuteReading.{Read, ◌>>=◌, front_int, front_long, buffer_at, vector_at, ustring_at, value_at, values_at, all_until_last, ended}
 use Rattle.zk_jute.specs.FromValues.{value_in, texts_in, bytes_in, later, stat_with, body_with, body_from}
 use Rattle.zk_jute.specs.Grammar.{IsListed, Suits, IsReply}
-use Rattle.zk_jute.specs.Numbers.{number_of, opcode_numbered}
+use Rattle.zk_jute.specs.Numbers.{opcode_number, opcode_numbered}
 use Rattle.zk_jute.specs.Packets.{reply_header, reply_values}
 use Rattle.zk_jute.specs.Records.{stat_fields, stat_values}
 use Rattle.zk_jute.specs.Replies.{reply_fields, body_values, fields, results, shape_for, shape_of}
@@ -345,4 +345,4 @@ answers_is xid other_xid zxid other_zxid r other e = (cc, cc, cc)
 pub one : (frame : List ℕ) (code : Opcode) (xid other_xid zxid other_zxid : ℤ) (r other : Reply) → IsReply code xid zxid r frame → IsReply code other_xid other_zxid other frame → (xid ≡ other_xid) × (zxid ≡ other_zxid) × (r ≡ other)
 one frame code xid other_xid zxid other_zxid r other is also =
     answers_is xid other_xid zxid other_zxid r other
-    (sym (only frame (number_of code) code xid zxid r (opcode_numbered-number_of code) is) ∙ only frame (number_of code) code other_xid other_zxid other (opcode_numbered-number_of code) also)
+    (sym (only frame (opcode_number code) code xid zxid r (opcode_numbered-number_of code) is) ∙ only frame (opcode_number code) code other_xid other_zxid other (opcode_numbered-number_of code) also)

@@ -10,7 +10,7 @@ use Rattle.zk_jute.specs.JuteValues.{Value, Kind, Spelled, Spells}
 use Rattle.zk_jute.specs.JuteReading.{Read, front_int, values_at, all_until_last}
 use Rattle.zk_jute.specs.FromValues.{value_in, request_from}
 use Rattle.zk_jute.specs.Grammar.{IsAsked, IsPart, IsLastHeader, IsRequest}
-use Rattle.zk_jute.specs.Numbers.{number_of, opcode_of, opcode_numbered}
+use Rattle.zk_jute.specs.Numbers.{opcode_number, opcode_of, opcode_numbered}
 use Rattle.zk_jute.specs.Records.{fields_of, values_of}
 use Rattle.zk_jute.specs.Requests.{part_at, plain_at, body_at, whole_at, asked_as, frame_of_kind, NoHeader, Unreadable, Unknown, Asks, read_request}
 use Rattle.zk_jute.proofs.Conforming.{normals, normals_are, request_kinds, request_back, request_with-opcode, request_with-asked}
@@ -107,8 +107,8 @@ found frame xid r e =
     let w = whole_is (body_at a.code (drop 8 frame)) r a.rest a.body in
     let b = body_takes a.code (drop 8 frame) r a.rest w.0 in
     let t = first_int frame xid (omega (arith, a.long)) a.first in
-    let number : front_int (drop 4 frame) ≡ number_of (opcode_of r) = opcode_numbered-is _ a.code a.numbered ∙ ap number_of (sym b.1) in
-    let u = first_int (drop 4 frame) (number_of (opcode_of r)) (omega (arith, a.long, length-drop 4 frame)) number in
+    let number : front_int (drop 4 frame) ≡ opcode_number (opcode_of r) = opcode_numbered-is _ a.code a.numbered ∙ ap opcode_number (sym b.1) in
+    let u = first_int (drop 4 frame) (opcode_number (opcode_of r)) (omega (arith, a.long, length-drop 4 frame)) number in
     let rest : drop 8 frame ≡ b.0.front = b.0.parts ∙ ap (λ (z : List ℕ). b.0.front ++ z) w.1 ∙ append-nil b.0.front in (
       t.front ++ u.front,
       b.0.front,
@@ -128,7 +128,7 @@ only frame xid r is =
     let third : drop 8 frame ≡ body = sym (drop-drop 4 4 frame) ∙ ap (drop 4) second ∙ drop_at f2 body 4 is.2.3.2.0 in
     let long : 8 ≤ length frame = omega (arith, ap length grouped, length-append f1 (f2 ++ body), length-append f2 body, is.2.2.0, is.2.3.2.0) in
     let first : front_int frame ≡ xid = ap front_int grouped ∙ front_int_of xid f1 (f2 ++ body) is.2.2 in
-    let number : front_int (drop 4 frame) ≡ number_of (opcode_of r) = ap front_int second ∙ front_int_of (number_of (opcode_of r)) f2 body is.2.3.2 in
+    let number : front_int (drop 4 frame) ≡ opcode_number (opcode_of r) = ap front_int second ∙ front_int_of (opcode_number (opcode_of r)) f2 body is.2.3.2 in
     let read : body_at (opcode_of r) (drop 8 frame) ≡ Ok (r, []) = ap (body_at (opcode_of r)) (third ∙ sym (append-nil body)) ∙ body_again r body [] is.3 in
     reads_asks frame (opcode_of r) r [] long (ap opcode_numbered number ∙ opcode_numbered-number_of (opcode_of r)) (rw read refl) ∙ ap (λ (n : ℤ). Asks n r) first
 

@@ -11,7 +11,7 @@ use Rattle.zk_jute.specs.JuteValues.{int, Spelled, Spells}
 use Rattle.zk_jute.specs.JuteWriting.{count_bytes, with_length, AreValues}
 use Rattle.zk_jute.specs.Frames.{IsFrame, Framed}
 use Rattle.zk_jute.specs.Grammar.{IsPart, IsAsked, IsRequest, Suits}
-use Rattle.zk_jute.specs.Numbers.{number_of, opcode_of, opcode_numbered, part_number, part_kind}
+use Rattle.zk_jute.specs.Numbers.{opcode_number, opcode_of, opcode_numbered, part_number, part_kind}
 use Rattle.zk_jute.specs.Packets.{reply_values, reply_bytes, CanBeSent}
 use Rattle.zk_jute.specs.Records.{part_values}
 use Rattle.zk_jute.specs.ReplyReading as answers
@@ -42,7 +42,7 @@ request_canonical : (xid : ℤ) (r : Request) → RequestCanBeSent r → AreValu
 request_canonical xid r fits good =
     let can = written_can (request_values xid r) (omega (arith, length-request_bytes xid (pos 0) r, fits)) in
     let all = values_canonical (request_values xid r) can good in
-    let s = spelled_split Spells (int xid ∷ int (number_of (opcode_of r)) ∷ []) (asked_values r) (request_bytes xid r) all in
+    let s = spelled_split Spells (int xid ∷ int (opcode_number (opcode_of r)) ∷ []) (asked_values r) (request_bytes xid r) all in
     (s.front, s.rest, s.first, asked_spelled r s.rest s.second, s.parts)
 
 pub request_comes_back : (xid : ℤ) (r : Request) → RequestCanBeSent r → AreValues (request_values xid r) → read_request (request_bytes xid r) ≡ Asks xid r

@@ -12,7 +12,7 @@ use Rattle.zk_model.specs.declared.request.Part.{Part}
 use Rattle.zk_model.specs.declared.request.Request.{Request}
 use Rattle.zk_model.specs.declared.request.Request.TheVariants as requests
 use Rattle.zk_jute.specs.JuteValues.{int, boolean, IsInt, IsLong, IsBoolean, IsBuffer, IsUstring, Spelled, Spells}
-use Rattle.zk_jute.specs.Numbers.{number_of, opcode_of, part_number, part_kind}
+use Rattle.zk_jute.specs.Numbers.{opcode_number, opcode_of, part_number, part_kind}
 use Rattle.zk_jute.specs.Records.{values_of, part_values}
 use Rattle.zk_jute.specs.Connects.{connect_values}
 use Rattle.zk_jute.specs.Replies.{shape_for, shape_of}
@@ -41,7 +41,7 @@ IsAsked request bytes = Spelled Spells (values_of request) bytes
 
 -- a frame of a request: a `RequestHeader`, which is the xid and the type, and the body
 abbrev pub IsRequest : ℤ → Request → List ℕ → Type 0
-IsRequest xid request frame = (header : List ℕ) × (body : List ℕ) × Spelled Spells (int xid ∷ int (number_of (opcode_of request)) ∷ []) header × IsAsked request body × (frame ≡ header ++ body)
+IsRequest xid request frame = (header : List ℕ) × (body : List ℕ) × Spelled Spells (int xid ∷ int (opcode_number (opcode_of request)) ∷ []) header × IsAsked request body × (frame ≡ header ++ body)
 
 -- the first frame of a connection
 abbrev pub IsConnect : ConnectRequest → List ℕ → Type 0

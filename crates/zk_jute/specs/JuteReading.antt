@@ -42,11 +42,11 @@ bytes_after all (pos n) rest = if nat_lt (length rest) n then Err (length all) e
 bytes_after all (negsuc n) rest = Err (length all)
 
 -- bytes that are UTF-8, or a fault
-abbrev pub text_of : ℕ → List ℕ × List ℕ → Read (List ℕ)
-text_of left x = if is_utf8 x.0 then Ok x else Err left
+abbrev pub text_read : ℕ → List ℕ × List ℕ → Read (List ℕ)
+text_read left x = if is_utf8 x.0 then Ok x else Err left
 
 abbrev pub ustring_at : List ℕ → Read (List ℕ)
-ustring_at bytes = int_at bytes >>= λ n. bytes_after bytes n.0 n.1 >>= text_of (length bytes)
+ustring_at bytes = int_at bytes >>= λ n. bytes_after bytes n.0 n.1 >>= text_read (length bytes)
 
 -- a length or a count: -1 is read as 0
 abbrev pub count_of : ℕ → ℤ → List ℕ → Read ℕ

@@ -62,12 +62,12 @@ IsBoolean b (suc c ∷ []) = b ≡ true
 IsBoolean b (c ∷ d ∷ bytes) = ⊥
 
 -- an int, the length of a buffer or the count of a vector; -1 stands for 0 too
-abbrev pub IsCount : ℕ → List ℕ → Type 0
-IsCount n bytes = IsInt (pos n) bytes ⊎ ((n ≡ 0) × IsInt (minus 1) bytes)
+abbrev pub IsCountField : ℕ → List ℕ → Type 0
+IsCountField n bytes = IsInt (pos n) bytes ⊎ ((n ≡ 0) × IsInt (minus 1) bytes)
 
 -- a buffer's length, and its bytes
 abbrev pub IsBuffer : List ℕ → List ℕ → Type 0
-IsBuffer content bytes = (front : List ℕ) × IsCount (length content) front × (bytes ≡ front ++ content)
+IsBuffer content bytes = (front : List ℕ) × IsCountField (length content) front × (bytes ≡ front ++ content)
 
 -- a text's length, which is an int not below 0, and its bytes, which are UTF-8
 abbrev pub IsUstring : List ℕ → List ℕ → Type 0
@@ -75,7 +75,7 @@ IsUstring text bytes = (front : List ℕ) × IsInt (pos (length text)) front × 
 
 -- a vector's count, and its items, each spelled as `each` says
 abbrev pub IsVector : {A : Type 0} → (A → List ℕ → Type 0) → List A → List ℕ → Type 0
-IsVector each xs bytes = (front : List ℕ) × (rest : List ℕ) × IsCount (length xs) front × Spelled each xs rest × (bytes ≡ front ++ rest)
+IsVector each xs bytes = (front : List ℕ) × (rest : List ℕ) × IsCountField (length xs) front × Spelled each xs rest × (bytes ≡ front ++ rest)
 
 -- an `ACL` with its `Id`: the permissions, the scheme, the id
 abbrev pub IsAcl : Acl → List ℕ → Type 0

@@ -36,22 +36,22 @@ part_kind (parts.SetData path content version) = kinds.SetData
 part_kind (parts.Check path version) = kinds.Check
 
 -- the type in the header of a request of this kind
-abbrev pub number_of : Opcode → ℤ
-number_of opcodes.Create = pos 1
-number_of opcodes.Delete = pos 2
-number_of opcodes.Exists = pos 3
-number_of opcodes.GetData = pos 4
-number_of opcodes.SetData = pos 5
-number_of opcodes.GetAcl = pos 6
-number_of opcodes.GetChildren = pos 8
-number_of opcodes.Sync = pos 9
-number_of opcodes.Ping = pos 11
-number_of opcodes.GetChildren2 = pos 12
-number_of opcodes.Check = pos 13
-number_of opcodes.Multi = pos 14
-number_of opcodes.Auth = pos 100
-number_of opcodes.SetWatches = pos 101
-number_of opcodes.Close = minus 11
+abbrev pub opcode_number : Opcode → ℤ
+opcode_number opcodes.Create = pos 1
+opcode_number opcodes.Delete = pos 2
+opcode_number opcodes.Exists = pos 3
+opcode_number opcodes.GetData = pos 4
+opcode_number opcodes.SetData = pos 5
+opcode_number opcodes.GetAcl = pos 6
+opcode_number opcodes.GetChildren = pos 8
+opcode_number opcodes.Sync = pos 9
+opcode_number opcodes.Ping = pos 11
+opcode_number opcodes.GetChildren2 = pos 12
+opcode_number opcodes.Check = pos 13
+opcode_number opcodes.Multi = pos 14
+opcode_number opcodes.Auth = pos 100
+opcode_number opcodes.SetWatches = pos 101
+opcode_number opcodes.Close = minus 11
 
 abbrev pub unsigned_opcode : ℕ → Option Opcode
 unsigned_opcode n =

@@ -14,15 +14,15 @@ use Rattle.zk_jute.specs.FromValues.{request_from, part_from}
 -- ---- the parts of a multi
 
 -- the kind, or a fault where there is none
-abbrev pub listed : ℕ → Option PartKind → Result (Option PartKind) ℕ
-listed left None = Err left
-listed left (Some kind) = Ok (Some kind)
+abbrev pub listed_part : ℕ → Option PartKind → Result (Option PartKind) ℕ
+listed_part left None = Err left
+listed_part left (Some kind) = Ok (Some kind)
 
 -- which part a header begins, and none at the last header. An unlisted type is a fault of the whole header, from whose first
 -- byte on `left` bytes are left
 abbrev pub part_begun : ℕ → ℤ → Bool → Result (Option PartKind) ℕ
 part_begun left type true = Ok None
-part_begun left type false = listed left (part_numbered type)
+part_begun left type false = listed_part left (part_numbered type)
 
 -- a MultiHeader. Its error may be any int, and so may the type of the last one
 abbrev pub header_at : List ℕ → Read (Option PartKind)

@@ -7,7 +7,7 @@ use Rattle.zk_model.specs.declared.request.Request.{Request}
 use Rattle.zk_model.specs.declared.request.Request.TheVariants as requests
 use Rattle.zk_jute.specs.JuteValues.{Value, int, boolean}
 use Rattle.zk_jute.specs.JuteWriting.{written, with_length, FitsLength}
-use Rattle.zk_jute.specs.Numbers.{number_of, opcode_of, part_number, part_kind}
+use Rattle.zk_jute.specs.Numbers.{opcode_number, opcode_of, part_number, part_kind}
 use Rattle.zk_jute.specs.Records.{values_of, part_values}
 
 -- a MultiHeader, with the error -1
@@ -29,7 +29,7 @@ asked_values request = values_of request
 
 -- the RequestHeader, which is the xid and the type, and the body
 abbrev pub request_values : ℤ → Request → List Value
-request_values xid request = int xid ∷ int (number_of (opcode_of request)) ∷ asked_values request
+request_values xid request = int xid ∷ int (opcode_number (opcode_of request)) ∷ asked_values request
 
 -- the frame
 abbrev pub request_bytes : ℤ → Request → List ℕ

@@ -6,7 +6,7 @@ ghost use Rattle.zk_jute.specs.Frames.{Framed};
 ghost use Rattle.zk_jute.specs.FromValues.{request_from};
 ghost use Rattle.zk_jute.specs.Grammar.{IsConnect, IsConnectResponse, IsNotice, IsReply, IsRequest, Suits};
 ghost use Rattle.zk_jute.specs.JuteWriting.{AreValues};
-ghost use Rattle.zk_jute.specs.Numbers.{number_of, opcode_of, opcode_numbered};
+ghost use Rattle.zk_jute.specs.Numbers.{opcode_number, opcode_of, opcode_numbered};
 ghost use Rattle.zk_jute.specs.Packets.{CanBeSent, NoticeCanBeSent, connect_bytes, connect_packet, notice_bytes, notice_packet, notice_values, reply_bytes, reply_packet, reply_values};
 ghost use Rattle.zk_jute.specs.Records.{values_of};
 ghost use Rattle.zk_jute.specs.ReplyReading.{Answers, read_reply};
@@ -28,7 +28,7 @@ pub fn requests_are_spelled()
     ensures only { (frame : List ℕ) (xid : ℤ) (request : Request) → IsRequest xid request frame → read_request frame ≡ Asks xid request }
     ensures one { (frame : List ℕ) (xid other_xid : ℤ) (request other : Request) → IsRequest xid request frame → IsRequest other_xid other frame → (xid ≡ other_xid) × (request ≡ other) }
     ensures made { (request : Request) → opcode_of request ≢ opcodes.Multi → request_from (opcode_of request) (values_of request) ≡ request }
-    ensures numbered { (code : Opcode) → opcode_numbered (number_of code) ≡ Some code }
+    ensures numbered { (code : Opcode) → opcode_numbered (opcode_number code) ≡ Some code }
 {}
 
 /// A frame is read as a connect exactly where it spells one, so it spells one connect at most.

@@ -1,7 +1,7 @@
 //! Kinds of requests, and their numbers on the wire (`ZooDefs.OpCode`, release 3.4).
 
 ghost use Rattle.std.specs.Prelude.{◌≡◌};
-ghost use Rattle.zk_jute.specs.Numbers.{number_of, opcode_numbered, part_number, part_numbered};
+ghost use Rattle.zk_jute.specs.Numbers.{opcode_number, opcode_numbered, part_number, part_numbered};
 
 /// The kinds of requests that are read. Other types of release 3.4, such as `setACL` (7) and `sasl` (102), are not listed.
 #[derive(Clone, Copy, PartialEq, Eq)]
@@ -52,7 +52,7 @@ impl Opcode {
 
     /// The type in the header of a request of this kind.
     pub fn number(self) -> i32
-        ensures { result ≡ number_of self }
+        ensures { result ≡ opcode_number self }
     {
         match self {
             Opcode::Create => 1,

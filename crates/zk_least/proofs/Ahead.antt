@@ -15,7 +15,7 @@ use Rattle.zk_jute.specs.Requests.{Frame, read_request}
 use Rattle.zk_jute.specs.Packets.{reply_packet}
 use Rattle.zk_transcript.specs.declared.transcript.UpdateRec.{UpdateRec}
 use Rattle.zk_transcript.specs.declared.transcript.TranscriptLine.{TranscriptLine}
-use Rattle.zk_transcript.specs.Answers.{Told, only, plain_reply, xid_of, session_refusal, limit_in}
+use Rattle.zk_transcript.specs.Answers.{Told, only, plain_reply, xid_of, session_refusal, owned_limit_in}
 use Rattle.zk_transcript.specs.History.{State, state_at, session_at}
 use Rattle.zk_transcript.specs.Legal.{is_legal}
 use Rattle.zk_transcript.specs.Walks.{Walker, Choice, Tell, Plain, Answer, Due, move, walk, then_due, are_sent, is_walked, placed_frame, own_update, fired_above, later_of, with_end, looked, seen_told, told_by_state, told_as_of, answer_plainly, plain_answer, is_auth_refusal, all_choices, next_index, is_fresh, are_fresh}
@@ -170,15 +170,15 @@ with-some b (Some v) t h = (v, refl)
 seen-plain : (s : State) (c : ℕ) (id : ℤ) (x : Frame) (w : Watches) (t : Bool × Told) → told_by_state s c id x w ≡ Some t → (r : Told) → plain_reply no_watches x ≡ Some r → IsSessions t.1.reply
 seen-plain s c id x w t h r p = by (session_refusal c (session_at id s)) refl h
   where
-    by : (o : Option Reply) → session_refusal c (session_at id s) ≡ o → seen_told s (limit_in (session_at id s)) id x w o ≡ Some t → IsSessions t.1.reply
+    by : (o : Option Reply) → session_refusal c (session_at id s) ≡ o → seen_told s (owned_limit_in (session_at id s)) id x w o ≡ Some t → IsSessions t.1.reply
     by (Some q) e g =
         let own : ◌≡◌ {A = Bool × Told} (true, only w q) t = cc in
         let same : q ≡ t.1.reply = ap (λ (u : Bool × Told). u.1.reply) own in
         elim (refused-codes c (session_at id s) q e) [ inl f ↦ inl (sym same ∙ f) | inr f ↦ inr (sym same ∙ f) ]
     by None e g =
-        let v = with-some false (looked s (limit_in (session_at id s)) id w x (plain_reply w x)) t g in
+        let v = with-some false (looked s (owned_limit_in (session_at id s)) id w x (plain_reply w x)) t g in
         let plain : plain_reply w x ≡ Some (only w r.reply) = plain-only w x ∙ ap (λ o. option_map (only w) (reply_in o)) p in
-        let bad : looked s (limit_in (session_at id s)) id w x (Some (only w r.reply)) ≡ Some v.0 = ap (looked s (limit_in (session_at id s)) id w x) (sym plain) ∙ v.1 in
+        let bad : looked s (owned_limit_in (session_at id s)) id w x (Some (only w r.reply)) ≡ Some v.0 = ap (looked s (owned_limit_in (session_at id s)) id w x) (sym plain) ∙ v.1 in
         absurd (cc)
 
 told-plain : (lines : List TranscriptLine) (c i m k : ℕ) (id : ℤ) (bytes : List ℕ) (w : Watches) (own : Option (ℕ × UpdateRec)) (t : Bool × Told)

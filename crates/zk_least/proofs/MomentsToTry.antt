@@ -10,7 +10,7 @@ use Rattle.zk_jute.specs.Packets.{reply_packet}
 use Rattle.zk_transcript.specs.declared.transcript.UpdateRec.{UpdateRec}
 use Rattle.zk_transcript.specs.declared.transcript.TranscriptLine.{TranscriptLine}
 use Rattle.zk_transcript.specs.declared.transcript.TranscriptLine.TheVariants.{Update, Open, Frame as FrameLine, Send, Lapse, Close}
-use Rattle.zk_transcript.specs.Answers.{Told, only, xid_of, session_refusal, limit_in}
+use Rattle.zk_transcript.specs.Answers.{Told, only, xid_of, session_refusal, owned_limit_in}
 use Rattle.zk_transcript.specs.History.{State, session_at, state_at, first_place, when}
 use Rattle.zk_transcript.specs.Legal.{is_legal}
 use Rattle.zk_transcript.specs.Walks.{Walker, Due, placed_frame, own_update, fired_above, later_of, seen_told, told_as_of, after_place, after_update, is_past}
@@ -135,7 +135,7 @@ expired-code lines c id w ps m bytes legal least next own a gone =
     let f = (fired_above (take m lines) w.zxid w.watches).0 in
     let s = state_at lines m in
     let told : told_as_of (take m lines) c id x f None ≡ Some mk.what = ap (told_as_of (take m lines) c id x f) (sym own) ∙ mk.told in
-    let here : ◌≡◌ {A = Option (Bool × Told)} (Some (true, only f (reply.Refused session_expired))) (Some mk.what) = sym (ap (seen_told s (limit_in (session_at id s)) id x f) gone) ∙ told in
+    let here : ◌≡◌ {A = Option (Bool × Told)} (Some (true, only f (reply.Refused session_expired))) (Some mk.what) = sym (ap (seen_told s (owned_limit_in (session_at id s)) id x f) gone) ∙ told in
     let same : ◌≡◌ {A = Bool × Told} (true, only f (reply.Refused session_expired)) mk.what = cc in
     let said : reply.Refused session_expired ≡ mk.what.1.reply = ap (λ (p : Bool × Told). p.1.reply) same in
     ap code_in (shown lines c id w ps m bytes legal least next a ∙ ap (reply_packet (xid_of x) (state_at lines m).zxid) (sym said))

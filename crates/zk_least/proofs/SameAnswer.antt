@@ -17,7 +17,7 @@ use Rattle.zk_transcript.specs.declared.transcript.UpdateRec.{UpdateRec}
 use Rattle.zk_transcript.specs.declared.transcript.TranscriptLine.{TranscriptLine}
 use Rattle.zk_transcript.specs.History.{State, Session, state_at, asked_in, session_at}
 use Rattle.zk_transcript.specs.Legal.{is_legal}
-use Rattle.zk_transcript.specs.Answers.{Told, only, plain_reply, xid_of, tree_reply, session_refusal, limit_in}
+use Rattle.zk_transcript.specs.Answers.{Told, only, plain_reply, xid_of, tree_reply, session_refusal, owned_limit_in}
 use Rattle.zk_transcript.specs.Walks.{Walker, Answer, Due, move, due_notices, fired_above, placed_frame, own_update, later_of, with_end, looked, seen_told, told_by_state, told_as_of, closes_session, told_response, response_at, reply_step, may_answer_at, after_update}
 use Rattle.zk_least.specs.LeastWalk.{zxid_in, next_reply, rest_after, HasZxids}
 use Rattle.zk_least.specs.LeastMoments.{code_in}
@@ -43,7 +43,7 @@ refused-codes c (Some x) r h = go x.lapsed (not (c == x.connection)) h
 
 -- what is told to a session of the state
 abbrev pub told_to : State → ℕ → ℤ → Frame → Watches → Option Session → Option (Bool × Told)
-told_to s c id x w o = seen_told s (limit_in o) id x w (session_refusal c o)
+told_to s c id x w o = seen_told s (owned_limit_in o) id x w (session_refusal c o)
 
 looked-tree : (s t : State) (limit : ℕ) (id : ℤ) (w : Watches) (x : Frame) (o : Option Told) → t.tree ≡ s.tree → looked t limit id w x o ≡ looked s limit id w x o
 looked-tree s t limit id w x (Some r) h = refl
@@ -54,7 +54,7 @@ seen-tree s t limit id x w (Some r) h = refl
 seen-tree s t limit id x w None h = ap (with_end false) (looked-tree s t limit id w x (plain_reply w x) h)
 
 pub told-tree : (s t : State) (c : ℕ) (id : ℤ) (x : Frame) (w : Watches) (o : Option Session) → t.tree ≡ s.tree → told_to t c id x w o ≡ told_to s c id x w o
-told-tree s t c id x w o h = seen-tree s t (limit_in o) id x w (session_refusal c o) h
+told-tree s t c id x w o h = seen-tree s t (owned_limit_in o) id x w (session_refusal c o) h
 
 asked-fine : (s : State) (limit : ℕ) (id : ℤ) (w : Watches) (o : Option Request) → fine_told (option_and_then (tree_reply s.tree limit id w) o) ≡ true
 asked-fine s limit id w None = refl
@@ -92,8 +92,8 @@ fine-expired z h e = (let bad : is_fine session_expired ≡ true = ap is_fine (s
 expired-told : (s : State) (c : ℕ) (id : ℤ) (x : Frame) (w : Watches) (o : Option Session) (u : Bool × Told) → told_to s c id x w o ≡ Some u → code_of u.1.reply ≡ session_expired → u ≡ expired_told w
 expired-told s c id x w o u f e = by (session_refusal c o) refl f
   where
-    by : (r : Option Reply) → session_refusal c o ≡ r → seen_told s (limit_in o) id x w r ≡ Some u → u ≡ expired_told w
-    by None at g = absurd (fine-expired (code_of u.1.reply) (seen-fine s (limit_in o) id x w u g) e)
+    by : (r : Option Reply) → session_refusal c o ≡ r → seen_told s (owned_limit_in o) id x w r ≡ Some u → u ≡ expired_told w
+    by None at g = absurd (fine-expired (code_of u.1.reply) (seen-fine s (owned_limit_in o) id x w u g) e)
     by (Some r) at g =
         let own : ◌≡◌ {A = Bool × Told} (true, only w r) u = cc in
         refused-expired c w o r u at own (ap (λ (p : Bool × Told). code_of p.1.reply) own ∙ e)
@@ -105,7 +105,7 @@ seen-same s t c id x w u v lag a b e = by (says-as s t c id (lag.session id))
     by : SaysAs s t c id → u ≡ v
     by (inl q) = (let same : Some u ≡ Some v = sym a ∙ sym (ap (told_to t c id x w) q ∙ told-tree s t c id x w (session_at id s) lag.tree) ∙ b in cc)
     by (inr q) =
-        let here : Some (expired_told w) ≡ Some v = sym (ap (seen_told t (limit_in (session_at id t)) id x w) q) ∙ b in
+        let here : Some (expired_told w) ≡ Some v = sym (ap (seen_told t (owned_limit_in (session_at id t)) id x w) q) ∙ b in
         let same : expired_told w ≡ v = cc in
         let code : code_of v.1.reply ≡ session_expired = ap (λ (p : Bool × Told). code_of p.1.reply) (sym same) in
         expired-told s c id x w (session_at id s) u a (e ∙ code) ∙ same
@@ -126,8 +126,8 @@ refused-short c o r h = elim (refused-codes c o r h) [
 pub seen-short : (s : State) (c : ℕ) (id : ℤ) (x : Frame) (w : Watches) (u : Bool × Told) → told_by_state s c id x w ≡ Some u → IsShortCode (code_of u.1.reply)
 seen-short s c id x w u h = go (session_refusal c (session_at id s)) refl h
   where
-    go : (o : Option Reply) → session_refusal c (session_at id s) ≡ o → seen_told s (limit_in (session_at id s)) id x w o ≡ Some u → IsShortCode (code_of u.1.reply)
-    go None e g = fine-short (code_of u.1.reply) (seen-fine s (limit_in (session_at id s)) id x w u g)
+    go : (o : Option Reply) → session_refusal c (session_at id s) ≡ o → seen_told s (owned_limit_in (session_at id s)) id x w o ≡ Some u → IsShortCode (code_of u.1.reply)
+    go None e g = fine-short (code_of u.1.reply) (seen-fine s (owned_limit_in (session_at id s)) id x w u g)
     go (Some r) e g =
         let own : ◌≡◌ {A = Bool × Told} (true, only w r) u = cc in
         subst (λ (p : Bool × Told). IsShortCode (code_of p.1.reply)) own (refused-short c (session_at id s) r e)

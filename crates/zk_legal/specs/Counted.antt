@@ -8,7 +8,7 @@ use Rattle.std.specs.Ordering.{nat_cmp}
 use Rattle.zk_transcript.specs.declared.transcript.TranscriptLine.{TranscriptLine}
 use Rattle.zk_transcript.specs.declared.transcript.TranscriptLine.TheVariants.{Frame, Update}
 use Rattle.zk_transcript.specs.History.{or_nothing}
-use Rattle.zk_transcript.specs.Legal.{index_shown, is_below}
+use Rattle.zk_transcript.specs.Legal.{index_shown, is_below_place}
 use Rattle.zk_legal.specs.Formed.{frames_of}
 use Rattle.zk_legal.specs.declared.counts.Counts.{Counts}
 use Rattle.zk_legal.specs.declared.lasts.Lasts.{Lasts}
@@ -46,4 +46,4 @@ later true i (Some j) = Some (max i j)
 
 -- a request comes after all that these lines carry out for a connection exactly where it comes after the one that m has
 abbrev pub AreLasts : List TranscriptLine → Lasts → Type 0
-AreLasts lines m = (c i : ℕ) → list_all (λ l. is_below i (index_shown c l)) lines ≡ is_below i (last_in m c)
+AreLasts lines m = (c i : ℕ) → list_all (λ l. is_below_place i (index_shown c l)) lines ≡ is_below_place i (last_in m c)

@@ -2,7 +2,7 @@
 
 ghost use Rattle.std.specs.Prelude.{◌≡◌, List, IfOk};
 ghost use Rattle.zk_transcript.specs.declared.transcript.TranscriptLine.{TranscriptLine as AnyLine};
-ghost use Rattle.zk_transcript.specs.Legal.{is_below as is_below_of, is_in_order as is_in_order_of};
+ghost use Rattle.zk_transcript.specs.Legal.{is_below_place as is_below_of, is_in_order as is_in_order_of};
 ghost use Rattle.zk_legal.specs.Counted.{AreLasts};
 ghost use Rattle.zk_legal.specs.Faults.{order_fault as order_fault_of};
 

@@ -9,7 +9,7 @@ use Rattle.zk_transcript.specs.declared.transcript.UpdateKind.TheVariants.{Begin
 use Rattle.zk_transcript.specs.declared.transcript.TranscriptLine.{TranscriptLine}
 use Rattle.zk_transcript.specs.declared.transcript.TranscriptLine.TheVariants.{Update, Open, Frame as FrameLine, Send, Lapse, Close}
 use Rattle.zk_transcript.specs.History.{when}
-use Rattle.zk_transcript.specs.Legal.{index_in, index_shown, is_below, follows, carrier, is_in_order, is_ordered, is_ordered_from}
+use Rattle.zk_transcript.specs.Legal.{index_in, index_shown, is_below_place, follows, carrier, is_in_order, is_ordered, is_ordered_from}
 
 in_order-at : (before ls : List TranscriptLine) (k : ℕ) (l : TranscriptLine) → is_ordered_from before ls ≡ true → slice_get ls k ≡ Some l → is_in_order (before ++ take k ls) l ≡ true
 in_order-at before [] k l h g = absurd (cc)
@@ -59,14 +59,14 @@ carrier-of c (Send d bytes) m h = absurd (cc)
 carrier-of c (Lapse revision id) m h = absurd (cc)
 carrier-of c (Close d end) m h = absurd (cc)
 
-follows-from : (before : List TranscriptLine) (c m : ℕ) (l : TranscriptLine) → index_shown c l ≡ Some m → is_in_order before l ≡ true → list_all (λ x. is_below m (index_shown c x)) before ≡ true
+follows-from : (before : List TranscriptLine) (c m : ℕ) (l : TranscriptLine) → index_shown c l ≡ Some m → is_in_order before l ≡ true → list_all (λ x. is_below_place m (index_shown c x)) before ≡ true
 follows-from before c m l shown h = subst (λ (o : Option ℕ). follows before c o ≡ true) shown (by_carrier (carrier l) (carrier-of c l m shown) h)
   where
     by_carrier : (o : Option ℕ) → o ≡ Some c → elim o [ None ↦ true | Some d ↦ follows before d (index_shown d l) ] ≡ true → follows before c (index_shown c l) ≡ true
     by_carrier None e g = absurd (cc)
     by_carrier (Some d) e g = let same : d ≡ c = cc in subst (λ (n : ℕ). follows before n (index_shown n l) ≡ true) same g
 
-below-is : (m i : ℕ) (o : Option ℕ) → o ≡ Some i → is_below m o ≡ true → i < m
+below-is : (m i : ℕ) (o : Option ℕ) → o ≡ Some i → is_below_place m o ≡ true → i < m
 below-is m i None e h = absurd (cc)
 below-is m i (Some j) e h = let same : j ≡ i = cc in let less : j < m = grind (arith, nat_tests) in omega (arith, same, less)
 
@@ -75,4 +75,4 @@ pub indices-rise : (lines : List TranscriptLine) (j k c i m : ℕ) (a b : Transc
     → index_shown c a ≡ Some i → index_shown c b ≡ Some m → i < m
 indices-rise lines j k c i m a b ordered lt at_j at_k first second =
     let after = follows-from (take k lines) c m b second (ordered-at lines k b ordered at_k) in
-    below-is m i (index_shown c a) first (all-at (λ x. is_below m (index_shown c x)) (take k lines) j a after (slice_get-take lines k j lt ∙ at_j))
+    below-is m i (index_shown c a) first (all-at (λ x. is_below_place m (index_shown c x)) (take k lines) j a after (slice_get-take lines k j lt ∙ at_j))

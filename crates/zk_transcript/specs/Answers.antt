@@ -87,9 +87,9 @@ session_refusal c (Some x) =
     else None
 
 -- how many ephemeral nodes the session may own
-abbrev pub limit_in : Option Session → ℕ
-limit_in None = 0
-limit_in (Some x) = limit_of x
+abbrev pub owned_limit_in : Option Session → ℕ
+owned_limit_in None = 0
+owned_limit_in (Some x) = limit_of x
 
 -- ---- reads, and refusals by the tree
 

@@ -157,14 +157,14 @@ index_shown c (Update u) = index_in c u.kind
 index_shown c _ = None
 
 -- the number of a request that was carried out, if one was, is below i
-abbrev pub is_below : ℕ → Option ℕ → Bool
-is_below i None = true
-is_below i (Some j) = nat_lt j i
+abbrev pub is_below_place : ℕ → Option ℕ → Bool
+is_below_place i None = true
+is_below_place i (Some j) = nat_lt j i
 
 -- the request of c that a line carries out has a greater number than those that the lines before it carried out
 abbrev pub follows : List TranscriptLine → ℕ → Option ℕ → Bool
 follows before c None = true
-follows before c (Some i) = list_all (λ l. is_below i (index_shown c l)) before
+follows before c (Some i) = list_all (λ l. is_below_place i (index_shown c l)) before
 
 -- the connection whose request a line carries out
 abbrev pub carrier : TranscriptLine → Option ℕ

@@ -21,8 +21,8 @@ use Rattle.zk_jute.specs.Requests.{Frame, NoHeader, Unreadable, Unknown, Asks, r
 use Rattle.zk_jute.specs.Packets.{reply_packet, notice_packet}
 use Rattle.zk_model.specs.Watches.{Watches, no_watches, is_unarmed, fire_all}
 use Rattle.zk_transcript.specs.History.{State, after, session_at, state_at, first_place, when, frame_shown, Commit, asked_commit, asked_in}
-use Rattle.zk_transcript.specs.Legal.{index_shown, is_below}
-use Rattle.zk_transcript.specs.Answers.{Told, only, told, plain_reply, session_refusal, limit_in, tree_reply, xid_of}
+use Rattle.zk_transcript.specs.Legal.{index_shown, is_below_place}
+use Rattle.zk_transcript.specs.Answers.{Told, only, told, plain_reply, session_refusal, owned_limit_in, tree_reply, xid_of}
 
 -- ---- updates and frames in a transcript, by their lines' places
 
@@ -159,7 +159,7 @@ seen_told s limit id x w (Some r) = Some (true, only w r)
 seen_told s limit id x w None = with_end false (looked s limit id w x (plain_reply w x))
 
 abbrev pub told_by_state : State → ℕ → ℤ → Frame → Watches → Option (Bool × Told)
-told_by_state s c id x w = seen_told s (limit_in (session_at id s)) id x w (session_refusal c (session_at id s))
+told_by_state s c id x w = seen_told s (owned_limit_in (session_at id s)) id x w (session_refusal c (session_at id s))
 
 -- the response to a request that was carried out, by what its line did
 abbrev pub response_at : List TranscriptLine → ℕ → ℤ → UpdateKind → Option Body
@@ -289,7 +289,7 @@ are_fresh lines c i xs = all_choices (is_fresh lines c) i xs
 
 -- no request of c with a number above i was carried out
 abbrev pub is_not_overtaken : List TranscriptLine → ℕ → ℕ → Bool
-is_not_overtaken past c i = list_all (λ l. is_below (i + 1) (index_shown c l)) past
+is_not_overtaken past c i = list_all (λ l. is_below_place (i + 1) (index_shown c l)) past
 
 abbrev pub is_in_turn : List TranscriptLine → ℕ → ℕ → Choice → Bool
 is_in_turn lines c i (Answer m) = is_not_overtaken (take m lines) c i

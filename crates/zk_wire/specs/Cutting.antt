@@ -23,17 +23,17 @@ pub record Hands (old : Stream) (piece : List ℕ) (frames : List (List ℕ)) (n
   pub bad : frames ≡ [] → bad_length new.rest ≡ None
 
 -- a length out of range stands at the front, and stays there
-pub record Refuses (old : Stream) (piece : List ℕ) (place : ℕ) (n : ℤ) (new : Stream) : Type 0 where
+pub record CutRefuses (old : Stream) (piece : List ℕ) (place : ℕ) (n : ℤ) (new : Stream) : Type 0 where
   pub bad : bad_length (old.rest ++ piece) ≡ Some n
   pub at : place ≡ old.place
   pub stays : bad_length new.rest ≡ Some n
   pub stands : new.place ≡ old.place
 
 -- what a call does with a piece; without memory, nothing
-abbrev pub Takes : Stream → List ℕ → Result (Vec (List ℕ)) CutFault → Stream → Type 0
-Takes old piece (Ok frames) new = Hands old piece frames.items new
-Takes old piece (Err (BadLength place n)) new = Refuses old piece place n new
-Takes old piece (Err Memory) new = new ≡ old
+abbrev pub CutTakes : Stream → List ℕ → Result (Vec (List ℕ)) CutFault → Stream → Type 0
+CutTakes old piece (Ok frames) new = Hands old piece frames.items new
+CutTakes old piece (Err (BadLength place n)) new = CutRefuses old piece place n new
+CutTakes old piece (Err Memory) new = new ≡ old
 
 -- ---- many calls
 
@@ -45,7 +45,7 @@ pub record Call : Type 0 where
 -- calls one after the other
 abbrev pub Calls : Stream → List Call → Stream → Type 0
 Calls old [] new = old ≡ new
-Calls old (call ∷ calls) new = (next : Stream) × Takes old call.piece call.result next × Calls next calls new
+Calls old (call ∷ calls) new = (next : Stream) × CutTakes old call.piece call.result next × Calls next calls new
 
 abbrev pub taken_by : List ℕ → Result (Vec (List ℕ)) CutFault → List ℕ
 taken_by piece (Ok frames) = piece
@@ -72,7 +72,7 @@ all_handed calls = flat_map handed calls
 
 -- where a cutter stands after a stream of which these frames were handed out: it holds the rest; or the rest begins with a
 -- length out of range, and what it holds begins with the same length
-pub record Stands (stream : List ℕ) (frames : List (List ℕ)) (state : Stream) : Type 0 where
+pub record CutStands (stream : List ℕ) (frames : List (List ℕ)) (state : Stream) : Type 0 where
   pub rest : List ℕ
   pub framed : Framed stream frames rest
   pub held : (rest ≡ state.rest) ⊎ ((n : ℤ) × (bad_length rest ≡ Some n) × (bad_length state.rest ≡ Some n))

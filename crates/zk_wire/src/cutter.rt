@@ -2,7 +2,7 @@
 
 ghost use Rattle.std.specs.Prelude.{◌≡◌, [], ℤ, MatchOption, Some, IfOk, Ok, Err, IsErr};
 ghost use Rattle.zk_jute.specs.Frames.{Framed, bad_length as bad_length_of, frame_at};
-ghost use Rattle.zk_wire.specs.Cutting.{Stream, unread, Takes};
+ghost use Rattle.zk_wire.specs.Cutting.{Stream, unread, CutTakes};
 ghost use Rattle.zk_wire.specs.declared.cutter.CutFault.TheVariants as faults;
 
 use crate::reader::first_int;
@@ -53,7 +53,7 @@ impl Cutter {
     /// the piece is not taken, and the cutter is as it was. Copies each frame once; where bytes are held, the whole piece
     /// once more.
     pub fn take(&mut self, piece: &[u8]) -> Result<Vec<Bytes>, CutFault>
-        ensures takes { Takes self.old piece.now result self.new }
+        ensures takes { CutTakes self.old piece.now result self.new }
         ensures for_good { (n : ℤ) → bad_length_of self.old.rest ≡ Some n → result ≡ Err (faults.BadLength self.old.place n) }
         ensures holds_no_more { (n : ℤ) → bad_length_of self.old.rest ≡ Some n → self.new ≡ self.old }
     {
@@ -67,7 +67,7 @@ impl Cutter {
     /// [`Cutter::take`] where no bytes are held: the frames are copied straight from the piece.
     fn take_front(&mut self, piece: &[u8]) -> Result<Vec<Bytes>, CutFault>
         requires { self.old.rest ≡ [] }
-        ensures { Takes self.old piece.now result self.new }
+        ensures { CutTakes self.old piece.now result self.new }
     {
         let Ok((frames, rest)) = cut(self.alloc, piece) else {
             return Err(CutFault::Memory);
@@ -85,7 +85,7 @@ impl Cutter {
 
     /// [`Cutter::take`] for any bytes held: the piece is added to them, and the frames are copied from there.
     fn take_after(&mut self, piece: &[u8]) -> Result<Vec<Bytes>, CutFault>
-        ensures takes { Takes self.old piece.now result self.new }
+        ensures takes { CutTakes self.old piece.now result self.new }
         ensures for_good { (n : ℤ) → bad_length_of self.old.rest ≡ Some n → result ≡ Err (faults.BadLength self.old.place n) }
         ensures holds_no_more { (n : ℤ) → bad_length_of self.old.rest ≡ Some n → self.new ≡ self.old }
     {

@@ -26,7 +26,7 @@ use Rattle.zk_machine.proofs.MultiLaws.{parts_of-done}
 use Rattle.zk_transcript.specs.History.{State, Session, IsSound, IsSoundTree, session_at}
 use Rattle.zk_transcript.proofs.SoundEffects.{Leads, single-sound}
 use Rattle.zn_layout.specs.declared.record.CountRec.{CountRec}
-use Rattle.zn_layout.specs.Begin.{no_counts}
+use Rattle.zn_layout.specs.Begin.{first_counts}
 use Rattle.zn_layout.specs.Keys.{CountsKey, key_bytes}
 use Rattle.zn_layout.specs.StandsFor.{counts_record}
 use Rattle.zn_view.specs.declared.leaving.NodeNow.{NodeNow}
@@ -76,7 +76,7 @@ counts_step : (p : Bytes) (a b : Option (Option CountRec)) (c : TreeChange) → 
 counts_step p a b c (inr e) = inr (ap (λ (n : Option (Option CountRec)). counts_with p n c) e)
 counts_step p a b (Created q owner) (inl e) = at (same q p) (is_child p q)
   where
-    at : (t w : Bool) → IsIf (if t then Some (Some no_counts) else (if w then option_map (option_map one_child_more) a else a)) (if t then Some (Some no_counts) else (if w then option_map (option_map one_child_more) b else b))
+    at : (t w : Bool) → IsIf (if t then Some (Some first_counts) else (if w then option_map (option_map one_child_more) a else a)) (if t then Some (Some first_counts) else (if w then option_map (option_map one_child_more) b else b))
     at true w = inr refl
     at false true = inl (ap (option_map (option_map one_child_more)) e)
     at false false = inl e

@@ -20,7 +20,7 @@ use Rattle.ev_types.specs.declared.ask.TxnReq.{TxnReq}
 use Rattle.ev_types.specs.Ranges.{Keys, found}
 use Rattle.ev_types.specs.Reads.{key_range, read_key, one_found}
 use Rattle.ev_types.specs.Store.{Store, Done, revision, present, mod_of, holds, succeeds, chosen, worked, looked_at, txn_answer}
-use Rattle.ev_types.specs.Denials.{is_full, is_denied, carry}
+use Rattle.ev_types.specs.Denials.{is_full_store, is_denied, carry}
 use Rattle.ev_types.proofs.Bounds.{present-put}
 use Rattle.ev_types.proofs.Found.{found-key}
 use Rattle.ev_types.proofs.Transactions.{worked-reads}
@@ -28,7 +28,7 @@ use Rattle.zx_base.specs.Maps.{Bytes}
 use Rattle.zn_layout.specs.Keys.{HeadKey, key_bytes}
 use Rattle.zn_layout.specs.StandsFor.{at}
 use Rattle.zn_layout.specs.Begin.{begin_changes, head_is_absent, begin_ask}
-use Rattle.zn_layout.specs.Updates.{with_head, reads_of, guard_at, guards_at, update_ask, update_txn, IsAsSeen}
+use Rattle.zn_layout.specs.Updates.{with_head_key, reads_of, guard_at, guards_at, update_ask, update_txn, IsAsSeen}
 use Rattle.zn_layout.proofs.Commits.{carried}
 use Rattle.zn_layout.proofs.Denials.{update-plain}
 
@@ -54,8 +54,8 @@ pub failed-looks : (s : Store) (t : TxnReq) (ks : List Bytes) → t.failure ≡ 
 failed-looks s t ks reads allowed failed = carried s t false allowed failed ∙ ap (λ (w : Done). Some (txn_answer s false w)) (ap (worked s) reads ∙ worked-looks s ks)
 
 pub update-looks_again : (s : Store) (seen : Keys) (keys : List Bytes) (acts : List Act) → is_denied s (update_ask seen keys acts) ≡ false → list_all (holds (present s)) (guards_at seen keys) ≡ false →
-    carry s (update_ask seen keys acts) ≡ Some (s, answer.Txn (revision s) false (map (λ k. part.Range (one_found (get (present s) k))) (with_head keys)))
-update-looks_again s seen keys acts allowed failed = failed-looks s (record { guards = guards_at seen keys; success = acts; failure = reads_of keys }) (with_head keys) refl allowed failed
+    carry s (update_ask seen keys acts) ≡ Some (s, answer.Txn (revision s) false (map (λ k. part.Range (one_found (get (present s) k))) (with_head_key keys)))
+update-looks_again s seen keys acts allowed failed = failed-looks s (record { guards = guards_at seen keys; success = acts; failure = reads_of keys }) (with_head_key keys) refl allowed failed
 
 -- ---- guards
 
@@ -84,7 +84,7 @@ unfolding begin_ask
 begin-again s now head there =
     let t : TxnReq = update_txn (head_is_absent ∷ []) (begin_changes now) [] (read_key (key_bytes HeadKey) ∷ []) in
     let failed : succeeds s t ≡ false = head_there_fails s now head there in
-    let nothing : is_full s (worked s (chosen (succeeds s t) t)).changes ≡ false = ap (λ b. is_full s (worked s (chosen b t)).changes) failed ∙ ap (λ (w : Done). is_full s w.changes) (worked-looks s (key_bytes HeadKey ∷ [])) in
+    let nothing : is_full_store s (worked s (chosen (succeeds s t) t)).changes ≡ false = ap (λ b. is_full_store s (worked s (chosen b t)).changes) failed ∙ ap (λ (w : Done). is_full_store s w.changes) (worked-looks s (key_bytes HeadKey ∷ [])) in
     failed-looks s t (key_bytes HeadKey ∷ []) refl
     (update-plain s (head_is_absent ∷ []) (begin_changes now) [] (read_key (key_bytes HeadKey) ∷ []) (omega arith) (omega arith) (omega arith) refl refl refl nothing)
     failed

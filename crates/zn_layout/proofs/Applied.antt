@@ -9,7 +9,7 @@ use Rattle.zx_base.specs.Maps.{Bytes}
 use Rattle.zx_base.proofs.MapLaws.{get-insert_same, get-insert_other, get-remove_same, get-remove_other}
 use Rattle.zn_layout.specs.Keys.{Key, key_bytes, same_key}
 use Rattle.zn_layout.specs.StandsFor.{Stored, stored_of, at}
-use Rattle.zn_layout.specs.Changes.{Put, Change, act_at, act_of, acts_of, or_else, last}
+use Rattle.zn_layout.specs.Changes.{Put, KeyChange, act_at, act_of, acts_of, put_or_else, last}
 use Rattle.zn_layout.specs.Fits.{left}
 use Rattle.zn_layout.proofs.Keys.{same_key-true, same_key-false}
 
@@ -50,36 +50,36 @@ abbrev pub over : ℤ → Option (Option Put) → Option Stored → Option Store
 over z None o = o
 over z (Some w) o = left z w
 
-over_more : (z : ℤ) (l : Option (Option Put)) (b : Bool) (w : Option Put) (o : Option Stored) → over z l (cond b (left z w) o) ≡ over z (or_else l (cond b (Some w) None)) o
+over_more : (z : ℤ) (l : Option (Option Put)) (b : Bool) (w : Option Put) (o : Option Stored) → over z l (cond b (left z w) o) ≡ over z (put_or_else l (cond b (Some w) None)) o
 over_more z None true w o = refl
 over_more z None false w o = refl
 over_more z (Some v) b w o = refl
 
 -- the keys after one change
-abbrev pub one_more : ℤ → Change → Keys → Keys
+abbrev pub one_more : ℤ → KeyChange → Keys → Keys
 one_more z c keys = after_changes z keys (act_changes (act_of c))
 
-stored-one : (z : ℤ) (c : Change) (keys : Keys) (k : Key) → stored_of (at (one_more z c keys) k) ≡ cond (same_key k c.key) (left z c.put) (stored_of (at keys k))
+stored-one : (z : ℤ) (c : KeyChange) (keys : Keys) (k : Key) → stored_of (at (one_more z c keys) k) ≡ cond (same_key k c.key) (left z c.put) (stored_of (at keys k))
 stored-one z c keys k = ap (λ (m : Keys). stored_of (at m k)) (write-is z (key_bytes c.key) c.put keys) ∙ elim (same_key k c.key) as (λ b. same_key k c.key ≡ b → stored_of (at (write z (key_bytes c.key) c.put keys) k) ≡ cond b (left z c.put) (stored_of (at keys k))) [
   | true ↦ λ h. subst (λ (x : Key). stored_of (at (write z (key_bytes c.key) c.put keys) x) ≡ left z c.put) (sym (same_key-true k c.key h)) (write_same z c.put keys (key_bytes c.key))
   | false ↦ λ h. ap stored_of (write_other z c.put keys (key_bytes c.key) (key_bytes k) (same_key-false k c.key h))
 ] refl
 
-pub stored-changes : (z : ℤ) (cs : List Change) (keys : Keys) (k : Key) → stored_of (at (acts_applied z keys (acts_of cs)) k) ≡ over z (last cs k) (stored_of (at keys k))
+pub stored-changes : (z : ℤ) (cs : List KeyChange) (keys : Keys) (k : Key) → stored_of (at (acts_applied z keys (acts_of cs)) k) ≡ over z (last cs k) (stored_of (at keys k))
 stored-changes z [] keys k = refl
 stored-changes z (c ∷ cs) keys k = stored-changes z cs (one_more z c keys) k ∙ ap (over z (last cs k)) (stored-one z c keys k) ∙ over_more z (last cs k) (same_key k c.key) c.put (stored_of (at keys k))
 
 -- ---- a key that isn't written keeps all that it has
 
-unwritten : (l : Option (Option Put)) (b : Bool) (w : Option Put) → or_else l (cond b (Some w) None) ≡ None → (l ≡ None) × (b ≡ false)
+unwritten : (l : Option (Option Put)) (b : Bool) (w : Option Put) → put_or_else l (cond b (Some w) None) ≡ None → (l ≡ None) × (b ≡ false)
 unwritten None true w e = absurd cc
 unwritten None false w e = (refl, refl)
 unwritten (Some v) b w e = absurd cc
 
-at-one : (z : ℤ) (c : Change) (keys : Keys) (k : Key) → same_key k c.key ≡ false → at (one_more z c keys) k ≡ at keys k
+at-one : (z : ℤ) (c : KeyChange) (keys : Keys) (k : Key) → same_key k c.key ≡ false → at (one_more z c keys) k ≡ at keys k
 at-one z c keys k h = ap (λ (m : Keys). at m k) (write-is z (key_bytes c.key) c.put keys) ∙ write_other z c.put keys (key_bytes c.key) (key_bytes k) (same_key-false k c.key h)
 
-pub at-unwritten : (z : ℤ) (cs : List Change) (keys : Keys) (k : Key) → last cs k ≡ None → at (acts_applied z keys (acts_of cs)) k ≡ at keys k
+pub at-unwritten : (z : ℤ) (cs : List KeyChange) (keys : Keys) (k : Key) → last cs k ≡ None → at (acts_applied z keys (acts_of cs)) k ≡ at keys k
 at-unwritten z [] keys k e = refl
 at-unwritten z (c ∷ cs) keys k e =
     let parts = unwritten (last cs k) (same_key k c.key) c.put e in

@@ -15,13 +15,13 @@ use Rattle.ev_types.specs.declared.ask.TxnReq.{TxnReq}
 use Rattle.ev_types.specs.declared.ask.Ask.TheVariants as ask
 use Rattle.ev_types.specs.Ranges.{Keys, found}
 use Rattle.ev_types.specs.Store.{Store, Change as StoreChange, Puts, Done, revision, last_revision, present, put_over, acts_applied, acts_from, worked, grown, succeeds, chosen, then_done, txn_answer, txn_done, carried_out}
-use Rattle.ev_types.specs.Denials.{is_full, is_denied, carry}
+use Rattle.ev_types.specs.Denials.{is_full_store, is_denied, carry}
 use Rattle.zk_model.specs.declared.node.Trigger.{Trigger}
 use Rattle.zn_layout.specs.Keys.{HeadKey, key_bytes}
 use Rattle.zn_layout.specs.Records.{head_value}
 use Rattle.zn_layout.specs.StandsFor.{at}
 use Rattle.ev_types.specs.Reads.{read_key, key_range, one_found}
-use Rattle.zn_layout.specs.Changes.{Change, act_of, acts_of, head_put, update_acts}
+use Rattle.zn_layout.specs.Changes.{KeyChange, act_of, acts_of, head_put, update_acts}
 use Rattle.zn_layout.specs.Commits.{IsCommitted}
 use Rattle.zn_layout.specs.Updates.{update_txn}
 use Rattle.zn_layout.proofs.Denials.{none_of}
@@ -74,48 +74,48 @@ raised : (s : Store) (xs ys : List StoreChange) (c : StoreChange) → revision (
 raised s [] ys c = ap pos (length-append s.revisions _)
 raised s (x ∷ xs) ys c = ap pos (length-append s.revisions _)
 
-had_room : (s : Store) (xs ys : List StoreChange) (c : StoreChange) → is_full s (xs ++ c ∷ ys) ≡ false → int_lt (revision s) last_revision ≡ true
+had_room : (s : Store) (xs ys : List StoreChange) (c : StoreChange) → is_full_store s (xs ++ c ∷ ys) ≡ false → int_lt (revision s) last_revision ≡ true
 had_room s [] ys c h = not-false _ h
 had_room s (x ∷ xs) ys c h = not-false _ h
 
 -- ---- an update's operations
 
 -- what the operations of its changes did, before the head
-abbrev early : Store → List Change → Done
+abbrev early : Store → List KeyChange → Done
 early s cs = acts_from s (revision s +ℤ pos 1) (present s) (acts_of cs)
 
 -- the changes and the head's put, and then the read of the head
-pub split : (s : Store) (cs : List Change) (ts : List Trigger) → worked s (update_acts cs ts) ≡ then_done (acts_from s (revision s +ℤ pos 1) (present s) (acts_of (all_of cs ts))) (record { changes = []; parts = part.Range (found (key_range (key_bytes HeadKey)) (acts_applied (revision s +ℤ pos 1) (present s) (acts_of (all_of cs ts)))) ∷ [] })
+pub split : (s : Store) (cs : List KeyChange) (ts : List Trigger) → worked s (update_acts cs ts) ≡ then_done (acts_from s (revision s +ℤ pos 1) (present s) (acts_of (all_of cs ts))) (record { changes = []; parts = part.Range (found (key_range (key_bytes HeadKey)) (acts_applied (revision s +ℤ pos 1) (present s) (acts_of (all_of cs ts)))) ∷ [] })
 unfolding worked
 split s cs ts = acts_from-append s (revision s +ℤ pos 1) (present s) (acts_of (all_of cs ts)) (read_key (key_bytes HeadKey) ∷ [])
 
-put_last : (s : Store) (cs : List Change) (ts : List Trigger) → (acts_from s (revision s +ℤ pos 1) (present s) (acts_of (all_of cs ts))).changes ≡ (early s cs).changes ++ Puts (key_bytes HeadKey) (head_value ts) (pos 0) ∷ []
+put_last : (s : Store) (cs : List KeyChange) (ts : List Trigger) → (acts_from s (revision s +ℤ pos 1) (present s) (acts_of (all_of cs ts))).changes ≡ (early s cs).changes ++ Puts (key_bytes HeadKey) (head_value ts) (pos 0) ∷ []
 put_last s cs ts =
     ap (λ (l : List Act). (acts_from s (revision s +ℤ pos 1) (present s) l).changes) (map-append act_of cs (head_put ts ∷ []))
     ∙ ap (λ (d : Done). d.changes) (acts_from-append s (revision s +ℤ pos 1) (present s) (acts_of cs) (act_of (head_put ts) ∷ []))
 
-update_changes : (s : Store) (cs : List Change) (ts : List Trigger) → (worked s (update_acts cs ts)).changes ≡ (early s cs).changes ++ Puts (key_bytes HeadKey) (head_value ts) (pos 0) ∷ []
+update_changes : (s : Store) (cs : List KeyChange) (ts : List Trigger) → (worked s (update_acts cs ts)).changes ≡ (early s cs).changes ++ Puts (key_bytes HeadKey) (head_value ts) (pos 0) ∷ []
 update_changes s cs ts = ap (λ (d : Done). d.changes) (split s cs ts) ∙ append-nil _ ∙ put_last s cs ts
 
 -- ---- together
 
 -- where nothing denies it, there is a revision to come
-not_full : (s : Store) (t : TxnReq) → is_denied s (ask.Txn t) ≡ false → is_full s (worked s (chosen (succeeds s t) t)).changes ≡ false
+not_full : (s : Store) (t : TxnReq) → is_denied s (ask.Txn t) ≡ false → is_full_store s (worked s (chosen (succeeds s t) t)).changes ≡ false
 unfolding is_denied
 not_full s t h = (none_of _ _ h).1
 
 next_within : (s : Store) → int_lt (revision s) last_revision ≡ true → (revision s +ℤ pos 1) ≤ℤ last_revision
 next_within s h = let lt : length s.revisions < 4611686018427387903 = ltb-true _ _ h in omega (arith, ints)
 
-pub committed : (s new : Store) (guards : List Guard) (cs : List Change) (ts : List Trigger) (again : List Act) (r : ℤ) (parts : List ActAns) → carry s (ask.Txn (update_txn guards cs ts again)) ≡ Some (new, answer.Txn r true parts) → IsCommitted s cs ts new r parts
+pub committed : (s new : Store) (guards : List Guard) (cs : List KeyChange) (ts : List Trigger) (again : List Act) (r : ℤ) (parts : List ActAns) → carry s (ask.Txn (update_txn guards cs ts again)) ≡ Some (new, answer.Txn r true parts) → IsCommitted s cs ts new r parts
 committed s new guards cs ts again r parts e =
     let t : TxnReq = update_txn guards cs ts again in
     let z : ℤ = revision s +ℤ pos 1 in
     let a = answer-is s new t r true parts e in
     let changes = update_changes s cs ts in
     let at_new : revision new ≡ z = ap revision (a.store ∙ ap (grown s) changes) ∙ raised s (early s cs).changes [] _ in
-    let full : is_full s (worked s (update_acts cs ts)).changes ≡ false = ap (λ b. is_full s (worked s (chosen b t)).changes) (sym a.succeeded) ∙ not_full s t a.allowed in
-    let room : int_lt (revision s) last_revision ≡ true = had_room s (early s cs).changes [] _ (ap (is_full s) (sym changes) ∙ full) in
+    let full : is_full_store s (worked s (update_acts cs ts)).changes ≡ false = ap (λ b. is_full_store s (worked s (chosen b t)).changes) (sym a.succeeded) ∙ not_full s t a.allowed in
+    let room : int_lt (revision s) last_revision ≡ true = had_room s (early s cs).changes [] _ (ap (is_full_store s) (sym changes) ∙ full) in
     let keys : present new ≡ acts_applied z (present s) (update_acts cs ts) = ap present a.store ∙ present-worked s (update_acts cs ts) in
     let mid : Keys = acts_applied z (present s) (acts_of (all_of cs ts)) in
     let same : present new ≡ mid = keys ∙ update_applied z cs ts (present s) in

@@ -27,9 +27,9 @@ use Rattle.zx_base.proofs.Options.{none_some}
 use Rattle.zn_layout.specs.Keys.{Key, HeadKey, DataKey, CountsKey, SessionKey, LeaseKey, key_bytes, front}
 use Rattle.zn_layout.specs.Records.{node_value, counts_value, head_value, IsLongCount, IsNodeRec}
 use Rattle.zn_layout.specs.StandsFor.{Stored, stored_of, at, Means, IsData, IsCounts, DataMeans, CountsMean, NodesMean, LifeMeans, IsHead, AreLayout, StandsFor}
-use Rattle.zn_layout.specs.Begin.{new_record, no_counts, begin_changes, head_is_absent, first_head, begin_parts, begin_ask, begin_lines, Begins}
+use Rattle.zn_layout.specs.Begin.{new_record, first_counts, begin_changes, head_is_absent, first_head, begin_parts, begin_ask, begin_lines, Begins}
 use Rattle.ev_types.specs.Reads.{read_key, one_found}
-use Rattle.zn_layout.specs.Changes.{acts_of, update_acts, or_else, last}
+use Rattle.zn_layout.specs.Changes.{acts_of, update_acts, put_or_else, last}
 use Rattle.zn_layout.specs.Updates.{update_txn}
 use Rattle.zn_layout.specs.Fits.{KeyFits}
 use Rattle.zn_layout.proofs.First.{first_tree, first_state, first_there, first_other, first_childless, after-begin}
@@ -64,7 +64,7 @@ root_bounds now h = record {
 root_data : (now : ℕ) → now < 2 ^ 62 → IsData (record { value = node_value (new_record [] now (pos 0)); revision = pos 2; lease = pos 0 }) (new_node [] (pos 0) (pos 2) now)
 root_data now h = record { stored = pos 0; fits = root_bounds now h; value = refl; made = refl; changed = refl; free = refl }
 
-root_counts : (now : ℕ) → IsCounts (record { value = counts_value no_counts; revision = pos 2; lease = pos 0 }) (new_node [] (pos 0) (pos 2) now) 0
+root_counts : (now : ℕ) → IsCounts (record { value = counts_value first_counts; revision = pos 2; lease = pos 0 }) (new_node [] (pos 0) (pos 2) now) 0
 root_counts now = record {
   fits = record { children = omega (arith, ints); fewer = omega (arith, ints); creates = omega (arith, ints) };
   value = refl;
@@ -96,9 +96,9 @@ data_fits now h p = elim (same p root) as (λ b. same p root ≡ b → KeyFits (
 ] refl
 
 counts_fit : (now : ℕ) (p : Bytes) → KeyFits (pos 2) (last (begin_changes now) (CountsKey p)) (CountsKey p) nothing_yet (first_state now)
-counts_fit now p = elim (same p root) as (λ b. same p root ≡ b → KeyFits (pos 2) (or_else (cond b (Some (Some (record { value = counts_value no_counts; lease = pos 0 }))) None) None) (CountsKey p) nothing_yet (first_state now)) [
-  | true ↦ λ e. subst (λ (o : Option Node). CountsMean o (num_children (first_tree now) p) (Some (record { value = counts_value no_counts; revision = pos 2; lease = pos 0 }))) (sym (ap (get (first_tree now)) (same-true p root e) ∙ first_there now))
-      (subst (λ (k : ℕ). IsCounts (record { value = counts_value no_counts; revision = pos 2; lease = pos 0 }) (new_node [] (pos 0) (pos 2) now) k) (sym (first_childless now p)) (root_counts now))
+counts_fit now p = elim (same p root) as (λ b. same p root ≡ b → KeyFits (pos 2) (put_or_else (cond b (Some (Some (record { value = counts_value first_counts; lease = pos 0 }))) None) None) (CountsKey p) nothing_yet (first_state now)) [
+  | true ↦ λ e. subst (λ (o : Option Node). CountsMean o (num_children (first_tree now) p) (Some (record { value = counts_value first_counts; revision = pos 2; lease = pos 0 }))) (sym (ap (get (first_tree now)) (same-true p root e) ∙ first_there now))
+      (subst (λ (k : ℕ). IsCounts (record { value = counts_value first_counts; revision = pos 2; lease = pos 0 }) (new_node [] (pos 0) (pos 2) now) k) (sym (first_childless now p)) (root_counts now))
   | false ↦ λ e o. no_counted (get empty p) (get (first_tree now) p) _ _ o (get-empty (slice_cmp nat_cmp) p) (first_other now p (apart-from_same p root e))
 ] refl
 

@@ -20,7 +20,7 @@ use Rattle.zn_layout.specs.declared.record.NodeRec.{NodeRec}
 use Rattle.zn_layout.specs.declared.record.CountRec.{CountRec}
 use Rattle.zn_layout.specs.Keys.{HeadKey, DataKey, CountsKey, key_bytes}
 use Rattle.zn_layout.specs.StandsFor.{StandsFor}
-use Rattle.zn_layout.specs.Changes.{Change, put_key}
+use Rattle.zn_layout.specs.Changes.{KeyChange, put_key}
 use Rattle.zn_layout.specs.Updates.{update_txn}
 use Rattle.zn_layout.specs.Records.{node_value, counts_value, head_value}
 
@@ -28,12 +28,12 @@ use Rattle.zn_layout.specs.Records.{node_value, counts_value, head_value}
 abbrev pub new_record : Bytes → ℕ → ℤ → NodeRec
 new_record content now owner = record { czxid = pos 0; version = pos 0; ctime = pos now; mtime = pos now; owner = owner; content = content }
 
-abbrev pub no_counts : CountRec
-no_counts = record { creates = pos 0; children = pos 0 }
+abbrev pub first_counts : CountRec
+first_counts = record { creates = pos 0; children = pos 0 }
 
 -- the root is made at this time, in milliseconds: it has no data and no children
-abbrev pub begin_changes : ℕ → List Change
-begin_changes now = put_key (DataKey root) (node_value (new_record [] now (pos 0))) ∷ put_key (CountsKey root) (counts_value no_counts) ∷ []
+abbrev pub begin_changes : ℕ → List KeyChange
+begin_changes now = put_key (DataKey root) (node_value (new_record [] now (pos 0))) ∷ put_key (CountsKey root) (counts_value first_counts) ∷ []
 
 abbrev pub head_is_absent : Guard
 head_is_absent = record { key = key_bytes HeadKey; mod_revision = pos 0 }

@@ -8,11 +8,11 @@ use Rattle.ev_types.specs.Store.{Store, revision, last_revision, present, acts_a
 use Rattle.zk_model.specs.declared.node.Trigger.{Trigger}
 use Rattle.zn_layout.specs.Keys.{HeadKey}
 use Rattle.zn_layout.specs.StandsFor.{at}
-use Rattle.zn_layout.specs.Changes.{Change, update_acts}
+use Rattle.zn_layout.specs.Changes.{KeyChange, update_acts}
 
 -- the changes are made and the head is put at the store's next revision, which is the zxid, and the last part of the answer
 -- shows the head as it then is
-pub record IsCommitted (old : Store) (cs : List Change) (ts : List Trigger) (new : Store) (zxid : ℤ) (parts : List ActAns) : Type 0 where
+pub record IsCommitted (old : Store) (cs : List KeyChange) (ts : List Trigger) (new : Store) (zxid : ℤ) (parts : List ActAns) : Type 0 where
   pub zxid_is : zxid ≡ revision old +ℤ pos 1
   pub revision_is : revision new ≡ zxid
   pub least : pos 1 ≤ℤ zxid

@@ -4,7 +4,7 @@ use Rattle.zk_model.specs.declared.node.Trigger.{Trigger}
 use Rattle.zk_transcript.specs.History.{State}
 use Rattle.zn_layout.specs.Keys.{Key}
 use Rattle.zn_layout.specs.StandsFor.{Stored, Means}
-use Rattle.zn_layout.specs.Changes.{Put, Change, last}
+use Rattle.zn_layout.specs.Changes.{Put, KeyChange, last}
 
 -- what a change at zxid z leaves under its key
 abbrev pub left : ℤ → Option Put → Option Stored
@@ -18,12 +18,12 @@ KeyFits z None k old new = (o : Option Stored) → Means old k o → Means new k
 KeyFits z (Some w) k old new = Means new k (left z w)
 
 -- at zxid z the changes turn keys that mean the old state into keys that mean the new one. Only the tree and the sessions of
--- the states matter here; what the head means is `IsNext`
-pub record Fits (z : ℤ) (cs : List Change) (old new : State) : Type 0 where
+-- the states matter here; what the head means is `IsNextState`
+pub record ChangesFit (z : ℤ) (cs : List KeyChange) (old new : State) : Type 0 where
   pub each : (k : Key) → KeyFits z (last cs k) k old new
 
 -- the new state has one update more than the old one, with zxid z and these triggers
-pub record IsNext (z : ℤ) (ts : List Trigger) (old new : State) : Type 0 where
+pub record IsNextState (z : ℤ) (ts : List Trigger) (old new : State) : Type 0 where
   pub zxid : new.zxid ≡ z
   pub updates : new.updates ≡ old.updates + 1
   pub triggers : new.triggers ≡ ts

@@ -13,14 +13,14 @@ use Rattle.ev_types.specs.Store.{mod_of}
 use Rattle.zk_model.specs.declared.node.Trigger.{Trigger}
 use Rattle.zx_base.specs.Maps.{Bytes}
 use Rattle.zn_layout.specs.Keys.{HeadKey, key_bytes}
-use Rattle.zn_layout.specs.Changes.{Change, update_acts}
+use Rattle.zn_layout.specs.Changes.{KeyChange, update_acts}
 
 -- the keys that a request looks up, and the head last
-abbrev pub with_head : List Bytes → List Bytes
-with_head keys = keys ++ key_bytes HeadKey ∷ []
+abbrev pub with_head_key : List Bytes → List Bytes
+with_head_key keys = keys ++ key_bytes HeadKey ∷ []
 
 abbrev pub reads_of : List Bytes → List Act
-reads_of keys = map read_key (with_head keys)
+reads_of keys = map read_key (with_head_key keys)
 
 -- the key's last put is the one that was seen; where nothing was seen the key is absent
 abbrev pub guard_at : Keys → Bytes → Guard
@@ -39,5 +39,5 @@ abbrev pub update_ask : Keys → List Bytes → List Act → Ask
 update_ask seen keys acts = ask.Txn (record { guards = guards_at seen keys; success = acts; failure = reads_of keys })
 
 -- guards, an update's operations, and what is read where a guard doesn't hold
-abbrev pub update_txn : List Guard → List Change → List Trigger → List Act → TxnReq
+abbrev pub update_txn : List Guard → List KeyChange → List Trigger → List Act → TxnReq
 update_txn guards cs ts again = record { guards = guards; success = update_acts cs ts; failure = again }

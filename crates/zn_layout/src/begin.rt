@@ -2,7 +2,7 @@
 
 ghost use Rattle.std.specs.Prelude.{◌≡◌, ◌<◌, ◌^◌, pos, [], IfOk};
 ghost use Rattle.zk_model.specs.Paths.{root};
-ghost use Rattle.zn_layout.specs.Begin.{begin_ask as first_ask, begin_changes, new_record, no_counts};
+ghost use Rattle.zn_layout.specs.Begin.{begin_ask as first_ask, begin_changes, new_record, first_counts};
 ghost use Rattle.zn_layout.specs.Changes.{put_key, act_of, update_acts};
 ghost use Rattle.zn_layout.specs.Keys.{DataKey, CountsKey};
 ghost use Rattle.zn_layout.specs.Records.{node_value, counts_value};
@@ -70,7 +70,7 @@ fn put_root(alloc: Global, now: u64) -> Result<Act, Memory>
 }
 
 fn put_no_counts(alloc: Global) -> Result<Act, Memory>
-    ensures { IfOk result (λ a. a ≡ act_of (put_key (CountsKey root) (counts_value no_counts))) }
+    ensures { IfOk result (λ a. a ≡ act_of (put_key (CountsKey root) (counts_value first_counts))) }
 {
     let counts = CountRec {
         creates: 0,

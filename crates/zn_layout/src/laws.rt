@@ -29,14 +29,14 @@ ghost use Rattle.zn_layout.specs.declared.record.CountRec.{CountRec};
 ghost use Rattle.zn_layout.specs.declared.record.LeaseRec.{LeaseRec};
 ghost use Rattle.zn_layout.specs.declared.record.NodeRec.{NodeRec};
 ghost use Rattle.zn_layout.specs.Begin.{begin_ask as first_ask, Begins};
-ghost use Rattle.zn_layout.specs.Changes.{Change, head_put, update_acts, last, are_distinct, have_leases, change_size};
+ghost use Rattle.zn_layout.specs.Changes.{KeyChange, head_put, update_acts, last, are_distinct, have_leases, change_size};
 ghost use Rattle.zn_layout.specs.Commits.{IsCommitted};
-ghost use Rattle.zn_layout.specs.Fits.{Fits, IsNext};
+ghost use Rattle.zn_layout.specs.Fits.{ChangesFit, IsNextState};
 ghost use Rattle.zn_layout.specs.Keys.{Key, DataKey, HeadKey, front, key_bytes};
 ghost use Rattle.zn_layout.specs.Listing.{child_front, children_found, HasValidPaths};
 ghost use Rattle.zn_layout.specs.Records.{node_value, counts_value, session_value, lease_value, head_value, IsNodeRec, IsCountRec, IsSessionRec, IsLeaseRec, IsHeadRec};
 ghost use Rattle.zn_layout.specs.StandsFor.{at, StandsFor};
-ghost use Rattle.zn_layout.specs.Updates.{with_head, guards_at, update_ask, update_txn, IsAsSeen};
+ghost use Rattle.zn_layout.specs.Updates.{with_head_key, guards_at, update_ask, update_txn, IsAsSeen};
 
 /// No two keys have the same bytes.
 pub fn key_bytes_is_injective()
@@ -70,18 +70,18 @@ pub fn head_value_is_injective()
 
 /// Changes that fit one step, followed by changes that fit the next at the same zxid, fit both steps together.
 pub fn fits_append()
-    ensures { (z : ℤ) (cs ds : List Change) (old mid new : State) → Fits z cs old mid → Fits z ds mid new → Fits z (cs ++ ds) old new }
+    ensures { (z : ℤ) (cs ds : List KeyChange) (old mid new : State) → ChangesFit z cs old mid → ChangesFit z ds mid new → ChangesFit z (cs ++ ds) old new }
 {}
 
 /// Whether changes fit depends only on the last change of each key.
 pub fn fits_same()
-    ensures { (z : ℤ) (cs ds : List Change) (old new : State) → ((k : Key) → last ds k ≡ last cs k) → Fits z cs old new → Fits z ds old new }
+    ensures { (z : ℤ) (cs ds : List KeyChange) (old new : State) → ((k : Key) → last ds k ≡ last cs k) → ChangesFit z cs old new → ChangesFit z ds old new }
 {}
 
 /// Where keys stand for a state and the changes of an update fit the step to the next one, the keys stand for the next state
 /// after the update's operations.
 pub fn stands_after()
-    ensures { (z : ℤ) (cs : List Change) (ts : List AnyTrigger) (keys : Keys) (old new : State) → pos 1 ≤ℤ z → z ≤ℤ last_revision → IsHeadRec ts → last cs HeadKey ≡ None → IsNext z ts old new → StandsFor keys old → Fits z cs old new → StandsFor (acts_applied z keys (update_acts cs ts)) new }
+    ensures { (z : ℤ) (cs : List KeyChange) (ts : List AnyTrigger) (keys : Keys) (old new : State) → pos 1 ≤ℤ z → z ≤ℤ last_revision → IsHeadRec ts → last cs HeadKey ≡ None → IsNextState z ts old new → StandsFor keys old → ChangesFit z cs old new → StandsFor (acts_applied z keys (update_acts cs ts)) new }
 {}
 
 /// Where a lease lapses, the keys that are left stand for the state in which the session of that number has lapsed and
@@ -118,20 +118,20 @@ pub fn begin_again_changes_nothing()
 
 /// An update's transaction that succeeds makes the changes at the store's next revision, and answers the head that it put.
 pub fn update_commits()
-    ensures { (old new : Store) (guards : List Guard) (cs : List Change) (ts : List AnyTrigger) (again : List Act) (zxid : ℤ) (parts : List ActAns) → carry old (ask.Txn (update_txn guards cs ts again)) ≡ Some (new, answer.Txn zxid true parts) → IsCommitted old cs ts new zxid parts }
+    ensures { (old new : Store) (guards : List Guard) (cs : List KeyChange) (ts : List AnyTrigger) (again : List Act) (zxid : ℤ) (parts : List ActAns) → carry old (ask.Txn (update_txn guards cs ts again)) ≡ Some (new, answer.Txn zxid true parts) → IsCommitted old cs ts new zxid parts }
 {}
 
 /// An update's transaction isn't denied where its lists are short, each key is written once, each put's lease is there or
 /// 0, and the store has room.
 pub fn update_is_allowed()
-    ensures { (s : Store) (guards : List Guard) (cs : List Change) (ts : List AnyTrigger) (again : List Act) → length guards ≤ max_operations → length cs + 2 ≤ max_operations → length again ≤ max_operations → are_distinct (cs ++ head_put ts ∷ []) ≡ true → have_leases s cs ≡ true → are_present_reads again ≡ true → revision s <ℤ last_revision → is_denied s (ask.Txn (update_txn guards cs ts again)) ≡ false }
+    ensures { (s : Store) (guards : List Guard) (cs : List KeyChange) (ts : List AnyTrigger) (again : List Act) → length guards ≤ max_operations → length cs + 2 ≤ max_operations → length again ≤ max_operations → are_distinct (cs ++ head_put ts ∷ []) ≡ true → have_leases s cs ≡ true → are_present_reads again ≡ true → revision s <ℤ last_revision → is_denied s (ask.Txn (update_txn guards cs ts again)) ≡ false }
 {}
 
 /// The bytes of an update's transaction are those of its guards, its changes, the head that it puts, the head's key that it
 /// then reads, and the keys that it reads where a guard fails. Where they and the lists keep their bounds an etcd takes it.
 pub fn update_is_sendable()
-    ensures size { (guards : List Guard) (cs : List Change) (ts : List AnyTrigger) (again : List Act) → txn_size (update_txn guards cs ts again) ≡ sum_by guard_size guards + sum_by change_size cs + change_size (head_put ts) + length (key_bytes HeadKey) + sum_by act_size again }
-    ensures sendable { (guards : List Guard) (cs : List Change) (ts : List AnyTrigger) (again : List Act) → length guards ≤ max_operations → length cs + 2 ≤ max_operations → length again ≤ max_operations → sum_by guard_size guards + sum_by change_size cs + change_size (head_put ts) + length (key_bytes HeadKey) + sum_by act_size again ≤ max_txn_size → IsSendable (update_txn guards cs ts again) }
+    ensures size { (guards : List Guard) (cs : List KeyChange) (ts : List AnyTrigger) (again : List Act) → txn_size (update_txn guards cs ts again) ≡ sum_by guard_size guards + sum_by change_size cs + change_size (head_put ts) + length (key_bytes HeadKey) + sum_by act_size again }
+    ensures sendable { (guards : List Guard) (cs : List KeyChange) (ts : List AnyTrigger) (again : List Act) → length guards ≤ max_operations → length cs + 2 ≤ max_operations → length again ≤ max_operations → sum_by guard_size guards + sum_by change_size cs + change_size (head_put ts) + length (key_bytes HeadKey) + sum_by act_size again ≤ max_txn_size → IsSendable (update_txn guards cs ts again) }
 {}
 
 /// The guards of an update hold exactly where each key that it looked up was last put at the revision that it saw, or is
@@ -144,7 +144,7 @@ pub fn guards_tell_what_was_seen()
 /// Where a guard fails and the transaction isn't denied, an update changes nothing, and answers what the keys that it looked
 /// up and the head have now.
 pub fn update_looks_again()
-    ensures { (s : Store) (seen : Keys) (keys : List Bytes) (acts : List Act) → is_denied s (update_ask seen keys acts) ≡ false → list_all (holds (present s)) (guards_at seen keys) ≡ false → carry s (update_ask seen keys acts) ≡ Some (s, answer.Txn (revision s) false (map (λ k. part.Range (one_found (get (present s) k))) (with_head keys))) }
+    ensures { (s : Store) (seen : Keys) (keys : List Bytes) (acts : List Act) → is_denied s (update_ask seen keys acts) ≡ false → list_all (holds (present s)) (guards_at seen keys) ≡ false → carry s (update_ask seen keys acts) ≡ Some (s, answer.Txn (revision s) false (map (λ k. part.Range (one_found (get (present s) k))) (with_head_key keys))) }
 {}
 
 /// The range of a node's children finds exactly the data keys of its children, in the order of the paths' bytes, where the

@@ -6,7 +6,7 @@ use Rattle.std.proofs.lemmas.Int.{ints}
 use Rattle.zk_model.specs.Paths.{is_child}
 use Rattle.zx_base.specs.Maps.{Bytes, same}
 use Rattle.zn_layout.specs.declared.record.CountRec.{CountRec}
-use Rattle.zn_layout.specs.Begin.{no_counts}
+use Rattle.zn_layout.specs.Begin.{first_counts}
 use Rattle.zn_view.specs.declared.leaving.NodeNow.{NodeNow}
 use Rattle.zn_view.specs.declared.leaving.TreeChange.{TreeChange}
 use Rattle.zn_view.specs.declared.leaving.TreeChange.TheVariants.{Created, Deleted, DataSet}
@@ -72,7 +72,7 @@ less_within k (Some (Some c)) h = let a = h.creates in let b = h.children in let
 pub counts_within : (p : Bytes) (c : Option (Option CountRec)) (e : TreeChange) (k : ℕ) → AreCountsWithin k c → AreCountsWithin (k + 1) (counts_with p c e)
 counts_within p c (Created q owner) k h = at (same q p) (is_child p q)
   where
-    at : (a b : Bool) → AreCountsWithin (k + 1) (if a then Some (Some no_counts) else (if b then option_map (option_map one_child_more) c else c))
+    at : (a b : Bool) → AreCountsWithin (k + 1) (if a then Some (Some first_counts) else (if b then option_map (option_map one_child_more) c else c))
     at true b = record { creates = omega (arith, ints); children = omega (arith, ints); least = omega (arith, ints) }
     at false true = more_within k c h
     at false false = counts_wider k c h

@@ -14,8 +14,8 @@ use Rattle.zk_model.specs.Single.{Outcome, Refused, Done, single}
 use Rattle.zk_model.specs.Znodes.{Tree}
 use Rattle.zk_transcript.specs.History.{State, Session, IsSound, IsSoundTree, session_at}
 use Rattle.zk_transcript.proofs.SoundEffects.{IsSmallPart, Leads, single-sound}
-use Rattle.zn_layout.specs.Changes.{Change, Put, acts_of, are_distinct, last}
-use Rattle.zn_layout.specs.Fits.{Fits, KeyFits}
+use Rattle.zn_layout.specs.Changes.{KeyChange, Put, acts_of, are_distinct, last}
+use Rattle.zn_layout.specs.Fits.{ChangesFit, KeyFits}
 use Rattle.zn_layout.specs.Keys.{Key, HeadKey, key_bytes}
 use Rattle.zn_layout.specs.StandsFor.{Means}
 use Rattle.zn_layout.proofs.Fits.{fits_append, fits_same}
@@ -59,7 +59,7 @@ use Rattle.zn_multi.proofs.Laid.{kept-all_laid}
 
 -- ---- what the view shows with changes over it
 
-module _ (z : ℤ) (v : View) (ws : List Change) (s new : State) (shown : Shows z v s) (fits : Fits z ws s new) where
+module _ (z : ℤ) (v : View) (ws : List KeyChange) (s new : State) (shown : Shows z v s) (fits : ChangesFit z ws s new) where
   by_last : (k : Key) → (k ≡ HeadKey → ⊥) → (o : Option Kv) (l : Option (Option Put)) → KeyFits z l k s new → first_seen (shown_at k l) (seen v (key_bytes k)) ≡ Some o → Means new k (stored_own z o) × IsPutBelow o
   by_last k apart o None fit e = let was = shown k apart o e in (fit (stored_own z o) was.0, was.1)
   by_last k apart o (Some None) fit e = subst (λ (x : Option Kv). Means new k (stored_own z x) × IsPutBelow x) (same_found (found_of k None) o e) (fit, tt)

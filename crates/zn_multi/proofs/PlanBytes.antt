@@ -24,7 +24,7 @@ use Rattle.zk_model.proofs.ValidPaths.{parent-valid}
 use Rattle.zk_transcript.specs.History.{State, Session, IsSound, session_at}
 use Rattle.zx_base.specs.Maps.{Bytes, same}
 use Rattle.zx_base.proofs.Options.{some_none}
-use Rattle.zn_layout.specs.Changes.{Change, Put, change_size, head_put, last, put_size, update_acts}
+use Rattle.zn_layout.specs.Changes.{KeyChange, Put, change_size, head_put, last, put_size, update_acts}
 use Rattle.zn_layout.specs.Fits.{KeyFits, left}
 use Rattle.zn_layout.specs.Keys.{Key, HeadKey, DataKey, CountsKey, SessionKey, LeaseKey, key_bytes}
 use Rattle.zn_layout.specs.Records.{IsHeadRec}
@@ -186,7 +186,7 @@ module _ (id : ℤ) (v : View) where
 -- ---- the changes that are written
 
 -- a value's bytes: either they count apart from the lists of sessions' nodes, or the value is such a list
-both_sizes : (f : ℕ → ℕ) (c : Change) → ((n : ℕ) → c.key ≡ SessionKey n → put_size c.put ≤ f n) → put_size c.put ≤ plain_size c + of_session f c
+both_sizes : (f : ℕ → ℕ) (c : KeyChange) → ((n : ℕ) → c.key ≡ SessionKey n → put_size c.put ≤ f n) → put_size c.put ≤ plain_size c + of_session f c
 both_sizes f c within = at c.key refl
   where
     at : (k : Key) → c.key ≡ k → put_size c.put ≤ size_beside c.key c.put + at_session f c.key
@@ -196,16 +196,16 @@ both_sizes f c within = at c.key refl
     at (LeaseKey n) e = rw e (omega arith)
     at (SessionKey n) e = let h = within n e in rw e (omega (arith, h))
 
-sizes_sum : (f : ℕ → ℕ) (ws : List Change) → All (λ (c : Change). length (key_bytes c.key) ≤ 1033) ws → ((c : Change) (n : ℕ) → In c ws → c.key ≡ SessionKey n → put_size c.put ≤ f n)
+sizes_sum : (f : ℕ → ℕ) (ws : List KeyChange) → All (λ (c : KeyChange). length (key_bytes c.key) ≤ 1033) ws → ((c : KeyChange) (n : ℕ) → In c ws → c.key ≡ SessionKey n → put_size c.put ≤ f n)
     → sum_by change_size ws ≤ 1033 * length ws + sum_by plain_size ws + sum_by (of_session f) ws
 sizes_sum f [] all within = omega arith
 sizes_sum f (w ∷ ws) all within =
-    let rest = sizes_sum f ws (All-tail (λ (c : Change). length (key_bytes c.key) ≤ 1033) w ws all) (λ c n i e. within c n (inr i) e) in
-    let key = All-head (λ (c : Change). length (key_bytes c.key) ≤ 1033) w ws all in
+    let rest = sizes_sum f ws (All-tail (λ (c : KeyChange). length (key_bytes c.key) ≤ 1033) w ws all) (λ c n i e. within c n (inr i) e) in
+    let key = All-head (λ (c : KeyChange). length (key_bytes c.key) ≤ 1033) w ws all in
     let value = both_sizes f w (λ n e. within w n (inl refl) e) in
     omega (arith, rest, key, value, sum_by-cons change_size w ws, sum_by-cons plain_size w ws, sum_by-cons (of_session f) w ws)
 
-sessions_sum : (f g h : ℕ → ℕ) (ws : List Change) → ((n : ℕ) → f n ≤ g n + h n) → sum_by (of_session f) ws ≤ sum_by (of_session g) ws + sum_by (of_session h) ws
+sessions_sum : (f g h : ℕ → ℕ) (ws : List KeyChange) → ((n : ℕ) → f n ≤ g n + h n) → sum_by (of_session f) ws ≤ sum_by (of_session g) ws + sum_by (of_session h) ws
 sessions_sum f g h [] le = omega arith
 sessions_sum f g h (w ∷ ws) le =
     let rest = sessions_sum f g h ws le in
@@ -233,7 +233,7 @@ module _ (parts : List Part) (who : Who) (v : View) (now : ℕ) (time : now < 2 
   abbrev led : LeadsTo id now v parts [] p s z
   led = st.leads
 
-  abbrev ws : List Change
+  abbrev ws : List KeyChange
   ws = led.changes
 
   -- the most bytes of the list of a session's nodes
@@ -246,12 +246,12 @@ module _ (parts : List Part) (who : Who) (v : View) (now : ℕ) (time : now < 2 
   abbrev most : ℕ → ℕ
   most n = before (pos n) + own_more n
 
-  all_of : (P : Change → Type 0) (us : List Change) (c : Change) → All P us → In c us → P c
+  all_of : (P : KeyChange → Type 0) (us : List KeyChange) (c : KeyChange) → All P us → In c us → P c
   all_of P [] c all bad = absurd bad
   all_of P (u ∷ us) c all (inl e) = subst P e (All-head P u us all)
   all_of P (u ∷ us) c all (inr i) = all_of P us c (All-tail P u us all) i
 
-  touched_at : (c : Change) (n : ℕ) → In c ws → c.key ≡ SessionKey n → In (pos n) p.touched × ((y : Session) × (session_at (pos n) s ≡ Some y))
+  touched_at : (c : KeyChange) (n : ℕ) → In c ws → c.key ≡ SessionKey n → In (pos n) p.touched × ((y : Session) × (session_at (pos n) s ≡ Some y))
   touched_at c n i e =
       let o = (all_of (IsWritten near p.touched) ws c st.written i).nodes n e in
       let known = st.touched o.0 o.1 in
@@ -271,7 +271,7 @@ module _ (parts : List Part) (who : Who) (v : View) (now : ℕ) (time : now < 2 
       let bears = st.bears (pos n) (λ e. omega (arith, ints, least, e)) in
       omega (arith, value, limited, bears)
 
-  session_most : (c : Change) (n : ℕ) → In c ws → c.key ≡ SessionKey n → put_size c.put ≤ most n
+  session_most : (c : KeyChange) (n : ℕ) → In c ws → c.key ≡ SessionKey n → put_size c.put ≤ most n
   session_most c n i e =
       let at = touched_at c n i e in
       let least : pos 1 ≤ℤ pos n = sound.numbered (pos n) at.1.0 at.1.1 in
@@ -301,8 +301,8 @@ module _ (parts : List Part) (who : Who) (v : View) (now : ℕ) (time : now < 2 
       let count = few_changes in
       omega (arith, sizes, plain, sessions, count, low, few)
     where
-      All-short : (us : List Change) → All (IsWritten near p.touched) us → All (λ (c : Change). length (key_bytes c.key) ≤ 1033) us
-      All-short us all = All-weaker (IsWritten near p.touched) (λ (c : Change). length (key_bytes c.key) ≤ 1033) (λ c h. h.short) us all
+      All-short : (us : List KeyChange) → All (IsWritten near p.touched) us → All (λ (c : KeyChange). length (key_bytes c.key) ≤ 1033) us
+      All-short us all = All-weaker (IsWritten near p.touched) (λ (c : KeyChange). length (key_bytes c.key) ≤ 1033) (λ c h. h.short) us all
 
   module _ (ks : List Key) (read : AreRead id v parts ks) (plan : Plan) (guards : plan.guards ≡ guards_of (picked v (read_keys id ks))) (again : plan.again ≡ again_of (picked v (read_keys id ks))) (acts : plan.success ≡ update_acts (written v ws) plan.triggers) (told : plan.triggers ≡ p.triggers) (bounds : IsHeadRec p.triggers)
       (n : ℕ) (loads : n ≡ sum_by (λ (o : ℤ). path_load s.tree o) (distinct p.touched)) (low : sum_by data_len parts + n ≤ max_load) where

@@ -11,7 +11,7 @@ use Rattle.zk_model.specs.declared.request.Request.TheVariants as req
 use Rattle.zk_model.specs.Limits.{max_load, max_parts}
 use Rattle.zk_model.specs.Multi.{data_len, distinct}
 use Rattle.zx_base.specs.Maps.{Bytes}
-use Rattle.zn_layout.specs.Changes.{Change, act_of, acts_of, are_distinct, head_put, update_acts}
+use Rattle.zn_layout.specs.Changes.{KeyChange, act_of, acts_of, are_distinct, head_put, update_acts}
 use Rattle.zn_layout.specs.Keys.{Key, HeadKey, LeaseKey, key_bytes}
 use Rattle.zn_layout.specs.Records.{IsHeadRec}
 use Rattle.zn_view.specs.declared.plan.Plan.{Plan}
@@ -44,7 +44,7 @@ use Rattle.zn_multi.proofs.Written.{acts-written, distinct-head, distinct-writte
 -- ---- what was laid, whatever the view shows
 
 pub record IsLaid (over : View) : Type 0 where
-  pub changes : List Change
+  pub changes : List KeyChange
   pub is : over ≡ laid_view changes
   pub once : are_distinct changes ≡ true
   pub kept : All IsKeptChange changes
@@ -72,7 +72,7 @@ module _ (parts : List Part) (who : Who) (v : View) (now : ℕ) (few : length pa
   pub bounds : IsHeadRec p.triggers
   bounds = run_head who now v parts p run few
 
-  abbrev changes : List Change
+  abbrev changes : List KeyChange
   changes = written v laid.changes
 
   pub acts_are : plan.success ≡ update_acts changes plan.triggers

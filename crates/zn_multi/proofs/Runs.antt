@@ -7,10 +7,10 @@ use Rattle.std.proofs.lemmas.List.{length-append}
 use Rattle.zk_model.specs.declared.node.Trigger.{Trigger}
 use Rattle.zk_model.specs.declared.reply.PartResult.{PartResult}
 use Rattle.zk_model.specs.declared.request.Part.{Part}
-use Rattle.zn_layout.specs.Changes.{Change, Put, act_at, act_of, acts_of}
+use Rattle.zn_layout.specs.Changes.{KeyChange, Put, act_at, act_of, acts_of}
 use Rattle.zn_layout.specs.Keys.{key_bytes}
 use Rattle.zn_view.specs.declared.plan.Who.{Who}
-use Rattle.zn_view.specs.Seen.{View, IsOfKind, kind_of}
+use Rattle.zn_view.specs.Seen.{View, IsOfKind, kind_of_bytes}
 use Rattle.zx_base.specs.Maps.{Bytes}
 use Rattle.zn_updates.specs.declared.chosen.Chosen.TheVariants.{Refused, Made}
 use Rattle.zn_updates.specs.declared.chosen.Update.{Update}
@@ -35,16 +35,16 @@ not_stopped a k code e = cc
 
 -- ---- an update's operations put records
 
-put_record : (k : Bytes) (w : Option Put) → IfSome w (λ (x : Put). IsOfKind (kind_of k) x.value) → PutsRecord (act_at k w)
+put_record : (k : Bytes) (w : Option Put) → IfSome w (λ (x : Put). IsOfKind (kind_of_bytes k) x.value) → PutsRecord (act_at k w)
 put_record k None h = tt
 put_record k (Some w) h = h
 
-kept_records : (cs : List Change) → All IsKeptChange cs → All PutsRecord (acts_of cs)
-kept_records cs all = All-map PutsRecord act_of cs (All-weaker IsKeptChange (λ (c : Change). PutsRecord (act_of c)) (λ c h. put_record (key_bytes c.key) c.put h.written) cs all)
+kept_records : (cs : List KeyChange) → All IsKeptChange cs → All PutsRecord (acts_of cs)
+kept_records cs all = All-map PutsRecord act_of cs (All-weaker IsKeptChange (λ (c : KeyChange). PutsRecord (act_of c)) (λ c h. put_record (key_bytes c.key) c.put h.written) cs all)
 
 -- the changes of an update
 pub record IsUpdate (id : ℤ) (v : View) (p : Part) (u : Update) (c : Choice) : Type 0 where
-  pub changes : List Change
+  pub changes : List KeyChange
   pub told : List Trigger
   pub draft : PartResult
   pub is : c ≡ Make changes told draft

@@ -16,7 +16,7 @@ use Rattle.zk_jute.proofs.Lengths.{length-string_bytes, length-vector_bytes}
 use Rattle.zk_jute.specs.JuteWriting.{string_bytes}
 use Rattle.zk_model.specs.declared.request.Part.{Part}
 use Rattle.zx_base.specs.Maps.{Bytes}
-use Rattle.zn_layout.specs.Changes.{Change, Put, are_distinct, last, or_else, writes_key}
+use Rattle.zn_layout.specs.Changes.{KeyChange, Put, are_distinct, last, put_or_else, writes_key}
 use Rattle.zn_layout.specs.Keys.{Key, HeadKey, DataKey, CountsKey, SessionKey, LeaseKey, same_key}
 use Rattle.zn_layout.specs.Records.{session_value}
 use Rattle.zn_layout.proofs.Keys.{same_key-refl}
@@ -108,15 +108,15 @@ at_session f (DataKey p) = 0
 at_session f (CountsKey p) = 0
 at_session f (LeaseKey n) = 0
 
-abbrev pub of_session : (ℕ → ℕ) → Change → ℕ
+abbrev pub of_session : (ℕ → ℕ) → KeyChange → ℕ
 of_session f c = at_session f c.key
 
 -- the last change of a key is the one that stands there
-pub last-is : (ws : List Change) (c : Change) → are_distinct ws ≡ true → In c ws → last ws c.key ≡ Some c.put
+pub last-is : (ws : List KeyChange) (c : KeyChange) → are_distinct ws ≡ true → In c ws → last ws c.key ≡ Some c.put
 last-is [] c once bad = absurd bad
-last-is (w ∷ ws) c once (inl e) = subst (λ (d : Change). last (w ∷ ws) d.key ≡ Some d.put) e
-    (λ i. or_else (unwritten w.key ws (rest_distinct w ws once).0 i) (cond (same_key-refl w.key i) (Some w.put) None))
-last-is (w ∷ ws) c once (inr i) = ap (λ (o : Option (Option Put)). or_else o (cond (same_key c.key w.key) (Some w.put) None)) (last-is ws c (rest_distinct w ws once).1 i)
+last-is (w ∷ ws) c once (inl e) = subst (λ (d : KeyChange). last (w ∷ ws) d.key ≡ Some d.put) e
+    (λ i. put_or_else (unwritten w.key ws (rest_distinct w ws once).0 i) (cond (same_key-refl w.key i) (Some w.put) None))
+last-is (w ∷ ws) c once (inr i) = ap (λ (o : Option (Option Put)). put_or_else o (cond (same_key c.key w.key) (Some w.put) None)) (last-is ws c (rest_distinct w ws once).1 i)
 
 -- one of several is taken out
 take_out : (f : ℤ → ℕ) (o : ℤ) (os : List ℤ) → In o os → (rest : List ℤ) × (sum_by f os ≡ f o + sum_by f rest) × ((q : ℤ) → In q os → (q ≡ o → ⊥) → In q rest)
@@ -127,27 +127,27 @@ take_out f o (x ∷ xs) (inr i) =
     let sum = rest.1 in
     (x ∷ rest.0, omega (arith, sum, sum_by-cons f x xs, sum_by-cons f x rest.0), λ q j apart. ⊎_elim (λ same. inl same) (λ k. inr (rest.2 q k apart)) j)
 
-writes_other : (n m : ℕ) (k : Key) (ws : List Change) → list_any (writes_key (SessionKey n)) ws ≡ false → (c : Change) → In c ws → c.key ≡ SessionKey m → m ≡ n → ⊥
+writes_other : (n m : ℕ) (k : Key) (ws : List KeyChange) → list_any (writes_key (SessionKey n)) ws ≡ false → (c : KeyChange) → In c ws → c.key ≡ SessionKey m → m ≡ n → ⊥
 writes_other n m k [] h c bad e same = bad
 writes_other n m k (w ∷ ws) h c i e same = ⊎_elim
-    (λ is. true≢false (sym (ap (λ (x : Key). same_key (SessionKey n) x) (ap (λ (d : Change). d.key) is ∙ e ∙ ap SessionKey same) ∙ same_key-refl (SessionKey n)) ∙ (or_parts (writes_key (SessionKey n) w) _ h).0))
+    (λ is. true≢false (sym (ap (λ (x : Key). same_key (SessionKey n) x) (ap (λ (d : KeyChange). d.key) is ∙ e ∙ ap SessionKey same) ∙ same_key-refl (SessionKey n)) ∙ (or_parts (writes_key (SessionKey n) w) _ h).0))
     (λ j. writes_other n m k ws (or_parts (writes_key (SessionKey n) w) _ h).1 c j e same)
     i
 
-pub sessions-within : (f : ℤ → ℕ) (ws : List Change) (os : List ℤ) → are_distinct ws ≡ true → ((c : Change) (n : ℕ) → In c ws → c.key ≡ SessionKey n → In (pos n) os) → sum_by (of_session (λ n. f (pos n))) ws ≤ sum_by f os
+pub sessions-within : (f : ℤ → ℕ) (ws : List KeyChange) (os : List ℤ) → are_distinct ws ≡ true → ((c : KeyChange) (n : ℕ) → In c ws → c.key ≡ SessionKey n → In (pos n) os) → sum_by (of_session (λ n. f (pos n))) ws ≤ sum_by f os
 sessions-within f [] os once inside = omega arith
 sessions-within f (w ∷ ws) os once inside = at (sessions-within f ws) w.key refl
   where
     rest : (list_any (writes_key w.key) ws ≡ false) × (are_distinct ws ≡ true)
     rest = rest_distinct w ws once
 
-    plain : ((ps : List ℤ) → are_distinct ws ≡ true → ((c : Change) (n : ℕ) → In c ws → c.key ≡ SessionKey n → In (pos n) ps) → sum_by (of_session (λ n. f (pos n))) ws ≤ sum_by f ps) → at_session (λ n. f (pos n)) w.key ≡ 0 → sum_by (of_session (λ n. f (pos n))) (w ∷ ws) ≤ sum_by f os
+    plain : ((ps : List ℤ) → are_distinct ws ≡ true → ((c : KeyChange) (n : ℕ) → In c ws → c.key ≡ SessionKey n → In (pos n) ps) → sum_by (of_session (λ n. f (pos n))) ws ≤ sum_by f ps) → at_session (λ n. f (pos n)) w.key ≡ 0 → sum_by (of_session (λ n. f (pos n))) (w ∷ ws) ≤ sum_by f os
     plain within e = let h = within os rest.1 (λ c n i k. inside c n (inr i) k) in omega (arith, h, e, sum_by-cons (of_session (λ n. f (pos n))) w ws)
 
     apart_pos : (m n : ℕ) → pos m ≡ pos n → m ≡ n
     apart_pos m n e = cc
 
-    at : ((ps : List ℤ) → are_distinct ws ≡ true → ((c : Change) (n : ℕ) → In c ws → c.key ≡ SessionKey n → In (pos n) ps) → sum_by (of_session (λ n. f (pos n))) ws ≤ sum_by f ps) → (k : Key) → w.key ≡ k → sum_by (of_session (λ n. f (pos n))) (w ∷ ws) ≤ sum_by f os
+    at : ((ps : List ℤ) → are_distinct ws ≡ true → ((c : KeyChange) (n : ℕ) → In c ws → c.key ≡ SessionKey n → In (pos n) ps) → sum_by (of_session (λ n. f (pos n))) ws ≤ sum_by f ps) → (k : Key) → w.key ≡ k → sum_by (of_session (λ n. f (pos n))) (w ∷ ws) ≤ sum_by f os
     at within HeadKey e = plain within (ap (at_session (λ n. f (pos n))) e)
     at within (DataKey p) e = plain within (ap (at_session (λ n. f (pos n))) e)
     at within (CountsKey p) e = plain within (ap (at_session (λ n. f (pos n))) e)
@@ -160,7 +160,7 @@ sessions-within f (w ∷ ws) os once inside = at (sessions-within f ws) w.key re
         omega (arith, later, sum, here, sum_by-cons (of_session (λ k. f (pos k))) w ws)
 
 -- what counts for one session alone counts once
-none_more : (id : ℤ) (most : ℕ) (n : ℕ) (ws : List Change) → id ≡ pos n → list_any (writes_key (SessionKey n)) ws ≡ false → sum_by (of_session (λ k. if int_eq id (pos k) then most else 0)) ws ≡ 0
+none_more : (id : ℤ) (most : ℕ) (n : ℕ) (ws : List KeyChange) → id ≡ pos n → list_any (writes_key (SessionKey n)) ws ≡ false → sum_by (of_session (λ k. if int_eq id (pos k) then most else 0)) ws ≡ 0
 none_more id most n [] is h = refl
 none_more id most n (w ∷ ws) is h = let rest = none_more id most n ws is (or_parts (writes_key (SessionKey n) w) _ h).1 in let here = zero w.key refl in omega (arith, rest, here, sum_by-cons (of_session (λ k. if int_eq id (pos k) then most else 0)) w ws)
   where
@@ -180,7 +180,7 @@ none_more id most n (w ∷ ws) is h = let rest = none_more id most n ws is (or_p
     zero (LeaseKey m) e = ap (at_session (λ k. if int_eq id (pos k) then most else 0)) e
     zero (SessionKey m) e = ap (at_session (λ k. if int_eq id (pos k) then most else 0)) e ∙ other m e (int_eq id (pos m)) refl
 
-pub once-counted : (id : ℤ) (most : ℕ) (ws : List Change) → are_distinct ws ≡ true → sum_by (of_session (λ k. if int_eq id (pos k) then most else 0)) ws ≤ most
+pub once-counted : (id : ℤ) (most : ℕ) (ws : List KeyChange) → are_distinct ws ≡ true → sum_by (of_session (λ k. if int_eq id (pos k) then most else 0)) ws ≤ most
 once-counted id most [] once = omega arith
 once-counted id most (w ∷ ws) once = at (once-counted id most ws (rest_distinct w ws once).1) w.key refl
   where

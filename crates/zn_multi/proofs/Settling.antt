@@ -20,11 +20,11 @@ use Rattle.zk_model.specs.Limits.{max_load, max_owned}
 use Rattle.zk_model.specs.Multi.{Parts, Several, Stopped as StoppedAt, Passed as PassedAll, Denied, Codes, All as AllDone, data_len, distinct, load, parts_of, row_of, settled, several}
 use Rattle.zk_model.specs.Watches.{no_watches}
 use Rattle.zk_model.specs.Znodes.{Tree, owned}
-use Rattle.zk_transcript.specs.Answers.{limit_in, refusal_of_several, tree_reply}
+use Rattle.zk_transcript.specs.Answers.{owned_limit_in, refusal_of_several, tree_reply}
 use Rattle.zk_transcript.specs.History.{State, Session, IsSound, advanced, commit, commit_several, committed, limit_of, session_at}
 use Rattle.zx_base.specs.Maps.{Bytes}
-use Rattle.zn_layout.specs.Changes.{Change, Put, are_distinct, last, or_else, update_acts}
-use Rattle.zn_layout.specs.Fits.{Fits}
+use Rattle.zn_layout.specs.Changes.{KeyChange, Put, are_distinct, last, put_or_else, update_acts}
+use Rattle.zn_layout.specs.Fits.{ChangesFit}
 use Rattle.zn_layout.specs.Keys.{Key, HeadKey, LeaseKey, SessionKey, key_bytes, same_key}
 use Rattle.zn_layout.specs.Records.{IsHeadRec}
 use Rattle.zn_layout.specs.StandsFor.{StandsFor, at}
@@ -212,24 +212,24 @@ module _ (parts : List Part) (who : Who) (v : View) (now : ℕ) (time : now < 2 
   -- ---- the plan
 
   module _ (p : Progress) (run : Runs who now v no_progress 0 parts (Passed p)) (bounds : IsHeadRec p.triggers) (n : ℕ) (loads : AreOwnedLoads v (distinct p.touched) n) (fits_load : nat_lt max_load (sum_by data_len parts + n) ≡ false)
-      (ws : List Change) (over : p.over ≡ laid_view ws) (once : are_distinct ws ≡ true) (kept : All IsKeptChange ws) (plan : Plan)
+      (ws : List KeyChange) (over : p.over ≡ laid_view ws) (once : are_distinct ws ≡ true) (kept : All IsKeptChange ws) (plan : Plan)
       (guards : plan.guards ≡ guards_of (picked v keys)) (acts : plan.success ≡ update_acts (written v ws) plan.triggers) (draft : plan.draft ≡ reply.Good (body.Parts p.results)) (shown_triggers : plan.triggers ≡ p.triggers) (headless : last (written v ws) HeadKey ≡ None) where
-    last_in : (us : List Change) (k : Key) (w : Option Put) → last us k ≡ Some w → (c : Change) × In c us × (c.key ≡ k) × (c.put ≡ w)
+    last_in : (us : List KeyChange) (k : Key) (w : Option Put) → last us k ≡ Some w → (c : KeyChange) × In c us × (c.key ≡ k) × (c.put ≡ w)
     last_in [] k w e = absurd (cc)
     last_in (u ∷ us) k w e = later (last_in us k w) (last us k) refl e
       where
-        here : (b : Bool) → same_key k u.key ≡ b → (if b then Some u.put else None) ≡ Some w → (c : Change) × In c (u ∷ us) × (c.key ≡ k) × (c.put ≡ w)
+        here : (b : Bool) → same_key k u.key ≡ b → (if b then Some u.put else None) ≡ Some w → (c : KeyChange) × In c (u ∷ us) × (c.key ≡ k) × (c.put ≡ w)
         here true same e = (u, inl refl, sym (same_key-true k u.key same), some_same e)
           where
             some_same : Some u.put ≡ Some w → u.put ≡ w
             some_same f = cc
         here false same e = absurd (cc)
 
-        later : (last us k ≡ Some w → (c : Change) × In c us × (c.key ≡ k) × (c.put ≡ w)) → (o : Option (Option Put)) → last us k ≡ o → or_else o (if same_key k u.key then Some u.put else None) ≡ Some w → (c : Change) × In c (u ∷ us) × (c.key ≡ k) × (c.put ≡ w)
+        later : (last us k ≡ Some w → (c : KeyChange) × In c us × (c.key ≡ k) × (c.put ≡ w)) → (o : Option (Option Put)) → last us k ≡ o → put_or_else o (if same_key k u.key then Some u.put else None) ≡ Some w → (c : KeyChange) × In c (u ∷ us) × (c.key ≡ k) × (c.put ≡ w)
         later with_first None f e = here (same_key k u.key) refl e
         later with_first (Some y) f e = let c = with_first (f ∙ e) in (c.0, inr c.1, c.2, c.3)
 
-    all_of : (P : Change → Type 0) (us : List Change) (c : Change) → All P us → In c us → P c
+    all_of : (P : KeyChange → Type 0) (us : List KeyChange) (c : KeyChange) → All P us → In c us → P c
     all_of P [] c all bad = absurd bad
     all_of P (u ∷ us) c all (inl e) = subst P e (All-head P u us all)
     all_of P (u ∷ us) c all (inr i) = all_of P us c (All-tail P u us all) i
@@ -241,7 +241,7 @@ module _ (parts : List Part) (who : Who) (v : View) (now : ℕ) (time : now < 2 
         let led : LeadsTo id now v parts [] p s z = st.1.leads in
         let w : IsPassed p.touched (parts_of s.tree max_owned id parts z now) = record { results = map (own_result z) p.results; tree = led.tree; triggers = p.triggers; is = passes s z sound shown x opened p run } in
         let done : commit s.tree (limit_at id s) id (req.Multi parts) z now ≡ Some (record { response = body.Parts (map (own_result z) p.results); tree = led.tree; triggers = p.triggers }) =
-        ap (λ (k : ℕ). commit s.tree k id (req.Multi parts) z now) (ap limit_in opened) ∙ commit_is s.tree max_owned id parts z now ∙ ap commit_several (settled_is s z sound shown x opened p run z now n false loads fits_load w) in
+        ap (λ (k : ℕ). commit s.tree k id (req.Multi parts) z now) (ap owned_limit_in opened) ∙ commit_is s.tree max_owned id parts z now ∙ ap commit_several (settled_is s z sound shown x opened p run z now n false loads fits_load w) in
         record {
           is_done = record {
             made = record { response = body.Parts (map (own_result z) p.results); tree = led.tree; triggers = p.triggers };
@@ -249,13 +249,13 @@ module _ (parts : List Part) (who : Who) (v : View) (now : ℕ) (time : now < 2 
             triggers = shown_triggers;
             answers = ap (finished z) draft;
           };
-          fits = subst (Fits z (written v ws) s) (sym (ap (committed s z) done))
-              (subst (λ (us : List Change). Fits z (written v us) s (advanced s z led.tree p.triggers s.sessions)) (laid-injective led.changes ws (sym led.over ∙ over))
+          fits = subst (ChangesFit z (written v ws) s) (sym (ap (committed s z) done))
+              (subst (λ (us : List KeyChange). ChangesFit z (written v us) s (advanced s z led.tree p.triggers s.sessions)) (laid-injective led.changes ws (sym led.over ∙ over))
               (fits_advanced s led.tree z p.triggers (written v led.changes)
               (fits-written v near narrow z led.changes s (with_tree s led.tree) led.once shown (λ k e. gone led.changes k st.1.written led.kept (last_in led.changes k None e)) led.fits)));
         }
       where
-        gone : (us : List Change) (k : Key) → All (IsWritten near p.touched) us → All IsKeptChange us → (c : Change) × In c us × (c.key ≡ k) × (c.put ≡ None) → HasSeen near k × (k ≡ HeadKey → ⊥)
+        gone : (us : List KeyChange) (k : Key) → All (IsWritten near p.touched) us → All IsKeptChange us → (c : KeyChange) × In c us × (c.key ≡ k) × (c.put ≡ None) → HasSeen near k × (k ≡ HeadKey → ⊥)
         gone us k all are_kept (c, i, key_is, put_is) =
             (subst (HasSeen near) key_is ((all_of (IsWritten near p.touched) us c all i).gone put_is), λ e. (all_of IsKeptChange us c are_kept i).apart (key_is ∙ e))
 

@@ -21,7 +21,7 @@ use Rattle.zk_model.specs.Single.{form_refusal, is_ephemeral, single}
 use Rattle.zk_model.specs.Znodes.{Tree}
 use Rattle.zk_transcript.specs.History.{State, Session, IsSound, session_at}
 use Rattle.zk_transcript.proofs.SoundEffects.{Leads}
-use Rattle.zn_layout.specs.Changes.{Change}
+use Rattle.zn_layout.specs.Changes.{KeyChange}
 use Rattle.zn_layout.specs.Keys.{Key, DataKey, SessionKey, key_bytes}
 use Rattle.zn_view.specs.declared.plan.Who.{Who}
 use Rattle.zn_view.specs.declared.leaving.TreeChange.{TreeChange}
@@ -53,25 +53,25 @@ use Rattle.zn_multi.proofs.Walking.{Goes, Walks, single_goes, walks_start}
 
 -- ---- how many are laid, and their bytes
 
-laid-few : (ws : List Change) (c : Change) → length (laid ws c) ≤ length ws + 1
+laid-few : (ws : List KeyChange) (c : KeyChange) → length (laid ws c) ≤ length ws + 1
 laid-few [] c = omega arith
 laid-few (w ∷ ws) c = elim (same (key_bytes w.key) (key_bytes c.key)) as (λ b. length (if b then c ∷ ws else w ∷ laid ws c) ≤ length (w ∷ ws) + 1) [
   | true ↦ omega arith
   | false ↦ let h = laid-few ws c in omega (arith, h)
 ]
 
-all_laid-few : (ws cs : List Change) → length (all_laid ws cs) ≤ length ws + length cs
+all_laid-few : (ws cs : List KeyChange) → length (all_laid ws cs) ≤ length ws + length cs
 all_laid-few ws [] = omega arith
 all_laid-few ws (c ∷ cs) = let rest = all_laid-few (laid ws c) cs in let one = laid-few ws c in omega (arith, rest, one)
 
-laid-light : (f : Change → ℕ) (ws : List Change) (c : Change) → sum_by f (laid ws c) ≤ sum_by f ws + f c
+laid-light : (f : KeyChange → ℕ) (ws : List KeyChange) (c : KeyChange) → sum_by f (laid ws c) ≤ sum_by f ws + f c
 laid-light f [] c = omega (arith, sum_by-cons f c [])
 laid-light f (w ∷ ws) c = elim (same (key_bytes w.key) (key_bytes c.key)) as (λ b. sum_by f (if b then c ∷ ws else w ∷ laid ws c) ≤ sum_by f (w ∷ ws) + f c) [
   | true ↦ omega (arith, sum_by-cons f c ws, sum_by-cons f w ws)
   | false ↦ let h = laid-light f ws c in omega (arith, h, sum_by-cons f w (laid ws c), sum_by-cons f w ws)
 ]
 
-all_laid-light : (f : Change → ℕ) (ws cs : List Change) → sum_by f (all_laid ws cs) ≤ sum_by f ws + sum_by f cs
+all_laid-light : (f : KeyChange → ℕ) (ws cs : List KeyChange) → sum_by f (all_laid ws cs) ≤ sum_by f ws + sum_by f cs
 all_laid-light f ws [] = omega arith
 all_laid-light f ws (c ∷ cs) = let rest = all_laid-light f (laid ws c) cs in let one = laid-light f ws c in omega (arith, rest, one, sum_by-cons f c cs)
 
@@ -83,7 +83,7 @@ content-length (part.Check path x) = refl
 
 -- The key has at most 1,033 bytes. If it is deleted, it was looked up. If it is that of a list of a session's nodes, the session
 -- was touched.
-pub record IsWritten (near : View) (touched : List ℤ) (c : Change) : Type 0 where
+pub record IsWritten (near : View) (touched : List ℤ) (c : KeyChange) : Type 0 where
   pub short : length (key_bytes c.key) ≤ 1033
   pub gone : c.put ≡ None → HasSeen near c.key
   pub nodes : (n : ℕ) → c.key ≡ SessionKey n → (o : ℤ) × In o touched × (n ≡ nat_abs o)
@@ -192,14 +192,14 @@ module _ (who : Who) (now : ℕ) (time : now < 2 ^ 62) (v near : View) (narrow :
       touching (part.SetData path d y) e n bad = absurd bad
       touching (part.Check path y) e n bad = absurd bad
 
-      written_more : (c : Change) → IsWritten near old.touched c → IsWritten near mid.touched c
+      written_more : (c : KeyChange) → IsWritten near old.touched c → IsWritten near mid.touched c
       written_more c w = record {
         short = w.short;
         gone = w.gone;
         nodes = λ n e. let o = w.nodes n e in (o.0, subst (In o.0) (sym touched_is) (in_left o.0 old.touched (touched_by tree id p) o.1), o.2);
       }
 
-      written_now : (c : Change) → IsOwnChange id (layered old.over v) p c → IsWritten near mid.touched c
+      written_now : (c : KeyChange) → IsOwnChange id (layered old.over v) p c → IsWritten near mid.touched c
       written_now c w = record {
         short = w.short;
         gone = λ e. saw c.key (formed_keys id v p (Some m) own next (formed form) c.key (contains_in c.key (part_keys id p) (w.gone e)));

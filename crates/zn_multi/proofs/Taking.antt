@@ -8,7 +8,7 @@ use Rattle.zk_model.specs.declared.request.Part.{Part}
 use Rattle.zk_model.specs.Limits.{max_load, max_parts}
 use Rattle.zk_model.specs.Multi.{data_len, distinct}
 use Rattle.zk_transcript.specs.History.{State, Session, IsSound, session_at}
-use Rattle.zn_layout.specs.Changes.{Change, update_acts}
+use Rattle.zn_layout.specs.Changes.{KeyChange, update_acts}
 use Rattle.zn_layout.specs.Keys.{Key, LeaseKey, key_bytes}
 use Rattle.zn_layout.specs.StandsFor.{at}
 use Rattle.zn_view.specs.declared.plan.Plan.{Plan}
@@ -61,7 +61,7 @@ module _ (parts : List Part) (who : Who) (v : View) (now : ℕ) (time : now < 2 
       let st = ends parts who v now time short real ks read saw s (pos 0) sound shown x.0 x.1 p run in
       let changes = laid parts who v now few p run ks read plan is in
       let same = laid-injective changes.changes st.1.leads.changes (sym changes.is ∙ st.1.leads.over) in
-      let acts : plan.success ≡ update_acts (written v st.1.leads.changes) plan.triggers = acts_are parts who v now few p run ks read plan is ∙ ap (λ (us : List Change). update_acts (written v us) plan.triggers) same in
+      let acts : plan.success ≡ update_acts (written v st.1.leads.changes) plan.triggers = acts_are parts who v now few p run ks read plan is ∙ ap (λ (us : List KeyChange). update_acts (written v us) plan.triggers) same in
       let load = load_is parts who v now time short real ks read saw s (pos 0) sound shown x.0 x.1 p run n loads in
       let counted : n ≡ sum_by (λ (o : ℤ). path_load s.tree o) (distinct p.touched) = omega (arith, load) in
       small-taken plan (writes_once parts who v now few p run ks read plan is)

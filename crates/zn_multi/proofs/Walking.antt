@@ -23,7 +23,7 @@ use Rattle.zk_transcript.proofs.SoundEffects.{Leads}
 use Rattle.zk_transcript.proofs.SoundTrees.{Each, each-gone, each-put}
 use Rattle.zk_machine.proofs.GroupLaws.{owned_by-gone}
 use Rattle.zn_layout.specs.declared.record.CountRec.{CountRec}
-use Rattle.zn_layout.specs.Begin.{no_counts}
+use Rattle.zn_layout.specs.Begin.{first_counts}
 use Rattle.zn_layout.specs.Keys.{CountsKey, key_bytes}
 use Rattle.zn_layout.specs.StandsFor.{counts_record}
 use Rattle.zn_updates.proofs.Deleting.{delete_count_other, delete_count_parent, delete_gone, delete_other, delete_parent, delete_tree}
@@ -150,9 +150,9 @@ module _ (first : Tree) (Known : ℤ → Type 0) (id : ℤ) where
     new_counts : (r : Bytes) → counts_with r (Some (counts_of t r)) (Created p owner) ≡ Some (counts_of grown r)
     new_counts r = ⊎_elim
         (λ (e : r ≡ p). subst (λ (x : Bytes). counts_with x (Some (counts_of t x)) (Created p owner) ≡ Some (counts_of grown x)) (sym e)
-        (ap (λ b. if b then Some (Some no_counts) else (if is_child p p then Some (option_map one_child_more (counts_of t p)) else Some (counts_of t p))) (same-refl p)
+        (ap (λ b. if b then Some (Some first_counts) else (if is_child p p then Some (option_map one_child_more (counts_of t p)) else Some (counts_of t p))) (same-refl p)
         ∙ ap Some (sym (counts_are grown p (Some node) 0 (create_new t p q up (with_child up z) node below there none) (create_count_other t p q up (with_child up z) node below there none p p_not_q ∙ orphan)))))
-        (λ (np : r ≢ p). ap (λ b. if b then Some (Some no_counts) else (if is_child r p then Some (option_map one_child_more (counts_of t r)) else Some (counts_of t r))) (same-false p r (λ e. np (sym e))) ∙ ⊎_elim
+        (λ (np : r ≢ p). ap (λ b. if b then Some (Some first_counts) else (if is_child r p then Some (option_map one_child_more (counts_of t r)) else Some (counts_of t r))) (same-false p r (λ e. np (sym e))) ∙ ⊎_elim
         (λ (e : r ≡ q). subst (λ (x : Bytes). (if is_child x p then Some (option_map one_child_more (counts_of t x)) else Some (counts_of t x)) ≡ Some (counts_of grown x)) (sym e)
         (ap (λ b. if b then Some (option_map one_child_more (counts_of t q)) else Some (counts_of t q)) (is_child-yes p q below)
         ∙ ap (λ (o : Option CountRec). Some (option_map one_child_more o)) (counts_are t q (Some up) (num_children t q) there refl)

@@ -10,8 +10,8 @@ use Rattle.ev_types.specs.declared.answer.Kv.{Kv}
 use Rattle.zk_model.specs.declared.node.Trigger.{Trigger}
 use Rattle.zk_transcript.specs.History.{State, Session}
 use Rattle.zx_base.specs.Maps.{Bytes}
-use Rattle.zn_layout.specs.Changes.{Change, Put, act_of, acts_of, are_distinct, head_put, last, or_else, writes_key}
-use Rattle.zn_layout.specs.Fits.{Fits, KeyFits}
+use Rattle.zn_layout.specs.Changes.{KeyChange, Put, act_of, acts_of, are_distinct, head_put, last, put_or_else, writes_key}
+use Rattle.zn_layout.specs.Fits.{ChangesFit, KeyFits}
 use Rattle.zn_layout.specs.Keys.{Key, HeadKey, DataKey, CountsKey, SessionKey, LeaseKey, key_bytes, same_key}
 use Rattle.zn_layout.specs.StandsFor.{CountsMean, DataMeans, LifeMeans, Means, NodesMean, Stored}
 use Rattle.zn_layout.proofs.Keys.{same_key-true}
@@ -35,7 +35,7 @@ one_written v k (Some w) b e = refl
 one_written v k None true e = ap (λ c. option_to_list (if c then None else Some (act_of (record { key = k; put = None })))) e
 one_written v k None false e = ap (λ c. option_to_list (if c then None else Some (act_of (record { key = k; put = None })))) e
 
-pub acts-written : (v : View) (ws : List Change) → written_acts v (map seen_of ws) ≡ acts_of (written v ws)
+pub acts-written : (v : View) (ws : List KeyChange) → written_acts v (map seen_of ws) ≡ acts_of (written v ws)
 acts-written v [] = refl
 acts-written v (w ∷ ws) =
     (λ i. one_written v w.key w.put (is_absent (seen v (key_bytes w.key))) refl i ++ acts-written v ws i) ∙ at (is_written v w)
@@ -46,7 +46,7 @@ acts-written v (w ∷ ws) =
 
 -- ---- each key once
 
-any-written : (v : View) (k : Key) (ws : List Change) → list_any (writes_key k) ws ≡ false → list_any (writes_key k) (written v ws) ≡ false
+any-written : (v : View) (k : Key) (ws : List KeyChange) → list_any (writes_key k) ws ≡ false → list_any (writes_key k) (written v ws) ≡ false
 any-written v k [] h = refl
 any-written v k (w ∷ ws) h = at (any-written v k ws both.1) (is_written v w)
   where
@@ -61,7 +61,7 @@ any-written v k (w ∷ ws) h = at (any-written v k ws both.1) (is_written v w)
     at later true = λ i. (both.0 i) || later i
     at later false = later
 
-pub distinct-written : (v : View) (ws : List Change) → are_distinct ws ≡ true → are_distinct (written v ws) ≡ true
+pub distinct-written : (v : View) (ws : List KeyChange) → are_distinct ws ≡ true → are_distinct (written v ws) ≡ true
 distinct-written v [] h = refl
 distinct-written v (w ∷ ws) h = at (distinct-written v ws (rest_distinct w ws h).1) (is_written v w)
   where
@@ -69,7 +69,7 @@ distinct-written v (w ∷ ws) h = at (distinct-written v ws (rest_distinct w ws 
     at later true = and_from _ _ (ap not (any-written v w.key ws (rest_distinct w ws h).0)) later
     at later false = later
 
-all-written : (P : Change → Type 0) (v : View) (ws : List Change) → All P ws → All P (written v ws)
+all-written : (P : KeyChange → Type 0) (v : View) (ws : List KeyChange) → All P ws → All P (written v ws)
 all-written P v [] all = All-nil P
 all-written P v (w ∷ ws) all = at (all-written P v ws (All-tail P w ws all)) (is_written v w)
   where
@@ -78,14 +78,14 @@ all-written P v (w ∷ ws) all = at (all-written P v ws (All-tail P w ws all)) (
     at later false = later
 
 -- none is the head's
-not_head : (c : Change) → IsKeptChange c → same_key c.key HeadKey ≡ false
+not_head : (c : KeyChange) → IsKeptChange c → same_key c.key HeadKey ≡ false
 not_head c kept = at (same_key c.key HeadKey) refl
   where
     at : (b : Bool) → same_key c.key HeadKey ≡ b → b ≡ false
     at true e = absurd (kept.apart (same_key-true c.key HeadKey e))
     at false e = refl
 
-any_append : (k : Key) (us : List Change) (ts : List Trigger) → same_key k HeadKey ≡ false → list_any (writes_key k) us ≡ false → list_any (writes_key k) (us ++ head_put ts ∷ []) ≡ false
+any_append : (k : Key) (us : List KeyChange) (ts : List Trigger) → same_key k HeadKey ≡ false → list_any (writes_key k) us ≡ false → list_any (writes_key k) (us ++ head_put ts ∷ []) ≡ false
 any_append k [] ts apart e = ap (λ b. b || false) apart
 any_append k (u ∷ us) ts apart e = at (any_append k us ts apart) (writes_key k u) refl e
   where
@@ -93,17 +93,17 @@ any_append k (u ∷ us) ts apart e = at (any_append k us ts apart) (writes_key k
     at later true is bad = absurd (true≢false bad)
     at later false is rest = λ i. (is i) || later rest i
 
-pub distinct-head : (ws : List Change) (ts : List Trigger) → are_distinct ws ≡ true → All IsKeptChange ws → are_distinct (ws ++ head_put ts ∷ []) ≡ true
+pub distinct-head : (ws : List KeyChange) (ts : List Trigger) → are_distinct ws ≡ true → All IsKeptChange ws → are_distinct (ws ++ head_put ts ∷ []) ≡ true
 distinct-head [] ts h kept = refl
 distinct-head (w ∷ ws) ts h kept =
     let rest = rest_distinct w ws h in
     and_from _ _ (ap not (any_append w.key ws ts (not_head w (All-head IsKeptChange w ws kept)) rest.0)) (distinct-head ws ts rest.1 (All-tail IsKeptChange w ws kept))
 
-pub kept-written : (v : View) (ws : List Change) → All IsKeptChange ws → All IsKeptChange (written v ws)
+pub kept-written : (v : View) (ws : List KeyChange) → All IsKeptChange ws → All IsKeptChange (written v ws)
 kept-written v ws = all-written IsKeptChange v ws
 
 -- none of them is of the head
-head-unwritten : (ws : List Change) → All IsKeptChange ws → list_any (writes_key HeadKey) ws ≡ false
+head-unwritten : (ws : List KeyChange) → All IsKeptChange ws → list_any (writes_key HeadKey) ws ≡ false
 head-unwritten [] all = refl
 head-unwritten (w ∷ ws) all = λ i. apart (same_key HeadKey w.key) refl i || head-unwritten ws (All-tail IsKeptChange w ws all) i
   where
@@ -111,12 +111,12 @@ head-unwritten (w ∷ ws) all = λ i. apart (same_key HeadKey w.key) refl i || h
     apart true e = absurd ((All-head IsKeptChange w ws all).apart (sym (same_key-true HeadKey w.key e)))
     apart false e = refl
 
-pub headless-written : (v : View) (ws : List Change) → All IsKeptChange ws → last (written v ws) HeadKey ≡ None
+pub headless-written : (v : View) (ws : List KeyChange) → All IsKeptChange ws → last (written v ws) HeadKey ≡ None
 headless-written v ws all = unwritten HeadKey (written v ws) (head-unwritten (written v ws) (kept-written v ws all))
 
 -- ---- no more, and no larger
 
-pub few-written : (v : View) (ws : List Change) → length (written v ws) ≤ length ws
+pub few-written : (v : View) (ws : List KeyChange) → length (written v ws) ≤ length ws
 few-written v [] = omega arith
 few-written v (w ∷ ws) = at (few-written v ws) (is_written v w)
   where
@@ -124,7 +124,7 @@ few-written v (w ∷ ws) = at (few-written v ws) (is_written v w)
     at h true = omega (arith, h)
     at h false = omega (arith, h)
 
-pub light-written : (f : Change → ℕ) (v : View) (ws : List Change) → sum_by f (written v ws) ≤ sum_by f ws
+pub light-written : (f : KeyChange → ℕ) (v : View) (ws : List KeyChange) → sum_by f (written v ws) ≤ sum_by f ws
 light-written f v [] = omega arith
 light-written f v (w ∷ ws) = at (light-written f v ws) (is_written v w)
   where
@@ -139,27 +139,27 @@ if_written v k None = None
 if_written v k (Some (Some w)) = Some (Some w)
 if_written v k (Some None) = cond (is_absent (seen v (key_bytes k))) None (Some None)
 
-abbrev at_key : Key → Change → Option (Option Put)
+abbrev at_key : Key → KeyChange → Option (Option Put)
 at_key k c = cond (same_key k c.key) (Some c.put) None
 
-last-written : (v : View) (ws : List Change) (k : Key) → are_distinct ws ≡ true → last (written v ws) k ≡ if_written v k (last ws k)
+last-written : (v : View) (ws : List KeyChange) (k : Key) → are_distinct ws ≡ true → last (written v ws) k ≡ if_written v k (last ws k)
 last-written v [] k h = refl
 last-written v (w ∷ ws) k h = by_key (last-written v ws k (rest_distinct w ws h).1) (same_key k w.key) refl
   where
     rest : (list_any (writes_key w.key) ws ≡ false) × (are_distinct ws ≡ true)
     rest = rest_distinct w ws h
 
-    or_none : (x : Option (Option Put)) → or_else x None ≡ x
+    or_none : (x : Option (Option Put)) → put_or_else x None ≡ x
     or_none None = refl
     or_none (Some y) = refl
 
     -- another key
-    other : last (written v ws) k ≡ if_written v k (last ws k) → same_key k w.key ≡ false → (b : Bool) → last (if b then w ∷ written v ws else written v ws) k ≡ if_written v k (or_else (last ws k) (at_key k w))
+    other : last (written v ws) k ≡ if_written v k (last ws k) → same_key k w.key ≡ false → (b : Bool) → last (if b then w ∷ written v ws else written v ws) k ≡ if_written v k (put_or_else (last ws k) (at_key k w))
     other later e true =
-        ap (λ c. or_else (last (written v ws) k) (cond c (Some w.put) None)) e ∙ or_none _ ∙ later
-        ∙ sym (ap (λ c. if_written v k (or_else (last ws k) (cond c (Some w.put) None))) e ∙ ap (if_written v k) (or_none (last ws k)))
+        ap (λ c. put_or_else (last (written v ws) k) (cond c (Some w.put) None)) e ∙ or_none _ ∙ later
+        ∙ sym (ap (λ c. if_written v k (put_or_else (last ws k) (cond c (Some w.put) None))) e ∙ ap (if_written v k) (or_none (last ws k)))
     other later e false =
-        later ∙ sym (ap (λ c. if_written v k (or_else (last ws k) (cond c (Some w.put) None))) e ∙ ap (if_written v k) (or_none (last ws k)))
+        later ∙ sym (ap (λ c. if_written v k (put_or_else (last ws k) (cond c (Some w.put) None))) e ∙ ap (if_written v k) (or_none (last ws k)))
 
     -- this key, which no later change is of
     gone_after : k ≡ w.key → last ws k ≡ None
@@ -170,17 +170,17 @@ last-written v (w ∷ ws) k h = by_key (last-written v ws k (rest_distinct w ws 
 
     one : (put : Option Put) (a : Bool) → is_absent (seen v (key_bytes k)) ≡ a → last (written v ws) k ≡ None → same_key k w.key ≡ true → w.put ≡ put
         → last (if not (is_gone put && a) then w ∷ written v ws else written v ws) k ≡ if_written v k (Some put)
-    one (Some y) a e none is put_is = (λ i. or_else (none i) (cond (is i) (Some w.put) None)) ∙ ap (λ (p : Option Put). Some p) put_is
+    one (Some y) a e none is put_is = (λ i. put_or_else (none i) (cond (is i) (Some w.put) None)) ∙ ap (λ (p : Option Put). Some p) put_is
     one None true e none is put_is = none ∙ sym (ap (λ b. cond b None (Some None)) e)
-    one None false e none is put_is = (λ i. or_else (none i) (cond (is i) (Some w.put) None)) ∙ ap (λ (p : Option Put). Some p) put_is ∙ sym (ap (λ b. cond b None (Some None)) e)
+    one None false e none is put_is = (λ i. put_or_else (none i) (cond (is i) (Some w.put) None)) ∙ ap (λ (p : Option Put). Some p) put_is ∙ sym (ap (λ b. cond b None (Some None)) e)
 
-    by_key : last (written v ws) k ≡ if_written v k (last ws k) → (b : Bool) → same_key k w.key ≡ b → last (written v (w ∷ ws)) k ≡ if_written v k (or_else (last ws k) (at_key k w))
+    by_key : last (written v ws) k ≡ if_written v k (last ws k) → (b : Bool) → same_key k w.key ≡ b → last (written v (w ∷ ws)) k ≡ if_written v k (put_or_else (last ws k) (at_key k w))
     by_key later false e = other later e (is_written v w)
     by_key later true e =
         let same : k ≡ w.key = same_key-true k w.key e in
         ap (λ (x : Key). last (if not (is_gone w.put && is_absent (seen v (key_bytes x))) then w ∷ written v ws else written v ws) k) (sym same)
         ∙ one w.put (is_absent (seen v (key_bytes k))) refl (gone_written same) e refl
-        ∙ sym (ap (if_written v k) (λ i. or_else (gone_after same i) (cond (e i) (Some w.put) None)))
+        ∙ sym (ap (if_written v k) (λ i. put_or_else (gone_after same i) (cond (e i) (Some w.put) None)))
 
 -- ---- and so they fit the same step
 
@@ -219,7 +219,7 @@ absent_is (Some None) e = refl
 absent_is (Some (Some kv)) e = absurd (true≢false (sym e))
 
 -- if each key that was deleted was looked up in a view that shows the state
-pub fits-written : (v near : View) → IsNarrower near v → (z : ℤ) (ws : List Change) (s new : State) → are_distinct ws ≡ true → Shows z near s → ((k : Key) → last ws k ≡ Some None → HasSeen near k × (k ≡ HeadKey → ⊥)) → Fits z ws s new → Fits z (written v ws) s new
+pub fits-written : (v near : View) → IsNarrower near v → (z : ℤ) (ws : List KeyChange) (s new : State) → are_distinct ws ≡ true → Shows z near s → ((k : Key) → last ws k ≡ Some None → HasSeen near k × (k ≡ HeadKey → ⊥)) → ChangesFit z ws s new → ChangesFit z (written v ws) s new
 fits-written v near narrow z ws s new once shown gone fits = record { each = λ k. subst (λ (l : Option (Option Put)). KeyFits z l k s new) (sym (last-written v ws k once)) (at k (last ws k) refl (fits.each k)) }
   where
     near_same : (k : Key) → HasSeen near k → seen v (key_bytes k) ≡ seen near (key_bytes k)

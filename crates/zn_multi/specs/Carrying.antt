@@ -8,7 +8,7 @@ use Rattle.zk_model.specs.declared.request.Part.{Part}
 use Rattle.zk_model.specs.declared.request.Part.TheVariants as part
 use Rattle.zk_model.specs.Limits.{max_frame}
 use Rattle.zk_model.specs.Single.{is_ephemeral}
-use Rattle.zn_layout.specs.Changes.{Change, acts_of}
+use Rattle.zn_layout.specs.Changes.{KeyChange, acts_of}
 use Rattle.zn_view.specs.declared.plan.Who.{Who}
 use Rattle.zn_view.specs.Seen.{View, empty_view}
 use Rattle.zx_base.specs.Maps.{Bytes}
@@ -52,7 +52,7 @@ IsTouched v id (part.Check path x) o = o ≡ None
 
 -- the part is not refused, and its changes are laid over those of the parts before it
 pub record IsStep (p : Part) (who : Who) (now : ℕ) (v : View) (old new : Progress) : Type 0 where
-  pub changes : List Change
+  pub changes : List KeyChange
   pub told : List Trigger
   pub draft : PartResult
   pub choice : ℕ → Choice

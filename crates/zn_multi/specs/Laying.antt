@@ -6,11 +6,11 @@ use Rattle.ev_types.specs.declared.answer.Kv.{Kv}
 use Rattle.ev_types.specs.declared.ask.Act.{Act}
 use Rattle.ev_types.specs.declared.ask.Act.TheVariants as act
 use Rattle.zx_base.specs.Maps.{Bytes, same}
-use Rattle.zn_layout.specs.Changes.{Change, Put}
+use Rattle.zn_layout.specs.Changes.{KeyChange, Put}
 use Rattle.zn_layout.specs.Keys.{Key, key_bytes}
 use Rattle.zn_view.specs.declared.snapshot.SeenKey.{SeenKey}
 use Rattle.zn_view.specs.Laying.{with_laid}
-use Rattle.zn_view.specs.Seen.{View, empty_view, seen, IsOfKind, kind_of}
+use Rattle.zn_view.specs.Seen.{View, empty_view, seen, IsOfKind, kind_of_bytes}
 
 -- what this update puts under a key. A mod_revision of 0 is that of the update
 abbrev pub put_now : Bytes → Bytes → ℤ → Kv
@@ -29,7 +29,7 @@ with_acts v acts = fold with_act v acts
 
 -- if it is a put, it puts a record of the key's kind
 abbrev pub PutsRecord : Act → Type 0
-PutsRecord (act.Put key value lease) = IsOfKind (kind_of key) value
+PutsRecord (act.Put key value lease) = IsOfKind (kind_of_bytes key) value
 PutsRecord (act.Delete key) = Unit {0}
 PutsRecord (act.Range q) = Unit {0}
 
@@ -61,28 +61,28 @@ abbrev pub found_of : Key → Option Put → Option Kv
 found_of k None = None
 found_of k (Some w) = Some (put_now (key_bytes k) w.value w.lease)
 
-abbrev pub seen_of : Change → SeenKey
+abbrev pub seen_of : KeyChange → SeenKey
 seen_of c = record { key = key_bytes c.key; found = found_of c.key c.put }
 
 -- a view with these changes alone
-abbrev pub laid_view : List Change → View
+abbrev pub laid_view : List KeyChange → View
 laid_view ws = record empty_view { keys = map seen_of ws }
 
 -- a change in place of the one of the same key, or at the end
-abbrev pub laid : List Change → Change → List Change
+abbrev pub laid : List KeyChange → KeyChange → List KeyChange
 laid [] c = c ∷ []
 laid (w ∷ ws) c = if same (key_bytes w.key) (key_bytes c.key) then c ∷ ws else w ∷ laid ws c
 
-abbrev pub all_laid : List Change → List Change → List Change
+abbrev pub all_laid : List KeyChange → List KeyChange → List KeyChange
 all_laid ws cs = fold laid ws cs
 
 abbrev pub is_gone : Option Put → Bool
 is_gone None = true
 is_gone (Some w) = false
 
-abbrev pub is_written : View → Change → Bool
+abbrev pub is_written : View → KeyChange → Bool
 is_written v c = not (is_gone c.put && is_absent (seen v (key_bytes c.key)))
 
 -- the changes that are written: all but those of keys that were absent and are absent again
-abbrev pub written : View → List Change → List Change
+abbrev pub written : View → List KeyChange → List KeyChange
 written v ws = filter (is_written v) ws

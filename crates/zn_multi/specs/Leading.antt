@@ -7,8 +7,8 @@ use Rattle.zk_model.specs.Limits.{max_owned}
 use Rattle.zk_model.specs.Multi.{Parts, Stopped, Passed, parts_of}
 use Rattle.zk_model.specs.Znodes.{Tree}
 use Rattle.zk_transcript.specs.History.{State, IsSound}
-use Rattle.zn_layout.specs.Changes.{Change, are_distinct}
-use Rattle.zn_layout.specs.Fits.{Fits}
+use Rattle.zn_layout.specs.Changes.{KeyChange, are_distinct}
+use Rattle.zn_layout.specs.Fits.{ChangesFit}
 use Rattle.zn_view.specs.Needs.{own_result}
 use Rattle.zn_view.specs.Seen.{View}
 use Rattle.zn_updates.specs.Parts.{IsKeptChange}
@@ -27,8 +27,8 @@ pub record LeadsTo (id : ℤ) (now : ℕ) (v : View) (parts rest : List Part) (p
   pub tree : Tree
   pub runs : parts_of s.tree max_owned id parts z now ≡ with_first (map (own_result z) p.results) p.triggers p.touched (parts_of tree max_owned id rest z now)
   pub sound : IsSound (with_tree s tree)
-  pub changes : List Change
+  pub changes : List KeyChange
   pub over : p.over ≡ laid_view changes
   pub once : are_distinct changes ≡ true
   pub kept : All IsKeptChange changes
-  pub fits : Fits z changes s (with_tree s tree)
+  pub fits : ChangesFit z changes s (with_tree s tree)

@@ -13,28 +13,28 @@ ghost use Rattle.zn_multi.specs.declared.carrying.Carried.{Carried as AnyCarried
 ghost use Rattle.zn_multi.specs.declared.carrying.Carried.TheVariants.{Stopped, Passed};
 ghost use Rattle.zn_multi.specs.declared.carrying.Progress.{Progress as AnyProgress};
 ghost use Rattle.zk_transcript.specs.History.{State};
-ghost use Rattle.zn_layout.specs.Fits.{Fits};
+ghost use Rattle.zn_layout.specs.Fits.{ChangesFit};
 ghost use Rattle.zn_view.specs.Needs.{IsWhole};
 ghost use Rattle.zn_view.specs.Seen.{View as AnyView};
 ghost use Rattle.zk_model.specs.Znodes.{Tree};
 ghost use Rattle.zn_updates.specs.Layers.{Shows, layered};
 ghost use Rattle.zn_updates.specs.Parts.{IsNarrower};
-ghost use Rattle.zn_layout.specs.Changes.{Change, acts_of, are_distinct, last};
+ghost use Rattle.zn_layout.specs.Changes.{KeyChange, acts_of, are_distinct, last};
 ghost use Rattle.zn_layout.specs.Keys.{Key};
 ghost use Rattle.zn_multi.specs.Laying.{all_laid, laid_view, with_acts};
 
 /// Changes that are laid over others, one for each key, leave each key once, with the last change of it; and their operations, laid
 /// over a view of the others alone, give the view of what is left.
 pub fn each_key_is_laid_once()
-    ensures once { (ws cs : List Change) → are_distinct ws ≡ true → are_distinct (all_laid ws cs) ≡ true }
-    ensures last { (ws cs : List Change) (k : Key) → are_distinct ws ≡ true → last (all_laid ws cs) k ≡ last (ws ++ cs) k }
-    ensures laid { (ws cs : List Change) → with_acts (laid_view ws) (acts_of cs) ≡ laid_view (all_laid ws cs) }
+    ensures once { (ws cs : List KeyChange) → are_distinct ws ≡ true → are_distinct (all_laid ws cs) ≡ true }
+    ensures last { (ws cs : List KeyChange) (k : Key) → are_distinct ws ≡ true → last (all_laid ws cs) k ≡ last (ws ++ cs) k }
+    ensures laid { (ws cs : List KeyChange) → with_acts (laid_view ws) (acts_of cs) ≡ laid_view (all_laid ws cs) }
 {}
 
 /// Changes that lead from one state to another and write each key once, laid over a view that shows the first state, show the
 /// second. So a later part is chosen on what the parts before it left.
 pub fn later_parts_see_earlier_ones()
-    ensures { (z : ℤ) (v : AnyView) (ws : List Change) (s new : State) → Shows z v s → Fits z ws s new → are_distinct ws ≡ true → Shows z (layered (laid_view ws) v) new }
+    ensures { (z : ℤ) (v : AnyView) (ws : List KeyChange) (s new : State) → Shows z v s → ChangesFit z ws s new → are_distinct ws ≡ true → Shows z (layered (laid_view ws) v) new }
 {}
 
 /// What the parts come to on a view, they come to in each sound state in which the session is open and of which the view shows what

@@ -3,7 +3,7 @@
 ghost use Rattle.std.specs.Prelude.{◌≡◌, ◌++◌, Some, All, IfOk, OnOk};
 ghost use Rattle.std.specs.Option.{option_to_list};
 ghost use Rattle.zn_view.specs.Laying.{with_laid};
-ghost use Rattle.zn_view.specs.Seen.{seen, IsOfKind, IsSeen, kind_of};
+ghost use Rattle.zn_view.specs.Seen.{seen, IsOfKind, IsSeen, kind_of_bytes};
 ghost use Rattle.zn_multi.specs.Laying.{is_absent, put_now, with_act, with_acts, write_of, written_acts, PutsRecord};
 
 use ev_types::{Act, Kv};
@@ -13,7 +13,7 @@ use zx_base::{Bytes, Memory, Seq};
 
 /// A key as this update puts it. A mod_revision of 0 is that of the update.
 fn put_key(alloc: Global, key: Bytes, value: Bytes, lease: i64) -> Result<SeenKey, Memory>
-    requires { IsOfKind (kind_of key) value }
+    requires { IsOfKind (kind_of_bytes key) value }
     ensures is { IfOk result (λ x. x ≡ record { key = key; found = Some (put_now key value lease) }) }
     ensures kept { IfOk result IsSeen }
 {

@@ -13,7 +13,7 @@ use Rattle.zk_model.specs.Limits.{max_owned}
 use Rattle.zk_model.specs.Watches.{no_watches}
 use Rattle.zk_transcript.specs.Answers.{plain_request, tree_reply}
 use Rattle.zk_transcript.specs.History.{State, IsSound}
-use Rattle.zn_layout.specs.Changes.{Change}
+use Rattle.zn_layout.specs.Changes.{KeyChange}
 use Rattle.zn_layout.specs.Keys.{Key, LeaseKey, key_bytes}
 use Rattle.zn_view.specs.declared.plan.Decision.{Decision}
 use Rattle.zn_view.specs.declared.plan.Plan.{Plan}
@@ -107,7 +107,7 @@ module _ (r : Request) (p : Part) (who : Who) (v : View) (ks : List Key) (choice
         let key = keys.to (want.Key k) reads in
         subst (Contains (map key_bytes ks)) (sym (ap key_in key.2)) (contains-map key_bytes ks key.0 (in_contains key.0 ks key.1))
 
-    module _ (cs : List Change) (ts : List Trigger) (draft : PartResult) (made : choice now ≡ Make cs ts draft) (well : AreWellMade v cs ts) (accounted : All (IsAccounted v ks) cs) where
+    module _ (cs : List KeyChange) (ts : List Trigger) (draft : PartResult) (made : choice now ≡ Make cs ts draft) (well : AreWellMade v cs ts) (accounted : All (IsAccounted v ks) cs) where
       abbrev plan : Plan
       plan = plan_of (on_keys v ks) cs ts draft
 

@@ -16,9 +16,9 @@ use Rattle.zk_model.proofs.Paths.{apart_from_parent}
 use Rattle.zk_transcript.proofs.Children.{create_tree, create_new, create_parent, create_other, create_count_parent, create_count_other, no_orphans}
 use Rattle.zk_transcript.proofs.Owned.{owned-create_other, not_zero}
 use Rattle.zn_layout.specs.declared.record.CountRec.{CountRec}
-use Rattle.zn_layout.specs.Begin.{new_record, no_counts}
-use Rattle.zn_layout.specs.Changes.{Put, last, or_else}
-use Rattle.zn_layout.specs.Fits.{KeyFits, Fits}
+use Rattle.zn_layout.specs.Begin.{new_record, first_counts}
+use Rattle.zn_layout.specs.Changes.{Put, last, put_or_else}
+use Rattle.zn_layout.specs.Fits.{KeyFits, ChangesFit}
 use Rattle.zn_layout.specs.Keys.{Key, HeadKey, DataKey, CountsKey, SessionKey, LeaseKey}
 use Rattle.zn_layout.specs.Records.{node_value, counts_value, session_value, IsLongCount, IsNodeRec, IsCountRec, IsSessionRec}
 use Rattle.zn_layout.specs.StandsFor.{counts_record, IsData, IsCounts, NodesMean}
@@ -48,7 +48,7 @@ new_record-within content now owner time short owned = record {
   content = short;
 }
 
-pub no_counts-within : IsCountRec no_counts
+pub no_counts-within : IsCountRec first_counts
 no_counts-within = record { children = omega (arith, ints); fewer = omega (arith, ints); creates = omega (arith, ints) }
 
 module _ (s : State) (p q content : Bytes) (z : ℤ) (now : ℕ) (up : Node) (above : SeenCounts) (owner : ℤ) (sound : IsSound s)
@@ -100,7 +100,7 @@ module _ (s : State) (p q content : Bytes) (z : ℤ) (now : ℕ) (up : Node) (ab
   no_children : num_children new.tree p ≡ 0
   no_children = count_other p (apart_from_parent p q below_q) ∙ no_orphans s p sound none
 
-  new_counts : IsCounts (record { value = counts_value no_counts; revision = z; lease = pos 0 }) fresh 0
+  new_counts : IsCounts (record { value = counts_value first_counts; revision = z; lease = pos 0 }) fresh 0
   new_counts = record { fits = no_counts-within; value = refl; pzxid = refl; free = refl }
 
   same_counts : one_more above.counts ≡ counts_record more (num_children s.tree q + 1)
@@ -115,15 +115,15 @@ module _ (s : State) (p q content : Bytes) (z : ℤ) (now : ℕ) (up : Node) (ab
   }
 
   abbrev put_none : Option (Option Put)
-  put_none = Some (Some (record { value = counts_value no_counts; lease = pos 0 }))
+  put_none = Some (Some (record { value = counts_value first_counts; lease = pos 0 }))
 
   abbrev put_more : Option (Option Put)
   put_more = Some (Some (record { value = counts_value (one_more above.counts); lease = pos 0 }))
 
-  counts_fit : (r : Bytes) → KeyFits z (or_else (or_else (cond (same r q) put_more None) (cond (same r p) put_none None)) None) (CountsKey r) s new
-  counts_fit r = elim (same r q) as (λ b. same r q ≡ b → KeyFits z (or_else (or_else (cond b put_more None) (cond (same r p) put_none None)) None) (CountsKey r) s new) [
+  counts_fit : (r : Bytes) → KeyFits z (put_or_else (put_or_else (cond (same r q) put_more None) (cond (same r p) put_none None)) None) (CountsKey r) s new
+  counts_fit r = elim (same r q) as (λ b. same r q ≡ b → KeyFits z (put_or_else (put_or_else (cond b put_more None) (cond (same r p) put_none None)) None) (CountsKey r) s new) [
     | true ↦ λ h. counts_along _ (Some more) (get new.tree r) (num_children s.tree q + 1) (num_children new.tree r) (ap (get new.tree) (same-true r q h) ∙ parent_here) (ap (num_children new.tree) (same-true r q h) ∙ count_parent) more_counts
-    | false ↦ λ h. elim (same r p) as (λ b. same r p ≡ b → KeyFits z (or_else (or_else None (cond b put_none None)) None) (CountsKey r) s new) [
+    | false ↦ λ h. elim (same r p) as (λ b. same r p ≡ b → KeyFits z (put_or_else (put_or_else None (cond b put_none None)) None) (CountsKey r) s new) [
       | true ↦ λ g. counts_along _ (Some fresh) (get new.tree r) 0 (num_children new.tree r) (ap (get new.tree) (same-true r p g) ∙ new_here) (ap (num_children new.tree) (same-true r p g) ∙ no_children) new_counts
       | false ↦ λ g o was. counts_along o (get s.tree r) (get new.tree r) (num_children s.tree r) (num_children new.tree r) (other_here r (apart-from_same r p g) (apart-from_same r q h)) (count_other r (apart-from_same r q h)) was
     ] refl
@@ -153,7 +153,7 @@ module _ (s : State) (p q content : Bytes) (z : ℤ) (now : ℕ) (up : Node) (ab
   plain_each free (LeaseKey id) = λ o h. h
 
   -- the create of a node without an owner
-  pub create_fits : owner ≡ pos 0 → Fits z (create_changes p q content now owner above.counts) s new
+  pub create_fits : owner ≡ pos 0 → ChangesFit z (create_changes p q content now owner above.counts) s new
   create_fits free = record { each = plain_each free }
 
   -- the create of a session's node
@@ -177,8 +177,8 @@ module _ (s : State) (p q content : Bytes) (z : ℤ) (now : ℕ) (up : Node) (ab
     owner_key id e = subst (λ (n : ℤ). NodesMean (session_at n s) (owned new.tree n) (Some (record { value = session_value (placed p paths); revision = z; lease = pos 0 }))) (sym e)
         (subst (λ (y : Option Session). NodesMean y (owned new.tree owner) (Some (record { value = session_value (placed p paths); revision = z; lease = pos 0 }))) (sym opened) at_owner)
 
-    nodes_fit : (id : ℕ) → KeyFits z (or_else (or_else (or_else (cond (nat_eq id (nat_abs owner)) put_paths None) None) None) None) (SessionKey id) s new
-    nodes_fit id = elim (nat_eq id (nat_abs owner)) as (λ b. nat_eq id (nat_abs owner) ≡ b → KeyFits z (or_else (or_else (or_else (cond b put_paths None) None) None) None) (SessionKey id) s new) [
+    nodes_fit : (id : ℕ) → KeyFits z (put_or_else (put_or_else (put_or_else (cond (nat_eq id (nat_abs owner)) put_paths None) None) None) None) (SessionKey id) s new
+    nodes_fit id = elim (nat_eq id (nat_abs owner)) as (λ b. nat_eq id (nat_abs owner) ≡ b → KeyFits z (put_or_else (put_or_else (put_or_else (cond b put_paths None) None) None) None) (SessionKey id) s new) [
       | true ↦ λ h. owner_key id (session_is id owner counted h)
       | false ↦ λ h. nodes_stay id (λ y e. session_other id owner h)
     ] refl
@@ -190,5 +190,5 @@ module _ (s : State) (p q content : Bytes) (z : ℤ) (now : ℕ) (up : Node) (ab
     owned_each (SessionKey id) = nodes_fit id
     owned_each (LeaseKey id) = λ o h. h
 
-    pub create_owned_fits : Fits z (create_changes p q content now owner above.counts ++ put_owned owner (placed p paths) ∷ []) s new
+    pub create_owned_fits : ChangesFit z (create_changes p q content now owner above.counts ++ put_owned owner (placed p paths) ∷ []) s new
     create_owned_fits = record { each = owned_each }

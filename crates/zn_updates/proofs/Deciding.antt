@@ -16,10 +16,10 @@ use Rattle.zk_model.specs.Limits.{max_owned}
 use Rattle.zk_model.specs.Single.{Outcome, Refused, single}
 use Rattle.zk_model.specs.Watches.{no_watches}
 use Rattle.zk_model.specs.Znodes.{Tree}
-use Rattle.zk_transcript.specs.Answers.{limit_in, refusal_of, tree_reply}
+use Rattle.zk_transcript.specs.Answers.{owned_limit_in, refusal_of, tree_reply}
 use Rattle.zk_transcript.specs.History.{State, Session, Commit, IsSound, advanced, commit_single, committed, response_of, session_at}
-use Rattle.zn_layout.specs.Changes.{Change, Put, last, update_acts}
-use Rattle.zn_layout.specs.Fits.{Fits, KeyFits}
+use Rattle.zn_layout.specs.Changes.{KeyChange, Put, last, update_acts}
+use Rattle.zn_layout.specs.Fits.{ChangesFit, KeyFits}
 use Rattle.zn_layout.specs.Keys.{Key, HeadKey, DataKey, CountsKey, SessionKey, LeaseKey, key_bytes}
 use Rattle.zn_layout.specs.Records.{IsHeadRec}
 use Rattle.zn_layout.specs.StandsFor.{Stored, stored_of, at, Means, LifeMeans, StandsFor}
@@ -53,7 +53,7 @@ refuse_of (Make cs ts draft) code e = absurd (cc)
 refused_told : (r : Request) (code : ℤ) (o : Outcome) → o ≡ Refused code → IsByTree r (Answered (reply.Refused code) None) (refusal_of no_watches o)
 refused_told r code o e = subst (λ (x : Outcome). IsByTree r (Answered (reply.Refused code) None) (refusal_of no_watches x)) (sym e) (None, refl, λ _. refl, λ _. refl)
 
-done_told : (r : Request) (v : View) (cs : List Change) (ts : List Trigger) (draft : PartResult) (z : ℤ) (s : State) (c : Choice) (o : Outcome) → code_of c ≡ None → IsRight z s c o → IsByTree r (Planned (plan_of v cs ts draft)) (refusal_of no_watches o)
+done_told : (r : Request) (v : View) (cs : List KeyChange) (ts : List Trigger) (draft : PartResult) (z : ℤ) (s : State) (c : Choice) (o : Outcome) → code_of c ≡ None → IsRight z s c o → IsByTree r (Planned (plan_of v cs ts draft)) (refusal_of no_watches o)
 done_told r v cs ts draft z s (Refuse code) o e right = absurd (cc)
 done_told r v cs ts draft z s (Make ds us other) o e right =
     subst (λ (x : Outcome). IsByTree r (Planned (plan_of v cs ts draft)) (refusal_of no_watches x)) (sym right.done) (plan_of v cs ts draft, refl)
@@ -84,7 +84,7 @@ key_fits : (s : State) (t : Tree) (z : ℤ) (ts : List Trigger) (k : Key) (w : O
 key_fits s t z ts k None h = λ o was. same_means s t z ts k o (h o was)
 key_fits s t z ts k (Some w) h = same_means s t z ts k _ h
 
-pub fits_advanced : (s : State) (t : Tree) (z : ℤ) (ts : List Trigger) (cs : List Change) → Fits z cs s (with_tree s t) → Fits z cs s (advanced s z t ts s.sessions)
+pub fits_advanced : (s : State) (t : Tree) (z : ℤ) (ts : List Trigger) (cs : List KeyChange) → ChangesFit z cs s (with_tree s t) → ChangesFit z cs s (advanced s z t ts s.sessions)
 fits_advanced s t z ts cs f = record { each = λ k. key_fits s t z ts k (last cs k) (f.each k) }
 
 finished_result : (z : ℤ) (draft : PartResult) → finished z (reply.Good (response_of draft)) ≡ reply.Good (response_of (own_result z draft))
@@ -101,7 +101,7 @@ living id None (Some y) kv e h = absurd h
 living id (Some x) k kv e h = (x, refl)
 
 module _ (r : Request) (p : Part) (who : Who) (v : View) (choice : ℕ → Choice) (now : ℕ) (part : IsPart r p) (chosen : IsChosen p who v choice) (time : now < 2 ^ 62)
-    (cs : List Change) (ts : List Trigger) (draft : PartResult) (is : choice now ≡ Make cs ts draft) (bounds : IsHeadRec ts) (real : pos 1 ≤ℤ who.session) (attached : IsAttached who v) where
+    (cs : List KeyChange) (ts : List Trigger) (draft : PartResult) (is : choice now ≡ Make cs ts draft) (bounds : IsHeadRec ts) (real : pos 1 ≤ℤ who.session) (attached : IsAttached who v) where
   abbrev plan : Plan
   plan = plan_of v cs ts draft
 
@@ -121,7 +121,7 @@ module _ (r : Request) (p : Part) (who : Who) (v : View) (choice : ℕ → Choic
         life_not_head n e = cc
 
     limit : limit_at who.session s ≡ max_owned
-    limit = ap limit_in opened.1
+    limit = ap owned_limit_in opened.1
 
     made : IsOutcome z s cs ts draft (single s.tree max_owned who.session p z now)
     made = subst (λ (c : Choice). IsRight z s c (single s.tree max_owned who.session p z now)) is (chosen.right s z now time sound (shows z v m s stands tells) opened.0 opened.1)

@@ -13,8 +13,8 @@ use Rattle.zk_model.specs.Znodes.{num_children, owned}
 use Rattle.zk_transcript.specs.History.{State, Session, IsSound, session_at}
 use Rattle.zk_transcript.proofs.Owned.{not_zero}
 use Rattle.zn_layout.specs.declared.record.CountRec.{CountRec}
-use Rattle.zn_layout.specs.Changes.{Put, last, or_else}
-use Rattle.zn_layout.specs.Fits.{KeyFits, Fits}
+use Rattle.zn_layout.specs.Changes.{Put, last, put_or_else}
+use Rattle.zn_layout.specs.Fits.{KeyFits, ChangesFit}
 use Rattle.zn_layout.specs.Keys.{Key, HeadKey, DataKey, CountsKey, SessionKey, LeaseKey}
 use Rattle.zn_layout.specs.Records.{counts_value, session_value, IsCountRec, IsSessionRec}
 use Rattle.zn_layout.specs.StandsFor.{counts_record, IsCounts, NodesMean}
@@ -83,10 +83,10 @@ module _ (s : State) (p q : Bytes) (z : ℤ) (up node : Node) (above : SeenCount
     free = refl;
   }
 
-  counts_fit : (r : Bytes) → KeyFits z (or_else (or_else (cond (same r q) put_less None) (cond (same r p) (Some None) None)) None) (CountsKey r) s new
-  counts_fit r = elim (same r q) as (λ b. same r q ≡ b → KeyFits z (or_else (or_else (cond b put_less None) (cond (same r p) (Some None) None)) None) (CountsKey r) s new) [
+  counts_fit : (r : Bytes) → KeyFits z (put_or_else (put_or_else (cond (same r q) put_less None) (cond (same r p) (Some None) None)) None) (CountsKey r) s new
+  counts_fit r = elim (same r q) as (λ b. same r q ≡ b → KeyFits z (put_or_else (put_or_else (cond b put_less None) (cond (same r p) (Some None) None)) None) (CountsKey r) s new) [
     | true ↦ λ h. counts_along _ (Some less) (get new.tree r) (num_children s.tree q - 1) (num_children new.tree r) (ap (get new.tree) (same-true r q h) ∙ parent_here) (ap (num_children new.tree) (same-true r q h) ∙ count_parent) less_counts
-    | false ↦ λ h. elim (same r p) as (λ b. same r p ≡ b → KeyFits z (or_else (or_else None (cond b (Some None) None)) None) (CountsKey r) s new) [
+    | false ↦ λ h. elim (same r p) as (λ b. same r p ≡ b → KeyFits z (put_or_else (put_or_else None (cond b (Some None) None)) None) (CountsKey r) s new) [
       | true ↦ λ g. counts_along None None (get new.tree r) (num_children new.tree r) (num_children new.tree r) (ap (get new.tree) (same-true r p g) ∙ gone_here) refl tt
       | false ↦ λ g o was. counts_along o (get s.tree r) (get new.tree r) (num_children s.tree r) (num_children new.tree r) (other_here r (apart-from_same r p g) (apart-from_same r q h)) (count_other r (apart-from_same r q h)) was
     ] refl
@@ -116,7 +116,7 @@ module _ (s : State) (p q : Bytes) (z : ℤ) (up node : Node) (above : SeenCount
   plain_each free (LeaseKey id) = λ o h. h
 
   -- the delete of a node without an owner
-  pub delete_fits : node.owner ≡ pos 0 → Fits z (delete_changes p q above.counts) s new
+  pub delete_fits : node.owner ≡ pos 0 → ChangesFit z (delete_changes p q above.counts) s new
   delete_fits free = record { each = plain_each free }
 
   -- the delete of a session's node
@@ -140,8 +140,8 @@ module _ (s : State) (p q : Bytes) (z : ℤ) (up node : Node) (above : SeenCount
     owner_key id e = subst (λ (n : ℤ). NodesMean (session_at n s) (owned new.tree n) (Some (record { value = session_value (without p paths); revision = z; lease = pos 0 }))) (sym e)
         (subst (λ (y : Option Session). NodesMean y (owned new.tree node.owner) (Some (record { value = session_value (without p paths); revision = z; lease = pos 0 }))) (sym opened) at_owner)
 
-    nodes_fit : (id : ℕ) → KeyFits z (or_else (or_else (or_else (cond (nat_eq id (nat_abs node.owner)) put_paths None) None) None) None) (SessionKey id) s new
-    nodes_fit id = elim (nat_eq id (nat_abs node.owner)) as (λ b. nat_eq id (nat_abs node.owner) ≡ b → KeyFits z (or_else (or_else (or_else (cond b put_paths None) None) None) None) (SessionKey id) s new) [
+    nodes_fit : (id : ℕ) → KeyFits z (put_or_else (put_or_else (put_or_else (cond (nat_eq id (nat_abs node.owner)) put_paths None) None) None) None) (SessionKey id) s new
+    nodes_fit id = elim (nat_eq id (nat_abs node.owner)) as (λ b. nat_eq id (nat_abs node.owner) ≡ b → KeyFits z (put_or_else (put_or_else (put_or_else (cond b put_paths None) None) None) None) (SessionKey id) s new) [
       | true ↦ λ h. owner_key id (session_is id node.owner counted h)
       | false ↦ λ h. nodes_stay id (λ y e. session_other id node.owner h)
     ] refl
@@ -153,5 +153,5 @@ module _ (s : State) (p q : Bytes) (z : ℤ) (up node : Node) (above : SeenCount
     owned_each (SessionKey id) = nodes_fit id
     owned_each (LeaseKey id) = λ o h. h
 
-    pub delete_owned_fits : Fits z (delete_changes p q above.counts ++ put_owned node.owner (without p paths) ∷ []) s new
+    pub delete_owned_fits : ChangesFit z (delete_changes p q above.counts ++ put_owned node.owner (without p paths) ∷ []) s new
     delete_owned_fits = record { each = owned_each }

@@ -9,8 +9,8 @@ use Rattle.zk_model.specs.Limits.{max_creates, max_owned, max_version}
 use Rattle.zk_model.specs.Single.{matches}
 use Rattle.zx_base.specs.Maps.{Bytes}
 use Rattle.zn_layout.specs.declared.record.CountRec.{CountRec}
-use Rattle.zn_layout.specs.Begin.{new_record, no_counts}
-use Rattle.zn_layout.specs.Changes.{Change, delete_key, put_key}
+use Rattle.zn_layout.specs.Begin.{new_record, first_counts}
+use Rattle.zn_layout.specs.Changes.{KeyChange, delete_key, put_key}
 use Rattle.zn_layout.specs.Keys.{CountsKey, DataKey, Key, SessionKey}
 use Rattle.zn_layout.specs.Records.{counts_value, node_value}
 use Rattle.zn_view.specs.Lookups.{HasSeen, sees}
@@ -27,14 +27,14 @@ use Rattle.zn_updates.specs.OwnedLists.{placed, without}
 use Rattle.zn_updates.specs.Parts.{IfChanges}
 use Rattle.zn_updates.proofs.WellMade.{changes_cond}
 
-abbrev AreAll : View → List Key → List Change → List Trigger → Type 0
+abbrev AreAll : View → List Key → List KeyChange → List Trigger → Type 0
 AreAll v ks cs ts = All (IsAccounted v ks) cs
 
 -- each change of a choice is a deletion, or of one of these keys, or puts the counts of a node that was absent
 abbrev pub AreAccounted : View → List Key → Choice → Type 0
 AreAccounted v ks c = IfChanges (AreAll v ks) c
 
-one : (v : View) (ks : List Key) (c : Change) → IsAccounted v ks c → All (IsAccounted v ks) (c ∷ [])
+one : (v : View) (ks : List Key) (c : KeyChange) → IsAccounted v ks c → All (IsAccounted v ks) (c ∷ [])
 one v ks c h = All-cons (IsAccounted v ks) c [] h (All-nil (IsAccounted v ks))
 
 -- ---- setData
@@ -54,7 +54,7 @@ module _ (v : View) (p q : Bytes) (session : ℤ) where
     abbrev keys : List Key
     keys = delete_keys p (Some q) session x.owner
 
-    deleted-new : (above : CountRec) (more : List Change) → All (IsAccounted v keys) more → All (IsAccounted v keys) (delete_changes p q above ++ more)
+    deleted-new : (above : CountRec) (more : List KeyChange) → All (IsAccounted v keys) more → All (IsAccounted v keys) (delete_changes p q above ++ more)
     deleted-new above more h =
         let put = put_key (CountsKey q) (counts_value (one_less above)) in
         All-cons (IsAccounted v keys) (delete_key (DataKey p)) (delete_key (CountsKey p) ∷ put ∷ more) (inl refl)
@@ -86,10 +86,10 @@ absent (Some None) some e = refl
 absent (Some (Some kv)) some e = let f : true ≡ false = e in absurd (cc)
 
 module _ (v : View) (p q content : Bytes) (now : ℕ) (ephemeral : Bool) (session : ℤ) (ks : List Key) (above-in : In (CountsKey q) ks) (own-in : ephemeral ≡ true → In (SessionKey (nat_abs session)) ks) where
-  created-new : (owner : ℤ) (above : CountRec) (more : List Change) → In (DataKey p) ks → sees v (DataKey p) ≡ Some None → All (IsAccounted v ks) more → All (IsAccounted v ks) (create_changes p q content now owner above ++ more)
+  created-new : (owner : ℤ) (above : CountRec) (more : List KeyChange) → In (DataKey p) ks → sees v (DataKey p) ≡ Some None → All (IsAccounted v ks) more → All (IsAccounted v ks) (create_changes p q content now owner above ++ more)
   created-new owner above more inside none h =
       let data_put = put_key (DataKey p) (node_value (new_record content now owner)) in
-      let counts_put = put_key (CountsKey p) (counts_value no_counts) in
+      let counts_put = put_key (CountsKey p) (counts_value first_counts) in
       let above_put = put_key (CountsKey q) (counts_value (one_more above)) in
       All-cons (IsAccounted v ks) data_put (counts_put ∷ above_put ∷ more) (inr (inl inside))
       (All-cons (IsAccounted v ks) counts_put (above_put ∷ more) (inr (inr (p, refl, inside, none))) (All-cons (IsAccounted v ks) above_put more (inr (inl above-in)) h))

@@ -15,7 +15,7 @@ use Rattle.zk_model.specs.PathFaults.{is_valid}
 use Rattle.zk_model.specs.Paths.{is_path, parent, root}
 use Rattle.zk_model.specs.Single.{Refused, Done, check, effect, form_refusal, is_ephemeral, is_sequential, matches, named, path_refusal, single, unless_refused}
 use Rattle.zk_transcript.specs.History.{State}
-use Rattle.zn_layout.specs.Fits.{Fits}
+use Rattle.zn_layout.specs.Fits.{ChangesFit}
 use Rattle.zn_layout.specs.Keys.{Key, HeadKey, DataKey, CountsKey, SessionKey, LeaseKey, key_bytes}
 use Rattle.zn_layout.specs.Records.{IsLongCount}
 use Rattle.zn_view.specs.declared.plan.Who.{Who}
@@ -167,7 +167,7 @@ same_means s (CountsKey p) o h = h
 same_means s (SessionKey id) o h = h
 same_means s (LeaseKey id) o h = h
 
-unchanged : (z : ℤ) (s : State) → Fits z [] s (with_tree s s.tree)
+unchanged : (z : ℤ) (s : State) → ChangesFit z [] s (with_tree s s.tree)
 unchanged z s = record { each = λ k o h. same_means s k o h }
 
 check_right : (z : ℤ) (s : State) (version : ℤ) (x : Option SeenData) (n : Option Node) → ShowsData z x n → IsRight z s (check_choice version x) (check s.tree version n)

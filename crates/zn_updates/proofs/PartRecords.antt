@@ -10,8 +10,8 @@ use Rattle.zk_model.specs.Limits.{max_creates, max_frame, max_owned, max_version
 use Rattle.zk_model.specs.Paths.{is_path}
 use Rattle.zk_model.specs.Single.{matches}
 use Rattle.zn_layout.specs.declared.record.CountRec.{CountRec}
-use Rattle.zn_layout.specs.Begin.{new_record, no_counts}
-use Rattle.zn_layout.specs.Changes.{Change, delete_key, put_key}
+use Rattle.zn_layout.specs.Begin.{new_record, first_counts}
+use Rattle.zn_layout.specs.Changes.{KeyChange, delete_key, put_key}
 use Rattle.zn_layout.specs.Keys.{Key, HeadKey, DataKey, CountsKey, SessionKey}
 use Rattle.zn_layout.specs.Records.{counts_value, node_value, session_value, IsCountRec, IsLongCount, IsSessionRec}
 use Rattle.zn_view.specs.declared.kind.Kind.{Kind}
@@ -51,7 +51,7 @@ kept_nodes id ps within = of_kind (SessionKey (nat_abs id)) (session_value ps) (
 kept_gone : (k : Key) → (k ≡ HeadKey → ⊥) → IsKeptChange (delete_key k)
 kept_gone k apart = record { apart = apart; leaseless = tt; written = tt }
 
-one_kept : (c : Change) → IsKeptChange c → All IsKeptChange (c ∷ [])
+one_kept : (c : KeyChange) → IsKeptChange c → All IsKeptChange (c ∷ [])
 one_kept c h = All-cons IsKeptChange c [] h (All-nil IsKeptChange)
 
 -- ---- setData
@@ -72,7 +72,7 @@ module _ (p content : Bytes) (now : ℕ) (valid : IsTrue (is_path p)) (time : no
 -- ---- delete
 
 module _ (p q : Bytes) (valid : IsTrue (is_path p)) (also : IsTrue (is_path q)) where
-  deleted_kept : (above : CountRec) (more : List Change) → IsCountRec above → All IsKeptChange more → All IsKeptChange (delete_changes p q above ++ more)
+  deleted_kept : (above : CountRec) (more : List KeyChange) → IsCountRec above → All IsKeptChange more → All IsKeptChange (delete_changes p q above ++ more)
   deleted_kept above more within rest =
       All-cons IsKeptChange (delete_key (DataKey p)) (delete_key (CountsKey p) ∷ put_key (CountsKey q) (counts_value (one_less above)) ∷ more) (kept_gone (DataKey p) (data_apart p))
       (All-cons IsKeptChange (delete_key (CountsKey p)) (put_key (CountsKey q) (counts_value (one_less above)) ∷ more) (kept_gone (CountsKey p) (counts_apart p))
@@ -99,11 +99,11 @@ module _ (p q : Bytes) (valid : IsTrue (is_path p)) (also : IsTrue (is_path q)) 
   -- ---- create
 
   module _ (content : Bytes) (short : length content ≤ max_frame) (now : ℕ) (time : now < 2 ^ 62) where
-    created_kept : (owner : ℤ) (above : CountRec) (more : List Change) → IsLongCount owner → IsCountRec above → int_eq above.creates max_creates ≡ false → All IsKeptChange more → All IsKeptChange (create_changes p q content now owner above ++ more)
+    created_kept : (owner : ℤ) (above : CountRec) (more : List KeyChange) → IsLongCount owner → IsCountRec above → int_eq above.creates max_creates ≡ false → All IsKeptChange more → All IsKeptChange (create_changes p q content now owner above ++ more)
     created_kept owner above more long within room rest =
-        All-cons IsKeptChange (put_key (DataKey p) (node_value (new_record content now owner))) (put_key (CountsKey p) (counts_value no_counts) ∷ put_key (CountsKey q) (counts_value (one_more above)) ∷ more)
+        All-cons IsKeptChange (put_key (DataKey p) (node_value (new_record content now owner))) (put_key (CountsKey p) (counts_value first_counts) ∷ put_key (CountsKey q) (counts_value (one_more above)) ∷ more)
         (of_kind (DataKey p) (node_value (new_record content now owner)) (new_record content now owner, (new_record-within content now owner time short long, refl)) (data_apart p))
-        (All-cons IsKeptChange (put_key (CountsKey p) (counts_value no_counts)) (put_key (CountsKey q) (counts_value (one_more above)) ∷ more) (kept_counts p no_counts no_counts-within)
+        (All-cons IsKeptChange (put_key (CountsKey p) (counts_value first_counts)) (put_key (CountsKey q) (counts_value (one_more above)) ∷ more) (kept_counts p first_counts no_counts-within)
         (All-cons IsKeptChange (put_key (CountsKey q) (counts_value (one_more above))) more (kept_counts q (one_more above) (one_more-within above within room)) rest))
 
     module _ (session : ℤ) (long : IsLongCount session) where

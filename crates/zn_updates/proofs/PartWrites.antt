@@ -12,8 +12,8 @@ use Rattle.zk_model.specs.Limits.{max_creates, max_owned, max_version}
 use Rattle.zk_model.specs.Paths.{is_path}
 use Rattle.zk_model.specs.Single.{matches}
 use Rattle.zn_layout.specs.declared.record.CountRec.{CountRec}
-use Rattle.zn_layout.specs.Begin.{new_record, no_counts}
-use Rattle.zn_layout.specs.Changes.{Change, delete_key, put_key}
+use Rattle.zn_layout.specs.Begin.{new_record, first_counts}
+use Rattle.zn_layout.specs.Changes.{KeyChange, delete_key, put_key}
 use Rattle.zn_layout.specs.Keys.{Key, DataKey, CountsKey, SessionKey, key_bytes}
 use Rattle.zn_layout.specs.Records.{counts_value, node_value}
 use Rattle.zn_layout.proofs.Paths.{path_short}
@@ -38,7 +38,7 @@ not_owned owner e is = true_false (sym ((Decides-int_eq owner (pos 0)).1 is) ∙
     true_false bad = cc
 
 module _ (id : ℤ) (v : View) (r : Part) where
-  abbrev Own : List Change → Type 0
+  abbrev Own : List KeyChange → Type 0
   Own cs = All (IsOwnChange id v r) cs
 
   own_put : (k : Key) (value : Bytes) → length (key_bytes k) ≤ 1033 → ((n : ℕ) → k ≡ SessionKey n → IsTouching id v r n) → IsOwnChange id v r (put_key k value)
@@ -75,23 +75,23 @@ module _ (id : ℤ) (v : View) (r : Part) where
   -- ---- create
 
   module _ (p q content : Bytes) (valid : IsTrue (is_path p)) (also : IsTrue (is_path q)) (now : ℕ) (small : length content ≤ length (part_content r)) where
-    created_own : (owner : ℤ) (above : CountRec) (more : List Change) → Own more → Own (create_changes p q content now owner above ++ more)
+    created_own : (owner : ℤ) (above : CountRec) (more : List KeyChange) → Own more → Own (create_changes p q content now owner above ++ more)
     created_own owner above more rest =
-        All-cons (IsOwnChange id v r) (put_key (DataKey p) (node_value (new_record content now owner))) (put_key (CountsKey p) (counts_value no_counts) ∷ put_key (CountsKey q) (counts_value (one_more above)) ∷ more) (own_data p _ valid)
-        (All-cons (IsOwnChange id v r) (put_key (CountsKey p) (counts_value no_counts)) (put_key (CountsKey q) (counts_value (one_more above)) ∷ more) (own_counts p _ valid)
+        All-cons (IsOwnChange id v r) (put_key (DataKey p) (node_value (new_record content now owner))) (put_key (CountsKey p) (counts_value first_counts) ∷ put_key (CountsKey q) (counts_value (one_more above)) ∷ more) (own_data p _ valid)
+        (All-cons (IsOwnChange id v r) (put_key (CountsKey p) (counts_value first_counts)) (put_key (CountsKey q) (counts_value (one_more above)) ∷ more) (own_counts p _ valid)
         (All-cons (IsOwnChange id v r) (put_key (CountsKey q) (counts_value (one_more above))) more (own_counts q _ also) rest))
 
     persistent_own : (above : CountRec) → AreOwn id v r (create_changes p q content now (pos 0) above)
     persistent_own above = record {
       each = created_own (pos 0) above [] (All-nil (IsOwnChange id v r));
-      light = omega (arith, node_value-size (new_record content now (pos 0)), counts_value-size no_counts, counts_value-size (one_more above), small);
+      light = omega (arith, node_value-size (new_record content now (pos 0)), counts_value-size first_counts, counts_value-size (one_more above), small);
     }
 
     owned_own : (above : CountRec) (session : ℤ) (o : Option (List Bytes)) → IsTouching id v r (nat_abs session) → IfOwn id v r (create_owned p q content now above session o)
     owned_own above session None touching = tt
     owned_own above session (Some ps) touching = changes_cond (λ cs ts. AreOwn id v r cs) (nat_le max_owned (length ps)) _ _ (λ _. tt) (λ e. record {
       each = created_own session above (put_owned session (placed p ps) ∷ []) (own_nodes session (placed p ps) touching);
-      light = omega (arith, node_value-size (new_record content now session), counts_value-size no_counts, counts_value-size (one_more above), small);
+      light = omega (arith, node_value-size (new_record content now session), counts_value-size first_counts, counts_value-size (one_more above), small);
     })
 
     pub create-own : (ephemeral : Bool) (session : ℤ) (x : Option SeenData) (c : Option SeenCounts) (taken : Bool) (paths : Option (List Bytes)) → (ephemeral ≡ true → IsTouching id v r (nat_abs session)) → IfOwn id v r (create_choice p q content now ephemeral session x c taken paths)
@@ -110,7 +110,7 @@ module _ (id : ℤ) (v : View) (p q : Bytes) (version : ℤ) (valid : IsTrue (is
   abbrev r : Part
   r = part.Delete p version
 
-  deleted_own : (above : CountRec) (more : List Change) → Own id v r more → Own id v r (delete_changes p q above ++ more)
+  deleted_own : (above : CountRec) (more : List KeyChange) → Own id v r more → Own id v r (delete_changes p q above ++ more)
   deleted_own above more rest =
       All-cons (IsOwnChange id v r) (delete_key (DataKey p)) (delete_key (CountsKey p) ∷ put_key (CountsKey q) (counts_value (one_less above)) ∷ more) (own_gone id v r (DataKey p) (data_short id v r p valid) (inl refl) (not_data id v r p))
       (All-cons (IsOwnChange id v r) (delete_key (CountsKey p)) (put_key (CountsKey q) (counts_value (one_less above)) ∷ more) (own_gone id v r (CountsKey p) (counts_short id v r p valid) (inr (inl refl)) (not_counts id v r p))

@@ -7,7 +7,7 @@ use Rattle.zk_model.specs.declared.request.Request.{Request}
 use Rattle.zk_model.specs.Watches.{no_watches}
 use Rattle.zk_transcript.specs.Answers.{Told, plain_request, told_refusal}
 use Rattle.zk_transcript.specs.History.{response_of}
-use Rattle.zn_layout.specs.Changes.{Change, act_of, acts_of, head_put, update_acts}
+use Rattle.zn_layout.specs.Changes.{KeyChange, act_of, acts_of, head_put, update_acts}
 use Rattle.zn_layout.specs.Keys.{HeadKey, key_bytes}
 use Rattle.zn_view.specs.declared.plan.Decision.{Decision}
 use Rattle.zn_view.specs.declared.plan.Decision.TheVariants.{Answered, Planned}
@@ -25,7 +25,7 @@ use Rattle.zn_view.specs.Deciding.{IsToldByForm, is_by_tree}
 use Rattle.zn_updates.specs.Deciding.{IsBySound, decision_of}
 use Rattle.zn_updates.specs.Making.{chosen_of}
 
-acts_push : (cs : List Change) (c : Change) → acts_of (cs ++ c ∷ []) ≡ acts_of cs ++ act_of c ∷ []
+acts_push : (cs : List KeyChange) (c : KeyChange) → acts_of (cs ++ c ∷ []) ≡ acts_of cs ++ act_of c ∷ []
 acts_push [] c = refl
 acts_push (d ∷ ds) c = ap (λ (l : List Act). act_of d ∷ l) (acts_push ds c)
 

@@ -12,7 +12,7 @@ use Rattle.zk_model.specs.Znodes.{num_children, owned}
 use Rattle.zk_transcript.specs.History.{State, session_at}
 use Rattle.zk_transcript.proofs.Children.{num_children-change}
 use Rattle.zn_layout.specs.Changes.{last}
-use Rattle.zn_layout.specs.Fits.{KeyFits, Fits}
+use Rattle.zn_layout.specs.Fits.{KeyFits, ChangesFit}
 use Rattle.zn_layout.specs.Keys.{Key, HeadKey, DataKey, CountsKey, SessionKey, LeaseKey}
 use Rattle.zn_layout.specs.Records.{node_value, IsNodeRec}
 use Rattle.zn_layout.specs.StandsFor.{data_record, IsData}
@@ -82,5 +82,5 @@ module _ (s : State) (p content : Bytes) (z : ℤ) (now : ℕ) (n : Node) (x : S
   each_fits (SessionKey id) = nodes_fit id
   each_fits (LeaseKey id) = λ o h. h
 
-  pub set_data_fits : Fits z (set_changes p x content now) s new
+  pub set_data_fits : ChangesFit z (set_changes p x content now) s new
   set_data_fits = record { each = each_fits }

@@ -16,8 +16,8 @@ use Rattle.zk_model.specs.Single.{matches}
 use Rattle.zk_model.proofs.ValidPaths.{parent-valid}
 use Rattle.zk_transcript.specs.History.{State, IsSound}
 use Rattle.zn_layout.specs.declared.record.CountRec.{CountRec}
-use Rattle.zn_layout.specs.Begin.{new_record, no_counts}
-use Rattle.zn_layout.specs.Changes.{Change, are_distinct, change_size, delete_key, head_put, put_key}
+use Rattle.zn_layout.specs.Begin.{new_record, first_counts}
+use Rattle.zn_layout.specs.Changes.{KeyChange, are_distinct, change_size, delete_key, head_put, put_key}
 use Rattle.zn_layout.specs.Keys.{DataKey, CountsKey}
 use Rattle.zn_layout.specs.Records.{counts_value, node_value, IsHeadRec, IsSessionRec}
 use Rattle.zk_model.specs.Watches.{trigger_path}
@@ -45,7 +45,7 @@ two_triggers t u valid also = record { count = omega arith; valid = All-cons (λ
 -- ---- changes
 
 -- each key once and with no lease, and on a view of a sound state few and small ones
-pub record AreWellMade (v : View) (cs : List Change) (ts : List Trigger) : Type 0 where
+pub record AreWellMade (v : View) (cs : List KeyChange) (ts : List Trigger) : Type 0 where
   pub once : are_distinct (cs ++ head_put ts ∷ []) ≡ true
   pub leases : All IsLeaseless cs
   pub triggers : IsHeadRec ts
@@ -53,7 +53,7 @@ pub record AreWellMade (v : View) (cs : List Change) (ts : List Trigger) : Type 
   pub few : length cs ≤ 8
   pub small : (s : State) → IsSound s → IsOf v s → sum_by change_size cs ≤ 1400000
 
-pub changes_cond : (P : List Change → List Trigger → Type 0) (b : Bool) (x y : Choice) → (b ≡ true → IfChanges P x) → (b ≡ false → IfChanges P y) → IfChanges P (cond b x y)
+pub changes_cond : (P : List KeyChange → List Trigger → Type 0) (b : Bool) (x y : Choice) → (b ≡ true → IfChanges P x) → (b ≡ false → IfChanges P y) → IfChanges P (cond b x y)
 changes_cond P true x y f g = f refl
 changes_cond P false x y f g = g refl
 
@@ -92,7 +92,7 @@ module _ (p q : Bytes) (valid : is_path p ≡ true) (below : parent p ≡ Some q
   module _ (v : View) where
     -- ---- delete
 
-    delete_leases : (above : CountRec) (more : List Change) → All IsLeaseless more → All IsLeaseless (delete_changes p q above ++ more)
+    delete_leases : (above : CountRec) (more : List KeyChange) → All IsLeaseless more → All IsLeaseless (delete_changes p q above ++ more)
     delete_leases above more rest = All-cons IsLeaseless (delete_key (DataKey p)) (delete_key (CountsKey p) ∷ put_key (CountsKey q) (counts_value (one_less above)) ∷ more) tt
         (All-cons IsLeaseless (delete_key (CountsKey p)) (put_key (CountsKey q) (counts_value (one_less above)) ∷ more) tt
         (All-cons IsLeaseless (put_key (CountsKey q) (counts_value (one_less above))) more refl rest))
@@ -149,9 +149,9 @@ module _ (p q : Bytes) (valid : is_path p ≡ true) (below : parent p ≡ Some q
     -- ---- create
 
     module _ (content : Bytes) (short : length content ≤ max_frame) (now : ℕ) where
-      create_leases : (owner : ℤ) (above : CountRec) (more : List Change) → All IsLeaseless more → All IsLeaseless (create_changes p q content now owner above ++ more)
-      create_leases owner above more rest = All-cons IsLeaseless (put_key (DataKey p) (node_value (new_record content now owner))) (put_key (CountsKey p) (counts_value no_counts) ∷ put_key (CountsKey q) (counts_value (one_more above)) ∷ more) refl
-          (All-cons IsLeaseless (put_key (CountsKey p) (counts_value no_counts)) (put_key (CountsKey q) (counts_value (one_more above)) ∷ more) refl
+      create_leases : (owner : ℤ) (above : CountRec) (more : List KeyChange) → All IsLeaseless more → All IsLeaseless (create_changes p q content now owner above ++ more)
+      create_leases owner above more rest = All-cons IsLeaseless (put_key (DataKey p) (node_value (new_record content now owner))) (put_key (CountsKey p) (counts_value first_counts) ∷ put_key (CountsKey q) (counts_value (one_more above)) ∷ more) refl
+          (All-cons IsLeaseless (put_key (CountsKey p) (counts_value first_counts)) (put_key (CountsKey q) (counts_value (one_more above)) ∷ more) refl
           (All-cons IsLeaseless (put_key (CountsKey q) (counts_value (one_more above))) more refl rest))
 
       create_plain : (above : CountRec) → AreWellMade v (create_changes p q content now (pos 0) above) (create_triggers p q)
@@ -167,7 +167,7 @@ module _ (p q : Bytes) (valid : is_path p ≡ true) (below : parent p ≡ Some q
           counts-size p,
           counts-size q,
           node_value-size (new_record content now (pos 0)),
-          counts_value-size no_counts,
+          counts_value-size first_counts,
           counts_value-size (one_more above),
           keys_short.0,
           keys_short.1,
@@ -188,7 +188,7 @@ module _ (p q : Bytes) (valid : is_path p ≡ true) (below : parent p ≡ Some q
           counts-size p,
           counts-size q,
           node_value-size (new_record content now session),
-          counts_value-size no_counts,
+          counts_value-size first_counts,
           counts_value-size (one_more above),
           session-size (nat_abs session),
           session_value-size (placed p ps) (placed-within p ps valid (omega (arith, few)) listed).valid,

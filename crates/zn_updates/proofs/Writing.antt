@@ -12,7 +12,7 @@ use Rattle.zk_model.specs.Paths.{parent}
 use Rattle.zk_model.specs.Single.{is_ephemeral, is_sequential, matches, named}
 use Rattle.zx_base.specs.Maps.{Bytes}
 use Rattle.zn_layout.specs.declared.record.CountRec.{CountRec}
-use Rattle.zn_layout.specs.Changes.{Change}
+use Rattle.zn_layout.specs.Changes.{KeyChange}
 use Rattle.zn_layout.specs.Keys.{DataKey, CountsKey, SessionKey}
 use Rattle.zn_view.specs.declared.plan.Decision.{Decision}
 use Rattle.zn_view.specs.declared.plan.Who.{Who}
@@ -31,7 +31,7 @@ use Rattle.zn_updates.proofs.WellMade.{changes_cond}
 
 -- ---- from a choice to its decision
 
-abbrev Written : Request → Who → View → List Change → List Trigger → Type 0
+abbrev Written : Request → Who → View → List KeyChange → List Trigger → Type 0
 Written r who v cs ts = AreWrites r who v (map write_of cs)
 
 planned_as : (r : Request) (who : Who) (v near : View) (c : Choice) → IfChanges (Written r who v) c → IfPlanned (WritesAs r who v) (decision_of near c)
@@ -58,7 +58,7 @@ set_data-written who v p content version now d is =
 -- ---- delete
 
 module _ (who : Who) (v : View) (p q : Bytes) (version : ℤ) (below : parent p ≡ Some q) where
-  abbrev Deleted : List Change → List Trigger → Type 0
+  abbrev Deleted : List KeyChange → List Trigger → Type 0
   Deleted = Written (req.Delete p version) who v
 
   delete-writes : (x : Option SeenData) (c a : Option SeenCounts) (paths : Option (List Bytes)) → IsDataSeen (sees v (DataKey p)) x → IsCountsSeen (sees v (CountsKey p)) c → IfChanges Deleted (delete_choice p q version x c a paths)
@@ -86,7 +86,7 @@ delete-written who v p version d (Some q) e is =
 -- ---- create
 
 module _ (who : Who) (v : View) (path content : Bytes) (acl : List Acl) (flags : ℤ) (now : ℕ) (q : Bytes) (below : parent (named flags path) ≡ Some q) where
-  abbrev Created : List Change → List Trigger → Type 0
+  abbrev Created : List KeyChange → List Trigger → Type 0
   Created = Written (req.Create path content acl flags) who v
 
   module _ (seen : Option SeenCounts) (counts : IsCountsSeen (sees v (CountsKey q)) seen) where

@@ -13,8 +13,8 @@ use Rattle.zk_model.specs.Single.{matches}
 use Rattle.zk_model.specs.Znodes.{cversion}
 use Rattle.zn_layout.specs.declared.record.CountRec.{CountRec}
 use Rattle.zn_layout.specs.declared.record.NodeRec.{NodeRec}
-use Rattle.zn_layout.specs.Begin.{new_record, no_counts}
-use Rattle.zn_layout.specs.Changes.{Change, put_key, delete_key}
+use Rattle.zn_layout.specs.Begin.{new_record, first_counts}
+use Rattle.zn_layout.specs.Changes.{KeyChange, put_key, delete_key}
 use Rattle.zn_layout.specs.Keys.{DataKey, CountsKey, SessionKey}
 use Rattle.zn_layout.specs.Records.{node_value, counts_value, session_value}
 use Rattle.zn_updates.specs.OwnedLists.{placed, without}
@@ -24,14 +24,14 @@ use Rattle.zn_updates.specs.declared.seen.SeenCounts.{SeenCounts}
 -- a refusal with its code; or an update: its changes but the head's, what watches see, and the result with 0 in place of its zxid
 pub data Choice : Type 0 where
   Refuse : (code : ℤ) → Choice
-  Make : (changes : List Change) (triggers : List Trigger) (draft : PartResult) → Choice
+  Make : (changes : List KeyChange) (triggers : List Trigger) (draft : PartResult) → Choice
 
 -- a node's record with this content
 abbrev pub with_content : NodeRec → Bytes → NodeRec
 with_content r content = record r { content = content }
 
 -- puts the list of a session's nodes
-abbrev pub put_owned : ℤ → List Bytes → Change
+abbrev pub put_owned : ℤ → List Bytes → KeyChange
 put_owned id paths = put_key (SessionKey (nat_abs id)) (session_value paths)
 
 -- ---- setData
@@ -56,7 +56,7 @@ set_stat x c content now = record {
   pzxid = c.pzxid;
 }
 
-abbrev pub set_changes : Bytes → SeenData → Bytes → ℕ → List Change
+abbrev pub set_changes : Bytes → SeenData → Bytes → ℕ → List KeyChange
 set_changes p x content now = put_key (DataKey p) (node_value (set_record x content now)) ∷ []
 
 -- a setData of p, by the node's record and by its counts, which its Stat shows
@@ -74,7 +74,7 @@ set_data_choice p content version now (Some x) (Some c) =
 abbrev pub one_less : CountRec → CountRec
 one_less c = record { creates = c.creates; children = pos (nat_abs c.children - 1) }
 
-abbrev pub delete_changes : Bytes → Bytes → CountRec → List Change
+abbrev pub delete_changes : Bytes → Bytes → CountRec → List KeyChange
 delete_changes p q above = delete_key (DataKey p) ∷ delete_key (CountsKey p) ∷ put_key (CountsKey q) (counts_value (one_less above)) ∷ []
 
 abbrev pub delete_triggers : Bytes → Bytes → List Trigger
@@ -106,13 +106,13 @@ delete_choice p q version (Some x) (Some c) above paths =
 abbrev pub one_more : CountRec → CountRec
 one_more c = record { creates = c.creates +ℤ pos 1; children = c.children +ℤ pos 1 }
 
-abbrev pub changes_with : Bytes → Bytes → NodeRec → CountRec → List Change
+abbrev pub changes_with : Bytes → Bytes → NodeRec → CountRec → List KeyChange
 changes_with p q node above =
     put_key (DataKey p) (node_value node)
-    ∷ put_key (CountsKey p) (counts_value no_counts)
+    ∷ put_key (CountsKey p) (counts_value first_counts)
     ∷ put_key (CountsKey q) (counts_value (one_more above)) ∷ []
 
-abbrev pub create_changes : Bytes → Bytes → Bytes → ℕ → ℤ → CountRec → List Change
+abbrev pub create_changes : Bytes → Bytes → Bytes → ℕ → ℤ → CountRec → List KeyChange
 create_changes p q content now owner above = changes_with p q (new_record content now owner) above
 
 abbrev pub create_triggers : Bytes → Bytes → List Trigger

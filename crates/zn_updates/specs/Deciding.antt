@@ -10,7 +10,7 @@ use Rattle.zk_model.specs.Watches.{no_watches}
 use Rattle.std.specs.Prelude.{List, [], Bool, true, false, pos, if◌then◌else◌}
 use Rattle.zk_transcript.specs.Answers.{plain_request, tree_reply}
 use Rattle.zk_transcript.specs.History.{State, Session, IsSound, limit_of, response_of, session_at}
-use Rattle.zn_layout.specs.Changes.{Change, update_acts}
+use Rattle.zn_layout.specs.Changes.{KeyChange, update_acts}
 use Rattle.zn_layout.specs.Keys.{Key, DataKey, CountsKey, SessionKey, LeaseKey, key_bytes}
 use Rattle.zn_view.specs.declared.plan.Decision.{Decision}
 use Rattle.zn_view.specs.declared.plan.Decision.TheVariants.{Answered, Planned}
@@ -52,7 +52,7 @@ abbrev pub on_keys : View → List Key → View
 on_keys v ks = narrowed v (map key_bytes ks)
 
 -- the plan of an update: it guards what this view saw, but for the head, and reads it again where a guard fails
-abbrev pub plan_of : View → List Change → List Trigger → PartResult → Plan
+abbrev pub plan_of : View → List KeyChange → List Trigger → PartResult → Plan
 plan_of v cs ts draft = record {
   guards = guards_of v.keys;
   success = update_acts cs ts;

@@ -9,13 +9,13 @@ use Rattle.zk_model.specs.Codes.{no_node, bad_version}
 use Rattle.zk_model.specs.Paths.{parent}
 use Rattle.zk_model.specs.Single.{form_refusal, is_ephemeral, is_sequential, matches, named}
 use Rattle.zx_base.specs.Maps.{Bytes}
-use Rattle.zn_layout.specs.Changes.{Change, Put, put_size}
+use Rattle.zn_layout.specs.Changes.{KeyChange, Put, put_size}
 use Rattle.zn_layout.specs.Keys.{Key, HeadKey, DataKey, CountsKey, SessionKey, LeaseKey, key_bytes}
 use Rattle.zn_layout.specs.Records.{IsCountRec, IsHeadRec, IsSessionRec}
 use Rattle.zn_view.specs.declared.plan.Who.{Who}
 use Rattle.zn_view.specs.Asks.{IsLeaseless}
 use Rattle.zn_view.specs.Lookups.{HasSeen, sees}
-use Rattle.zn_view.specs.Seen.{View, seen, IsOfKind, kind_of}
+use Rattle.zn_view.specs.Seen.{View, seen, IsOfKind, kind_of_bytes}
 use Rattle.zn_view.specs.Views.{part_keys}
 use Rattle.zn_updates.specs.declared.chosen.Chosen.{Chosen}
 use Rattle.zn_updates.specs.declared.seen.SeenData.{SeenData}
@@ -66,18 +66,18 @@ IsPartSeen id v p = form_refusal p ≡ None → IsSeenFor id v p
 -- ---- what is promised of it
 
 -- this holds of its changes and of what watches see, if it is an update
-abbrev pub IfChanges : (List Change → List Trigger → Type 0) → Choice → Type 0
+abbrev pub IfChanges : (List KeyChange → List Trigger → Type 0) → Choice → Type 0
 IfChanges P (Refuse code) = Unit {0}
 IfChanges P (Make cs ts draft) = P cs ts
 
 -- a change of any key but the head: a record of the key's kind is put, with no lease, or the key is deleted
-pub record IsKeptChange (c : Change) : Type 0 where
+pub record IsKeptChange (c : KeyChange) : Type 0 where
   pub apart : c.key ≡ HeadKey → ⊥
   pub leaseless : IsLeaseless c
-  pub written : IfSome c.put (λ (w : Put). IsOfKind (kind_of (key_bytes c.key)) w.value)
+  pub written : IfSome c.put (λ (w : Put). IsOfKind (kind_of_bytes (key_bytes c.key)) w.value)
 
 -- all changes are such, four at most, and watches see two triggers at most
-pub record AreKept (cs : List Change) (ts : List Trigger) : Type 0 where
+pub record AreKept (cs : List KeyChange) (ts : List Trigger) : Type 0 where
   pub changes : All IsKeptChange cs
   pub few : length cs ≤ 4
   pub triggers : IsHeadRec ts
@@ -97,7 +97,7 @@ size_beside (DataKey p) w = put_size w
 size_beside (CountsKey p) w = put_size w
 size_beside (LeaseKey n) w = put_size w
 
-abbrev pub plain_size : Change → ℕ
+abbrev pub plain_size : KeyChange → ℕ
 plain_size c = size_beside c.key c.put
 
 -- the part makes or removes a node of this session
@@ -109,13 +109,13 @@ IsTouching id v (part.Check p x) n = ⊥
 
 -- The key has at most 1,033 bytes. If it is deleted, the part reads it. If it is that of the list of a session's nodes, the part
 -- makes or removes a node of this session.
-pub record IsOwnChange (id : ℤ) (v : View) (p : Part) (c : Change) : Type 0 where
+pub record IsOwnChange (id : ℤ) (v : View) (p : Part) (c : KeyChange) : Type 0 where
   pub short : length (key_bytes c.key) ≤ 1033
   pub gone : c.put ≡ None → Contains (part_keys id p) c.key
   pub nodes : (n : ℕ) → c.key ≡ SessionKey n → IsTouching id v p n
 
 -- all changes are such, and the values that count have at most 55 bytes more than the part's data
-pub record AreOwn (id : ℤ) (v : View) (p : Part) (cs : List Change) : Type 0 where
+pub record AreOwn (id : ℤ) (v : View) (p : Part) (cs : List KeyChange) : Type 0 where
   pub each : All (IsOwnChange id v p) cs
   pub light : sum_by plain_size cs ≤ 55 + length (part_content p)
 

@@ -5,8 +5,8 @@ use Rattle.zk_model.specs.declared.reply.PartResult.{PartResult}
 use Rattle.zk_model.specs.Single.{Outcome, Refused, Done}
 use Rattle.zk_model.specs.Znodes.{Tree}
 use Rattle.zk_transcript.specs.History.{State}
-use Rattle.zn_layout.specs.Changes.{Change, last}
-use Rattle.zn_layout.specs.Fits.{Fits}
+use Rattle.zn_layout.specs.Changes.{KeyChange, last}
+use Rattle.zn_layout.specs.Fits.{ChangesFit}
 use Rattle.zn_layout.specs.Keys.{HeadKey}
 use Rattle.zn_updates.specs.Choices.{Choice, Refuse, Make}
 use Rattle.zn_view.specs.Needs.{own_result}
@@ -17,10 +17,10 @@ with_tree s t = record s { tree = t }
 
 -- The outcome has the draft as its result, with the update's zxid, and these triggers. The changes lead from the state's keys to
 -- those with the outcome's tree; none is of the head.
-pub record IsOutcome (z : ℤ) (s : State) (cs : List Change) (ts : List Trigger) (draft : PartResult) (outcome : Outcome) : Type 0 where
+pub record IsOutcome (z : ℤ) (s : State) (cs : List KeyChange) (ts : List Trigger) (draft : PartResult) (outcome : Outcome) : Type 0 where
   pub tree : Tree
   pub done : outcome ≡ Done (own_result z draft) tree ts
-  pub fits : Fits z cs s (with_tree s tree)
+  pub fits : ChangesFit z cs s (with_tree s tree)
   pub headless : last cs HeadKey ≡ None
 
 -- a choice is right if it refuses with the outcome's code, or makes the outcome's update

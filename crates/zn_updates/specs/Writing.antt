@@ -6,7 +6,7 @@ use Rattle.zk_model.specs.declared.request.Request.TheVariants as req
 use Rattle.zk_model.specs.Paths.{parent}
 use Rattle.zk_model.specs.Single.{is_ephemeral, is_sequential, named}
 use Rattle.zx_base.specs.Maps.{Bytes}
-use Rattle.zn_layout.specs.Changes.{Change, update_acts}
+use Rattle.zn_layout.specs.Changes.{KeyChange, update_acts}
 use Rattle.zn_layout.specs.Keys.{Key, DataKey, CountsKey, SessionKey}
 use Rattle.zn_view.specs.declared.plan.Plan.{Plan}
 use Rattle.zn_view.specs.declared.plan.Who.{Who}
@@ -28,7 +28,7 @@ puts k = record { key = k; is_put = true }
 abbrev pub deletes : Key → Write
 deletes k = record { key = k; is_put = false }
 
-abbrev pub write_of : Change → Write
+abbrev pub write_of : KeyChange → Write
 write_of c = record { key = c.key; is_put = is_some c.put }
 
 -- ---- the keys that each update writes
@@ -59,6 +59,6 @@ AreWrites _ who v ws = ⊥
 -- the plan writes these keys and then the head, and no other key: so it puts no list that stays as it is, and deletes no key that is
 -- not there
 pub record WritesAs (r : Request) (who : Who) (v : View) (p : Plan) : Type 0 where
-  pub changes : List Change
+  pub changes : List KeyChange
   pub acts : p.success ≡ update_acts changes p.triggers
   pub writes : AreWrites r who v (map write_of changes)

@@ -11,7 +11,7 @@ use Rattle.zk_model.specs.declared.node.Trigger.{Trigger}
 use Rattle.zk_transcript.specs.History.{State}
 use Rattle.zx_base.specs.Maps.{Bytes, same}
 use Rattle.zx_base.proofs.MapLaws.{same-true}
-use Rattle.zn_layout.specs.Changes.{Change, acts_of, head_put, update_acts}
+use Rattle.zn_layout.specs.Changes.{KeyChange, acts_of, head_put, update_acts}
 use Rattle.zn_layout.specs.Keys.{HeadKey, LeaseKey, key_bytes}
 use Rattle.zn_layout.specs.StandsFor.{StandsFor}
 use Rattle.zn_layout.proofs.Keys.{key_bytes-injective}
@@ -50,7 +50,7 @@ life-apart n h = let e = key_bytes-injective (LeaseKey n) HeadKey h in absurd (c
 
 -- ---- the plan
 
-pub plan-asked : (who : Who) (v : View) (p : Plan) (cs : List Change) (ts : List Trigger) (kv : Kv) → p.guards ≡ guards_of v.keys → p.again ≡ again_of v.keys → p.success ≡ update_acts cs ts
+pub plan-asked : (who : Who) (v : View) (p : Plan) (cs : List KeyChange) (ts : List Trigger) (kv : Kv) → p.guards ≡ guards_of v.keys → p.again ≡ again_of v.keys → p.success ≡ update_acts cs ts
     → life_seen v who ≡ Some (Some kv) → kv.mod_revision ≡ who.mine → IsAskedPlan who v p
 plan-asked who v p cs ts kv guards again acts saw mine =
     let k = key_bytes (LeaseKey (nat_abs who.session)) in

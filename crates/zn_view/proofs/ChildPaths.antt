@@ -4,16 +4,16 @@ use Rattle.std.specs.Prelude.{filter, if◌then◌else◌}
 use Rattle.ev_types.specs.declared.answer.Kv.{Kv}
 use Rattle.ev_types.specs.Ranges.{is_within, comes_before}
 use Rattle.zx_base.specs.Maps.{Bytes}
-use Rattle.zn_view.specs.Asks.{children_start, children_end, is_child_of, path_in, paths_in}
+use Rattle.zn_view.specs.Asks.{children_start, children_until, is_child_of, path_in, paths_in}
 
 -- the end of the range is an end
-pub end-is_end : (p from k : Bytes) → is_within from (children_end p) k ≡ (not (comes_before k from) && comes_before k (children_end p))
-unfolding is_within children_end
+pub end-is_end : (p from k : Bytes) → is_within from (children_until p) k ≡ (not (comes_before k from) && comes_before k (children_until p))
+unfolding is_within children_until
 end-is_end p from k = refl
 
-pub child-between : (p start end : Bytes) (kv : Kv) (b : Bool) → start ≡ children_start p → end ≡ children_end p → b ≡ (not (comes_before kv.key start) && comes_before kv.key end) → is_child_of p kv ≡ b
+pub child-between : (p start end : Bytes) (kv : Kv) (b : Bool) → start ≡ children_start p → end ≡ children_until p → b ≡ (not (comes_before kv.key start) && comes_before kv.key end) → is_child_of p kv ≡ b
 child-between p start end kv b s e h =
-    end-is_end p (children_start p) kv.key ∙ ap (λ (l : Bytes). not (comes_before kv.key l) && comes_before kv.key (children_end p)) (sym s)
+    end-is_end p (children_start p) kv.key ∙ ap (λ (l : Bytes). not (comes_before kv.key l) && comes_before kv.key (children_until p)) (sym s)
     ∙ ap (λ (l : Bytes). not (comes_before kv.key start) && comes_before kv.key l) (sym e) ∙ sym h
 
 pub child-passed : (p : Bytes) (kv : Kv) (old : List Bytes) (rest : List Kv) → is_child_of p kv ≡ false → old ++ paths_in p rest ≡ old ++ paths_in p (kv ∷ rest)

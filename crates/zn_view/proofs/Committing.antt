@@ -10,8 +10,8 @@ use Rattle.zk_model.specs.declared.reply.Reply.{Reply}
 use Rattle.zk_model.specs.declared.request.Request.{Request}
 use Rattle.zk_model.specs.declared.request.Request.TheVariants as req
 use Rattle.zk_transcript.specs.History.{State, Commit, IsSound, committed}
-use Rattle.zn_layout.specs.Changes.{Change, last, update_acts}
-use Rattle.zn_layout.specs.Fits.{IsNext}
+use Rattle.zn_layout.specs.Changes.{KeyChange, last, update_acts}
+use Rattle.zn_layout.specs.Fits.{IsNextState}
 use Rattle.zn_layout.specs.Keys.{HeadKey}
 use Rattle.zn_layout.specs.Records.{IsHeadRec}
 use Rattle.zn_layout.specs.StandsFor.{StandsFor}
@@ -30,13 +30,13 @@ zxid-least m s stands =
     let head = head_found m s stands in
     subst (λ (n : ℤ). pos 1 ≤ℤ n) (head.is).zxid ((stands.layout).least _ head.kv head.there)
 
-next-committed : (s : State) (z : ℤ) (ts : List Trigger) (o : Option Commit) (made : Commit) → o ≡ Some made → ts ≡ made.triggers → IsNext z ts s (committed s z o)
+next-committed : (s : State) (z : ℤ) (ts : List Trigger) (o : Option Commit) (made : Commit) → o ≡ Some made → ts ≡ made.triggers → IsNextState z ts s (committed s z o)
 next-committed s z ts None made e t = absurd (cc)
 next-committed s z ts (Some x) made e t =
     let is : x ≡ made = cc in
     record { zxid = refl; updates = refl; triggers = ap (λ (c : Commit). c.triggers) is ∙ sym t }
 
-next-closed : (s : State) (z session : ℤ) (now : ℕ) (ts : List Trigger) (made : Commit) → done_by s z session req.Close now ≡ Some made → ts ≡ made.triggers → IsNext z ts s (state_after s z session req.Close now)
+next-closed : (s : State) (z session : ℤ) (now : ℕ) (ts : List Trigger) (made : Commit) → done_by s z session req.Close now ≡ Some made → ts ≡ made.triggers → IsNextState z ts s (state_after s z session req.Close now)
 next-closed s z session now ts made e t =
     let is : (state_after s z session req.Close now).triggers ≡ made.triggers = ap (λ (o : Option Commit). triggers_in o) e in
     record { zxid = refl; updates = refl; triggers = is ∙ sym t }
@@ -45,7 +45,7 @@ next-closed s z session now ts made e t =
     triggers_in None = (state_after s z session req.Close now).triggers
     triggers_in (Some x) = x.triggers
 
-next-done : (s : State) (z session : ℤ) (r : Request) (now : ℕ) (ts : List Trigger) (made : Commit) → done_by s z session r now ≡ Some made → ts ≡ made.triggers → IsNext z ts s (state_after s z session r now)
+next-done : (s : State) (z session : ℤ) (r : Request) (now : ℕ) (ts : List Trigger) (made : Commit) → done_by s z session r now ≡ Some made → ts ≡ made.triggers → IsNextState z ts s (state_after s z session r now)
 next-done s z session (req.Create p d a f) now ts made e t = next-committed s z ts (done_by s z session (req.Create p d a f) now) made e t
 next-done s z session (req.Delete p v) now ts made e t = next-committed s z ts (done_by s z session (req.Delete p v) now) made e t
 next-done s z session (req.SetData p d v) now ts made e t = next-committed s z ts (done_by s z session (req.SetData p d v) now) made e t
@@ -63,7 +63,7 @@ next-done s z session (req.SetWatches since exists datas children) now ts made e
 next-done s z session req.Close now ts made e t = next-closed s z session now ts made e t
 
 -- What is to be shown of a request: where keys have what the view saw, its changes are those of the update.
-pub plan-commits : (r : Request) (who : Who) (now : ℕ) (v : View) (p : Plan) (finish : ℤ → Reply) (cs : List Change)
+pub plan-commits : (r : Request) (who : Who) (now : ℕ) (v : View) (p : Plan) (finish : ℤ → Reply) (cs : List KeyChange)
     → p.guards ≡ guards_of v.keys → p.success ≡ update_acts cs p.triggers → IsHeadRec p.triggers → last cs HeadKey ≡ None
     → ((m : Keys) (s : State) (z : ℤ) → IsSound s → StandsFor m s → AreAsSeen v m → s.zxid <ℤ z → z ≤ℤ last_revision → IsMade r who now finish cs p.triggers s z)
     → IsPlan r who now v p finish

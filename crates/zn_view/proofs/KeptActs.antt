@@ -9,13 +9,13 @@ use Rattle.zx_base.proofs.MapLaws.{same-true}
 use Rattle.zn_layout.specs.Keys.{HeadKey, key_bytes}
 use Rattle.zn_view.specs.declared.snapshot.SeenKey.{SeenKey}
 use Rattle.zn_view.specs.Keeping.{AreLeft, IsActKept, seen_as}
-use Rattle.zn_view.specs.Seen.{IsCount, IsFound, IsRecord, IsSeen, seen_in}
+use Rattle.zn_view.specs.Seen.{IsCountNumber, IsFound, IsRecord, IsSeen, seen_in}
 use Rattle.zn_view.proofs.KeyKinds.{seen-kept}
 
-pub counts-of : (k : Bytes) (xs : List SeenKey) (o : Option Kv) → All IsSeen xs → seen_in k xs ≡ Some o → IfSome o (λ (kv : Kv). IsCount kv.version)
+pub counts-of : (k : Bytes) (xs : List SeenKey) (o : Option Kv) → All IsSeen xs → seen_in k xs ≡ Some o → IfSome o (λ (kv : Kv). IsCountNumber kv.version)
 counts-of k xs o all e = go o (seen-kept k xs o all e)
   where
-    go : (o : Option Kv) → IfSome o (IsFound k) → IfSome o (λ (kv : Kv). IsCount kv.version)
+    go : (o : Option Kv) → IfSome o (IsFound k) → IfSome o (λ (kv : Kv). IsCountNumber kv.version)
     go None h = tt
     go (Some kv) h = (h.numbers).version
 
@@ -27,7 +27,7 @@ put-named r k v lease None = refl
 put-named r k v lease (Some kv) = refl
 
 -- whether a value is a record tells whether it may be kept
-pub found-told : (kv : Kv) → IsCount kv.mod_revision → IsCount kv.version → (t : Type 0) → (t ↔ IsRecord kv) → (t ↔ IsFound kv.key kv)
+pub found-told : (kv : Kv) → IsCountNumber kv.mod_revision → IsCountNumber kv.version → (t : Type 0) → (t ↔ IsRecord kv) → (t ↔ IsFound kv.key kv)
 found-told kv r v t h = (λ a. record { named = refl; value = h.0 a; numbers = record { revision = r; version = v } }, λ b. h.1 b.value)
 
 -- ---- what a list of operations leaves

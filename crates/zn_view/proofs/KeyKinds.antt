@@ -14,7 +14,7 @@ use Rattle.zn_view.specs.declared.snapshot.SeenKey.{SeenKey}
 use Rattle.zn_view.specs.Lookups.{IsNodesIn}
 use Rattle.zn_view.specs.declared.kind.Kind.{Kind}
 use Rattle.zn_view.specs.declared.kind.Kind.TheVariants.{Head, Data, Counts, Nodes, Life}
-use Rattle.zn_view.specs.Seen.{kind_of, IsOfKind, IsFound, IsSeen, seen_in}
+use Rattle.zn_view.specs.Seen.{kind_of_bytes, IsOfKind, IsFound, IsSeen, seen_in}
 
 abbrev pub kind_of_key : Key → Kind
 kind_of_key HeadKey = Head
@@ -23,7 +23,7 @@ kind_of_key (CountsKey p) = Counts
 kind_of_key (SessionKey n) = Nodes
 kind_of_key (LeaseKey n) = Life
 
-pub kind_of-key : (k : Key) → kind_of (key_bytes k) ≡ Some (kind_of_key k)
+pub kind_of-key : (k : Key) → kind_of_bytes (key_bytes k) ≡ Some (kind_of_key k)
 unfolding key_bytes
 kind_of-key HeadKey = refl
 kind_of-key (DataKey p) = refl
@@ -33,7 +33,7 @@ kind_of-key (LeaseKey n) = refl
 
 -- what was found under a key of the layout is a record of the key's kind
 pub found-of_kind : (k : Key) (kv : Kv) → IsFound (key_bytes k) kv → IsOfKind (Some (kind_of_key k)) kv.value
-found-of_kind k kv f = subst (λ (o : Option Kind). IsOfKind o kv.value) (ap kind_of f.named ∙ kind_of-key k) f.value
+found-of_kind k kv f = subst (λ (o : Option Kind). IsOfKind o kv.value) (ap kind_of_bytes f.named ∙ kind_of-key k) f.value
 
 seen_at_first : (k : Bytes) (x : SeenKey) (xs : List SeenKey) (kv : Kv) (b : Bool) → same x.key k ≡ b → (All IsSeen xs → seen_in k xs ≡ Some (Some kv) → IsFound k kv)
     → All IsSeen (x ∷ xs) → (if b then Some x.found else seen_in k xs) ≡ Some (Some kv) → IsFound k kv

@@ -19,7 +19,7 @@ use Rattle.zx_base.specs.Maps.{Bytes, same}
 use Rattle.zx_base.proofs.MapLaws.{either, same-refl, same-true, get-insert_same, get-insert_other, get-remove_same, get-remove_other, get-retain}
 use Rattle.zx_base.proofs.Options.{none_some, some_is}
 use Rattle.zn_view.specs.declared.want.Want.TheVariants as want
-use Rattle.zn_view.specs.Asks.{children_start, children_end, is_child_of, kept_under, path_in, paths_in, range_of}
+use Rattle.zn_view.specs.Asks.{children_start, children_until, is_child_of, kept_under, path_in, paths_in, range_of}
 use Rattle.zn_view.specs.Views.{children_kept}
 
 -- ---- each key of a store names itself
@@ -112,15 +112,15 @@ map-each P m h = entries-each P (entries m) (entries_sorted m) (λ k x f. h k x 
 
 pub record IsListed (p k : Bytes) (kv : Kv) : Type 0 where
   pub named : kv.key ≡ k
-  pub inside : is_within (children_start p) (children_end p) k ≡ true
+  pub inside : is_within (children_start p) (children_until p) k ≡ true
 
 kept-inside : (b : Bool) (o : Option Kv) (x : Kv) → cond b o None ≡ Some x → (b ≡ true) × (o ≡ Some x)
 kept-inside true o x h = (refl, h)
 kept-inside false o x h = absurd (none_some h)
 
-retained-listed : (p : Bytes) (m : Keys) → AreKeyed m → (k : Bytes) (x : Kv) → get (retain_keys m (is_within (children_start p) (children_end p))) k ≡ Some x → IsListed p k x
+retained-listed : (p : Bytes) (m : Keys) → AreKeyed m → (k : Bytes) (x : Kv) → get (retain_keys m (is_within (children_start p) (children_until p))) k ≡ Some x → IsListed p k x
 retained-listed p m keyed k x h =
-    let inside = is_within (children_start p) (children_end p) in
+    let inside = is_within (children_start p) (children_until p) in
     let parts = kept-inside (inside k) (get m k) x (sym (get-retain m inside k) ∙ h) in
     record { named = keyed k x parts.1; inside = parts.0 }
 
@@ -130,12 +130,12 @@ listed-paths p (e ∷ es) all =
     let is = All-head (λ (y : Bytes × Kv). IsListed p y.0 y.1) e es all in
     let kv = shown true e.1 in
     let rest = map (shown true) (map (λ (y : Bytes × Kv). y.1) es) in
-    let inside : is_child_of p kv ≡ true = ap (is_within (children_start p) (children_end p)) is.named ∙ is.inside in
+    let inside : is_child_of p kv ≡ true = ap (is_within (children_start p) (children_until p)) is.named ∙ is.inside in
     ap (λ (b : Bool). map path_in (if b then kv ∷ filter (is_child_of p) rest else filter (is_child_of p) rest)) inside
     ∙ (λ i. drop 9 (is.named i) ∷ listed-paths p es (All-tail (λ (y : Bytes × Kv). IsListed p y.0 y.1) e es all) i)
 
 pub children-shown : (p : Bytes) (r : ℤ) (m : Keys) → AreKeyed m → paths_in p (found (range_of r (want.Children p)) m).kvs ≡ children_kept m p
 unfolding in_range children_kept
 children-shown p r m keyed =
-    let inside = is_within (children_start p) (children_end p) in
+    let inside = is_within (children_start p) (children_until p) in
     listed-paths p (entries (retain_keys m inside)) (map-each (IsListed p) (retain_keys m inside) (retained-listed p m keyed))

@@ -12,7 +12,7 @@ use Rattle.zn_layout.specs.Listing.{child_front, HasValidPaths}
 use Rattle.zn_layout.specs.StandsFor.{StandsFor}
 use Rattle.zn_layout.proofs.Listing.{children_listed}
 use Rattle.zn_view.specs.declared.snapshot.SeenChildren.{SeenChildren}
-use Rattle.zn_view.specs.Asks.{children_start, children_end}
+use Rattle.zn_view.specs.Asks.{children_start, children_until}
 use Rattle.zn_view.specs.Seen.{View, listed_in, listed}
 use Rattle.zn_view.specs.Views.{Agrees, children_kept}
 
@@ -31,7 +31,7 @@ dropped p (q ∷ qs) = ap (λ (r : List Bytes). q ∷ r) (dropped p qs)
 
 -- the range's keys are those of the children, with nine bytes before the path
 children_kept-is : (m : Keys) (s : State) (p : Bytes) → StandsFor m s → IsSound s → HasValidPaths s.tree → IsTrue (is_path p) → children_kept m p ≡ children s.tree p
-unfolding children_kept children_start children_end
+unfolding children_kept children_start children_until
 children_kept-is m s p stands sound valid path = ap (λ (ks : List Bytes). map (drop 9) ks) (children_listed m s p stands sound valid path) ∙ dropped p (children s.tree p)
 
 -- what a view of a state lists of a node are the paths of its children, in their order

@@ -14,7 +14,7 @@ use Rattle.zk_model.specs.declared.request.Request.{Request}
 use Rattle.zx_base.specs.Maps.{Bytes, same}
 use Rattle.zx_base.proofs.MapLaws.{same-true, same-refl}
 use Rattle.zx_base.proofs.Options.{none_some, some_is}
-use Rattle.zn_layout.specs.Changes.{Change, acts_of, head_put, update_acts}
+use Rattle.zn_layout.specs.Changes.{KeyChange, acts_of, head_put, update_acts}
 use Rattle.zn_layout.specs.Keys.{HeadKey, LeaseKey, key_bytes}
 use Rattle.zn_view.specs.declared.plan.Plan.{Plan}
 use Rattle.zn_view.specs.declared.plan.Who.{Who}
@@ -134,7 +134,7 @@ narrowed-plan r who now v ks p finish guards plan = record {
 }
 
 -- a plan that guards keys that were looked up may be asked, where the session's life is among them and is as it was attached
-pub narrowed-asked : (who : Who) (v : View) (ks : List Bytes) (p : Plan) (cs : List Change) (kv : Kv) → p.guards ≡ guards_of (picked v ks) → p.again ≡ again_of (picked v ks) → p.success ≡ update_acts cs p.triggers
+pub narrowed-asked : (who : Who) (v : View) (ks : List Bytes) (p : Plan) (cs : List KeyChange) (kv : Kv) → p.guards ≡ guards_of (picked v ks) → p.again ≡ again_of (picked v ks) → p.success ≡ update_acts cs p.triggers
     → In (key_bytes (LeaseKey (nat_abs who.session))) ks → seen v (key_bytes (LeaseKey (nat_abs who.session))) ≡ Some (Some kv) → kv.mod_revision ≡ who.mine → IsAskedPlan who v p
 narrowed-asked who v ks p cs kv guards again acts inside saw mine =
     let k : Bytes = key_bytes (LeaseKey (nat_abs who.session)) in

@@ -16,7 +16,7 @@ use Rattle.zk_transcript.specs.History.{State}
 use Rattle.zx_base.specs.Maps.{Bytes, same}
 use Rattle.zx_base.proofs.MapLaws.{same-true}
 use Rattle.zx_base.proofs.Options.{none_some, some_none}
-use Rattle.zn_layout.specs.Changes.{Change, Put, act_at, act_of, acts_of, head_put, update_acts}
+use Rattle.zn_layout.specs.Changes.{KeyChange, Put, act_at, act_of, acts_of, head_put, update_acts}
 use Rattle.zn_layout.specs.Keys.{CountsKey, DataKey, HeadKey, Key, key_bytes}
 use Rattle.zn_layout.specs.StandsFor.{CountsMean, DataMeans, StandsFor, at, stored_of}
 use Rattle.zn_layout.proofs.Keys.{key_bytes-injective}
@@ -33,7 +33,7 @@ use Rattle.zn_view.specs.Keeping.{IsNew, PutsNewKeys, guard_seen, guarded_seen, 
 use Rattle.zn_view.proofs.Placed.{seen_in-placed_other, seen_in-placed_same}
 
 -- a change is a deletion, or of one of these keys, or puts the counts of a node whose record is one of these keys and was absent
-abbrev pub IsAccounted : View → List Key → Change → Type 0
+abbrev pub IsAccounted : View → List Key → KeyChange → Type 0
 IsAccounted v ks c = (c.put ≡ None) ⊎ In c.key ks ⊎ ((p : Bytes) × (c.key ≡ CountsKey p) × In (DataKey p) ks × (seen v (key_bytes (DataKey p)) ≡ Some None))
 
 -- ---- a guarded key that the view saw is known
@@ -122,13 +122,13 @@ module _ (v : View) (ks : List Key) (p : Plan) (guards : p.guards ≡ guards_of 
     head-new : (ts : List Trigger) → IsNew known m (act_of (head_put ts))
     head-new ts = λ apart none. absurd (apart refl)
 
-    acts-new : (cs : List Change) (ts : List Trigger) → All (IsAccounted v ks) cs → All (IsNew known m) (update_acts cs ts)
+    acts-new : (cs : List KeyChange) (ts : List Trigger) → All (IsAccounted v ks) cs → All (IsNew known m) (update_acts cs ts)
     acts-new cs ts all =
         All-append (IsNew known m) (acts_of (cs ++ head_put ts ∷ [])) (read_key (key_bytes HeadKey) ∷ [])
         (All-map (IsNew known m) act_of (cs ++ head_put ts ∷ [])
-        (All-append (λ (c : Change). IsNew known m (act_of c)) cs (head_put ts ∷ []) (All-weaker (IsAccounted v ks) (λ (c : Change). IsNew known m (act_of c)) (λ c a. put-new c.key c.put a) cs all)
-        (All-cons (λ (c : Change). IsNew known m (act_of c)) (head_put ts) [] (head-new ts) (All-nil (λ (c : Change). IsNew known m (act_of c))))))
+        (All-append (λ (c : KeyChange). IsNew known m (act_of c)) cs (head_put ts ∷ []) (All-weaker (IsAccounted v ks) (λ (c : KeyChange). IsNew known m (act_of c)) (λ c a. put-new c.key c.put a) cs all)
+        (All-cons (λ (c : KeyChange). IsNew known m (act_of c)) (head_put ts) [] (head-new ts) (All-nil (λ (c : KeyChange). IsNew known m (act_of c))))))
         (All-cons (IsNew known m) (read_key (key_bytes HeadKey)) [] tt (All-nil (IsNew known m)))
 
-  pub accounted-new : (cs : List Change) (ts : List Trigger) → p.success ≡ update_acts cs ts → All (IsAccounted v ks) cs → PutsNewKeys v p
+  pub accounted-new : (cs : List KeyChange) (ts : List Trigger) → p.success ≡ update_acts cs ts → All (IsAccounted v ks) cs → PutsNewKeys v p
   accounted-new cs ts acts all = λ m s sound stands may. subst (λ (as' : List Act). All (IsNew known m) as') (sym acts) (acts-new m s stands may cs ts all)

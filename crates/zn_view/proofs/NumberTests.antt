@@ -10,9 +10,9 @@ use Rattle.ev_types.specs.declared.answer.Kv.{Kv}
 use Rattle.ev_types.specs.Store.{last_revision}
 use Rattle.zn_view.specs.Adding.{AreNumbers, AreNumbersIn, are_counts, are_numbers, has_counts, is_count}
 use Rattle.zn_view.specs.Asks.{found_in}
-use Rattle.zn_view.specs.Seen.{AreCounts, IsCount}
+use Rattle.zn_view.specs.Seen.{AreCounts, IsCountNumber}
 
-pub count-told : (n : ℤ) → (is_count n ≡ true) ↔ IsCount n
+pub count-told : (n : ℤ) → (is_count n ≡ true) ↔ IsCountNumber n
 count-told n = (
   λ e. let p = and_parts (int_le (pos 0) n) (int_le n last_revision) e in record { least = grind (arith, ints, p.0); most = grind (arith, ints, p.1) },
   λ c. and_from (int_le (pos 0) n) (int_le n last_revision) (grind (arith, ints, c.least)) (grind (arith, ints, c.most)),

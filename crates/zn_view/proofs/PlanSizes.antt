@@ -7,7 +7,7 @@ use Rattle.ev_types.specs.declared.ask.Act.{Act}
 use Rattle.ev_types.specs.declared.ask.Guard.{Guard}
 use Rattle.ev_types.specs.Sizes.{act_size, guard_size, IsSendable}
 use Rattle.zx_base.specs.Maps.{Bytes}
-use Rattle.zn_layout.specs.Changes.{Change, change_size, update_acts}
+use Rattle.zn_layout.specs.Changes.{KeyChange, change_size, update_acts}
 use Rattle.zn_layout.specs.Records.{IsHeadRec}
 use Rattle.zn_layout.specs.Updates.{update_txn}
 use Rattle.zn_layout.proofs.Denials.{update-sendable}
@@ -22,7 +22,7 @@ use Rattle.zn_view.proofs.Narrowing.{picked-each}
 use Rattle.zn_view.proofs.Sizes.{again-length, again-short, guards-length, guards-short, head-size, head_put-size, sum_by-most}
 
 -- the transaction of a plan is that of an update
-pub plan_is : (p : Plan) (guards : List Guard) (cs : List Change) (again : List Want) → p.guards ≡ guards → p.success ≡ update_acts cs p.triggers → p.again ≡ again → update_txn guards cs p.triggers (ranges_of (pos 0) again) ≡ plan_txn p
+pub plan_is : (p : Plan) (guards : List Guard) (cs : List KeyChange) (again : List Want) → p.guards ≡ guards → p.success ≡ update_acts cs p.triggers → p.again ≡ again → update_txn guards cs p.triggers (ranges_of (pos 0) again) ≡ plan_txn p
 plan_is p guards cs again g a r = λ i. record { guards = sym g i; success = sym a i; failure = ranges_of (pos 0) (sym r i) }
 
 -- no more are seen than were picked
@@ -37,7 +37,7 @@ abbrev IsShort : Bytes → Type 0
 IsShort k = length k ≤ 1033
 
 -- each key is guarded and read again
-pub plan-small : (v : View) (ks : List Bytes) (p : Plan) (cs : List Change) → length ks ≤ 127 → All IsShort ks → length cs ≤ 126 → 2066 * length ks + sum_by change_size cs + 1029 * length p.triggers ≤ 1498900 → IsHeadRec p.triggers
+pub plan-small : (v : View) (ks : List Bytes) (p : Plan) (cs : List KeyChange) → length ks ≤ 127 → All IsShort ks → length cs ≤ 126 → 2066 * length ks + sum_by change_size cs + 1029 * length p.triggers ≤ 1498900 → IsHeadRec p.triggers
     → p.guards ≡ guards_of (picked v ks) → p.again ≡ again_of (picked v ks) → p.success ≡ update_acts cs p.triggers → IsSmallPlan p
 plan-small v ks p cs few short few_changes small bounds guards again acts =
     let xs : List SeenKey = picked v ks in

@@ -15,7 +15,7 @@ use Rattle.ev_types.specs.Ranges.{is_within}
 use Rattle.ev_types.specs.Reads.{are_present_reads}
 use Rattle.ev_types.specs.Store.{mod_of}
 use Rattle.zx_base.specs.Maps.{Bytes, same}
-use Rattle.zn_layout.specs.Changes.{Change, Put, are_distinct, head_put, update_acts}
+use Rattle.zn_layout.specs.Changes.{KeyChange, Put, are_distinct, head_put, update_acts}
 use Rattle.zn_layout.specs.Keys.{HeadKey, LeaseKey, key_bytes}
 use Rattle.zn_layout.specs.Listing as layout
 use Rattle.zn_layout.specs.Records.{IsHeadRec}
@@ -33,13 +33,13 @@ use Rattle.zn_view.specs.Seen.{View, seen}
 unfoldable pub children_start : Bytes → Bytes
 children_start p = layout.children_from p
 
-unfoldable pub children_end : Bytes → Bytes
-children_end p = layout.children_end p
+unfoldable pub children_until : Bytes → Bytes
+children_until p = layout.children_end p
 
 -- the range that shows what is wanted; of children it shows the keys without their values
 abbrev pub range_of : ℤ → Want → RangeReq
 range_of r (want.Key k) = record { key = k; end = []; revision = r; limit = pos 0; keys_only = false }
-range_of r (want.Children p) = record { key = children_start p; end = children_end p; revision = r; limit = pos 0; keys_only = true }
+range_of r (want.Children p) = record { key = children_start p; end = children_until p; revision = r; limit = pos 0; keys_only = true }
 
 abbrev pub ranges_of : ℤ → List Want → List Act
 ranges_of r ws = map (λ w. act.Range (range_of r w)) ws
@@ -72,7 +72,7 @@ abbrev pub path_in : Kv → Bytes
 path_in kv = drop 9 kv.key
 
 abbrev pub is_child_of : Bytes → Kv → Bool
-is_child_of p kv = is_within (children_start p) (children_end p) kv.key
+is_child_of p kv = is_within (children_start p) (children_until p) kv.key
 
 abbrev pub paths_in : Bytes → List Kv → List Bytes
 paths_in p kvs = map path_in (filter (is_child_of p) kvs)
@@ -146,13 +146,13 @@ pub record IsAskedPlan (who : Who) (v : View) (p : Plan) : Type 0 where
 
 -- ---- what a plan writes
 
-abbrev pub IsLeaseless : Change → Type 0
+abbrev pub IsLeaseless : KeyChange → Type 0
 IsLeaseless c = IfSome c.put (λ (w : Put). w.lease ≡ pos 0)
 
 -- It writes keys of the service alone, and no put has a lease. The head is put last, with what watches see, and then read. Where a
 -- guard does not hold nothing is written.
 pub record WritesOwnKeys (p : Plan) : Type 0 where
-  pub changes : List Change
+  pub changes : List KeyChange
   pub acts : p.success ≡ update_acts changes p.triggers
   pub leases : All IsLeaseless changes
   pub triggers : IsHeadRec p.triggers

@@ -130,9 +130,9 @@ abbrev pub view_size : View → ℕ
 view_size v = sum_by seen_size v.keys
 
 -- the most that a kept view has
-abbrev pub max_kept : ℕ
-max_kept = 65536
+abbrev pub max_kept_view : ℕ
+max_kept_view = 65536
 
 -- the view as it is kept: without lists of children; None where it is too large
 abbrev pub trimmed : View → Option View
-trimmed v = if nat_le (view_size v) max_kept then Some (record v { lists = [] }) else None
+trimmed v = if nat_le (view_size v) max_kept_view then Some (record v { lists = [] }) else None

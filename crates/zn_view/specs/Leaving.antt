@@ -12,7 +12,7 @@ use Rattle.zk_model.specs.Single.{form_refusal, is_ephemeral, is_sequential, mat
 use Rattle.zx_base.specs.Maps.{Bytes, same}
 use Rattle.zn_layout.specs.declared.record.CountRec.{CountRec}
 use Rattle.zn_layout.specs.declared.record.NodeRec.{NodeRec}
-use Rattle.zn_layout.specs.Begin.{no_counts}
+use Rattle.zn_layout.specs.Begin.{first_counts}
 use Rattle.zn_layout.specs.Keys.{Key, CountsKey, DataKey, SessionKey, key_bytes}
 use Rattle.zn_layout.specs.Reading.{IsValueOf}
 use Rattle.zn_layout.specs.Records.{counts_value, node_value, session_value, IsCountRec, IsNodeRec, IsSessionRec}
@@ -45,7 +45,7 @@ one_child_less c = record { creates = c.creates; children = pos (nat_abs c.child
 
 -- the counts of the node at p
 abbrev pub counts_with : Bytes → Option (Option CountRec) → TreeChange → Option (Option CountRec)
-counts_with p c (Created q owner) = if same q p then Some (Some no_counts) else (if is_child p q then option_map (option_map one_child_more) c else c)
+counts_with p c (Created q owner) = if same q p then Some (Some first_counts) else (if is_child p q then option_map (option_map one_child_more) c else c)
 counts_with p c (Deleted q owner) = if same q p then Some None else (if is_child p q then option_map (option_map one_child_less) c else c)
 counts_with p c (DataSet q) = c
 

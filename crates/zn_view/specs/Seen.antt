@@ -65,8 +65,8 @@ kind_in first =
     else None
 
 -- the kind that a key's first bytes tell; each key of the layout has one
-abbrev pub kind_of : Bytes → Option Kind
-kind_of key = if same key (codes "zk/head") then Some Head else kind_in (take 5 key)
+abbrev pub kind_of_bytes : Bytes → Option Kind
+kind_of_bytes key = if same key (codes "zk/head") then Some Head else kind_in (take 5 key)
 
 -- a value is a record of a kind, within the record's bounds; without a kind any value will do
 abbrev pub IsOfKind : Option Kind → Bytes → Type 0
@@ -79,16 +79,16 @@ IsOfKind (Some Life) value = IsSomeValue lease_value IsLeaseRec value
 
 -- what is kept under a key is a record of the key's kind
 abbrev pub IsRecord : Kv → Type 0
-IsRecord kv = IsOfKind (kind_of kv.key) kv.value
+IsRecord kv = IsOfKind (kind_of_bytes kv.key) kv.value
 
 -- a number that an etcd's revisions, versions and counts can have
-pub record IsCount (n : ℤ) : Type 0 where
+pub record IsCountNumber (n : ℤ) : Type 0 where
   pub least : pos 0 ≤ℤ n
   pub most : n ≤ℤ last_revision
 
 pub record AreCounts (kv : Kv) : Type 0 where
-  pub revision : IsCount kv.mod_revision
-  pub version : IsCount kv.version
+  pub revision : IsCountNumber kv.mod_revision
+  pub version : IsCountNumber kv.version
 
 -- what was found is kept under the key that was looked up, is a record of the key's kind, and has numbers in an etcd's range
 pub record IsFound (key : Bytes) (kv : Kv) : Type 0 where
@@ -101,5 +101,5 @@ IsSeen x = IfSome x.found (IsFound x.key)
 
 -- what each view keeps
 pub record IsKept (v : View) : Type 0 where
-  pub revision : IsCount v.revision
+  pub revision : IsCountNumber v.revision
   pub keys : All IsSeen v.keys

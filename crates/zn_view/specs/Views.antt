@@ -19,11 +19,11 @@ use Rattle.zk_model.specs.declared.request.Request.TheVariants as req
 use Rattle.zk_model.specs.Paths.{is_path, parent}
 use Rattle.zk_model.specs.Single.{form_refusal, is_ephemeral, is_sequential, named}
 use Rattle.zk_model.specs.Watches.{Watches, no_watches, arm_data, arm_children}
-use Rattle.zk_transcript.specs.Answers.{Told, limit_in, plain_request, tree_reply}
+use Rattle.zk_transcript.specs.Answers.{Told, owned_limit_in, plain_request, tree_reply}
 use Rattle.zk_transcript.specs.History.{State, Session, Commit, IsSound, commit, committed, limit_of, session_at, session_ended}
 use Rattle.zx_base.specs.Maps.{Bytes}
-use Rattle.zn_layout.specs.Changes.{Change}
-use Rattle.zn_layout.specs.Fits.{Fits}
+use Rattle.zn_layout.specs.Changes.{KeyChange}
+use Rattle.zn_layout.specs.Fits.{ChangesFit}
 use Rattle.zn_layout.specs.Keys.{Key, HeadKey, DataKey, CountsKey, SessionKey, key_bytes}
 use Rattle.zn_layout.specs.Listing.{HasValidPaths}
 use Rattle.zn_layout.specs.StandsFor.{StandsFor}
@@ -34,14 +34,14 @@ use Rattle.zn_view.specs.declared.plan.Plan.{Plan}
 use Rattle.zn_view.specs.declared.plan.Who.{Who}
 use Rattle.zn_view.specs.declared.snapshot.SeenKey.{SeenKey}
 use Rattle.zn_view.specs.declared.snapshot.SeenChildren.{SeenChildren}
-use Rattle.zn_view.specs.Asks.{children_start, children_end, plan_txn}
+use Rattle.zn_view.specs.Asks.{children_start, children_until, plan_txn}
 use Rattle.zn_view.specs.Seen.{View, seen}
 
 -- ---- a view of a state
 
 -- the paths of the data keys in the range of a node's children, in the order of their bytes
 unfoldable pub children_kept : Keys → Bytes → List Bytes
-children_kept m p = map (drop 9) (keys (retain_keys m (is_within (children_start p) (children_end p))))
+children_kept m p = map (drop 9) (keys (retain_keys m (is_within (children_start p) (children_until p))))
 
 -- what the view saw under each key, and listed of each node's children, is so in these keys
 pub record Agrees (v : View) (m : Keys) : Type 0 where
@@ -171,7 +171,7 @@ pub record MayCommit (p : Plan) (v : View) (m : Keys) : Type 0 where
 
 -- how many nodes a session may own
 abbrev pub limit_at : ℤ → State → ℕ
-limit_at id s = limit_in (session_at id s)
+limit_at id s = owned_limit_in (session_at id s)
 
 -- what an update of a session does at a zxid and a time in milliseconds, and what it answers
 abbrev pub done_by : State → ℤ → ℤ → Request → ℕ → Option Commit
@@ -205,6 +205,6 @@ IsSmallPlan p = IsSendable (plan_txn p)
 -- ---- what is to be shown of a request that is an update
 
 -- the update is done, and the changes of keys lead from the state to the one after it
-pub record IsMade (r : Request) (who : Who) (now : ℕ) (finish : ℤ → Reply) (cs : List Change) (ts : List Trigger) (s : State) (z : ℤ) : Type 0 where
+pub record IsMade (r : Request) (who : Who) (now : ℕ) (finish : ℤ → Reply) (cs : List KeyChange) (ts : List Trigger) (s : State) (z : ℤ) : Type 0 where
   pub is_done : IsDone s z who.session r now ts (finish z)
-  pub fits : Fits z cs s (state_after s z who.session r now)
+  pub fits : ChangesFit z cs s (state_after s z who.session r now)

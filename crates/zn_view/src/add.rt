@@ -3,7 +3,7 @@
 ghost use Rattle.std.specs.Prelude.{◌≡◌, option_copied, All, IfOk, IfErr, IfSome, OnOk, OnErr};
 ghost use Rattle.zn_view.specs.Adding.{at_revision, AreRecords, AreNumbers, AreNumbersIn, IsOtherRevision, IsViewFault, IsRecordPart, IsPartFault, IsPartsFault, IsDamagedFault, IsKeyFault, IsGrown, with_key, with_list};
 ghost use Rattle.zn_view.specs.Asks.{with_part, with_parts, kept_under, found_in, paths_in};
-ghost use Rattle.zn_view.specs.Seen.{IsCount, IsRecord, AreCounts};
+ghost use Rattle.zn_view.specs.Seen.{IsCountNumber, IsRecord, AreCounts};
 
 use crate::children::paths_among;
 use crate::fault::ViewFault;
@@ -72,7 +72,7 @@ impl View {
     /// first in the order of the wants), and without memory. The revision and the numbers of what was found are from 0 to
     /// 2^62 - 1. It copies each value once, and a key once for itself and once with its value.
     pub fn add(&mut self, wants: &[Want], revision: i64, parts: &[ActAns]) -> Result<(), ViewFault>
-        requires revision { IsCount revision }
+        requires revision { IsCountNumber revision }
         requires numbers { AreNumbers parts.now }
         ensures ok { OnOk result (self.new ≡ with_parts (at_revision self.old revision) wants.now parts.now) }
         ensures same_revision { OnOk result (IsOtherRevision self.old revision → ⊥) }

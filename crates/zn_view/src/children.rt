@@ -7,7 +7,7 @@ ghost use Rattle.zk_model.specs.Paths.{root};
 ghost use Rattle.zx_base.specs.Maps.{Bytes as ByteList, same};
 ghost use Rattle.zn_layout.specs.Keys.{digit as decimal_digit};
 ghost use Rattle.zn_layout.specs.Listing.{base, child_front};
-ghost use Rattle.zn_view.specs.Asks.{children_start as first_child, children_end as after_children, is_child_of, path_in, paths_in};
+ghost use Rattle.zn_view.specs.Asks.{children_start as first_child, children_until as after_children, is_child_of, path_in, paths_in};
 
 use ev_types::Kv;
 use std::alloc::Global;

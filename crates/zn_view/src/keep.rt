@@ -3,9 +3,9 @@
 ghost use Rattle.std.specs.Prelude.{[], ◌≡◌, ◌↔◌, ◌+◌, ◌<◌, nat_le, sum_by, All, IfOk, IfSome, IsTrue, MatchOption, OnOk, Some, None, option_copied};
 ghost use Rattle.ev_types.specs.Store.{put_over as put_over_of};
 ghost use Rattle.zn_layout.specs.Keys.{HeadKey, key_bytes};
-ghost use Rattle.zn_view.specs.Keeping.{AreLeft, IsActKept, IsAfter, IsLeftBeside, act_seen, guard_seen, guarded_seen, max_kept, seen_as, seen_size, trimmed as trimmed_of};
+ghost use Rattle.zn_view.specs.Keeping.{AreLeft, IsActKept, IsAfter, IsLeftBeside, act_seen, guard_seen, guarded_seen, max_kept_view, seen_as, seen_size, trimmed as trimmed_of};
 ghost use Rattle.zn_view.specs.Laying.{placed};
-ghost use Rattle.zn_view.specs.Seen.{IsCount, IsFound, IsSeen, found_of, seen, seen_in};
+ghost use Rattle.zn_view.specs.Seen.{IsCountNumber, IsFound, IsSeen, found_of, seen, seen_in};
 
 use crate::guards::is_head;
 use crate::kind::is_record;
@@ -71,7 +71,7 @@ fn put_over(
     lease: i64,
     old: Option<&Kv>,
 ) -> Result<Kv, Memory>
-    requires { IfSome (option_copied old) (λ kv. IsCount kv.version) }
+    requires { IfSome (option_copied old) (λ kv. IsCountNumber kv.version) }
     ensures { IfOk result (λ kv. kv ≡ put_over_of revision key.now value.now lease (option_copied old.entry)) }
 {
     let (create_revision, version) = match old {
@@ -105,7 +105,7 @@ fn is_found(alloc: Global, kv: &Kv) -> Result<bool, Memory>
 fn known<'a>(keys: &'a [SeenKey], key: &[u8]) -> Option<&'a Kv>
     requires { All IsSeen keys.now }
     ensures is { option_copied result ≡ found_of (seen_in key.now keys.now) }
-    ensures counts { IfSome (option_copied result) (λ kv. IsCount kv.version) }
+    ensures counts { IfSome (option_copied result) (λ kv. IsCountNumber kv.version) }
 {
     match found_among(keys, key) {
         Some(found) => found,
@@ -209,7 +209,7 @@ fn with_head(
     revision: i64,
     head: &Kv,
 ) -> Result<Option<View>, Memory>
-    requires revision { IsCount revision }
+    requires revision { IsCountNumber revision }
     requires kept { All IsSeen keys }
     ensures { IfOk result (λ v. IsLeftBeside revision head.now (Some keys) v) }
 {
@@ -235,7 +235,7 @@ fn left_after(room: usize, seen: &SeenKey) -> Option<usize>
 
 /// Whether the keys, absent ones too, and the values have at most `MAX_KEPT` bytes. It stops at the first key past them.
 fn is_small(keys: &[SeenKey]) -> bool
-    ensures { result ≡ nat_le (sum_by seen_size keys.now) max_kept }
+    ensures { result ≡ nat_le (sum_by seen_size keys.now) max_kept_view }
 {
     let mut room = MAX_KEPT;
     for seen in keys {
@@ -297,7 +297,7 @@ impl View {
         revision: i64,
         head: &Kv,
     ) -> Result<Option<View>, Memory>
-        requires { IsCount revision }
+        requires { IsCountNumber revision }
         ensures { IfOk result (IsAfter self.now guards.now writes.now revision head.now) }
     {
         let alloc = self.allocator();

@@ -2,7 +2,7 @@
 
 ghost use Rattle.std.specs.Prelude.{◌≡◌, ◌↔◌, IfOk, IsTrue, Some};
 ghost use Rattle.zn_view.specs.declared.kind.Kind.TheVariants.{Head, Nodes};
-ghost use Rattle.zn_view.specs.Seen.{kind_of as kind_of_bytes, IsOfKind, IsRecord};
+ghost use Rattle.zn_view.specs.Seen.{kind_of_bytes, IsOfKind, IsRecord};
 
 use ev_types::Kv;
 use std::alloc::Global;

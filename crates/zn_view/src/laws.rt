@@ -21,7 +21,7 @@ ghost use Rattle.zk_model.specs.Znodes.{children};
 ghost use Rattle.zk_transcript.specs.Answers.{Told, plain_request, tree_reply};
 ghost use Rattle.zk_transcript.specs.History.{State, Session, IsSound, limit_of, session_at};
 ghost use Rattle.zx_base.specs.Maps.{Bytes as ByteList};
-ghost use Rattle.zn_layout.specs.Changes.{Change, last, update_acts};
+ghost use Rattle.zn_layout.specs.Changes.{KeyChange, last, update_acts};
 ghost use Rattle.zn_layout.specs.Keys.{HeadKey, key_bytes};
 ghost use Rattle.zn_layout.specs.Records.{IsHeadRec};
 ghost use Rattle.zn_layout.specs.Listing.{HasValidPaths};
@@ -92,13 +92,13 @@ pub fn some_keys_are_enough()
 /// A plan that guards all that its view saw carries its update out where its changes are those of the update in each sound state
 /// whose keys have what the view saw.
 pub fn a_plan_commits()
-    ensures { (r : Request) (who : AnyWho) (now : ℕ) (v : View) (p : AnyPlan) (finish : ℤ → AnyReply) (cs : List Change) → p.guards ≡ guards_of v.keys → p.success ≡ update_acts cs p.triggers → IsHeadRec p.triggers → last cs HeadKey ≡ None → ((m : Keys) (s : State) (z : ℤ) → IsSound s → StandsFor m s → AreAsSeen v m → s.zxid <ℤ z → z ≤ℤ last_revision → IsMade r who now finish cs p.triggers s z) → IsPlan r who now v p finish }
+    ensures { (r : Request) (who : AnyWho) (now : ℕ) (v : View) (p : AnyPlan) (finish : ℤ → AnyReply) (cs : List KeyChange) → p.guards ≡ guards_of v.keys → p.success ≡ update_acts cs p.triggers → IsHeadRec p.triggers → last cs HeadKey ≡ None → ((m : Keys) (s : State) (z : ℤ) → IsSound s → StandsFor m s → AreAsSeen v m → s.zxid <ℤ z → z ≤ℤ last_revision → IsMade r who now finish cs p.triggers s z) → IsPlan r who now v p finish }
 {}
 
 /// A plan that guards all that its view saw, reads it again, and has an update's operations may be asked of an etcd where the
 /// view saw that the session is attached here. What a view of a state saw was put at revision 1 or later.
 pub fn a_plan_may_be_asked()
-    ensures asked { (who : AnyWho) (v : View) (p : AnyPlan) (cs : List Change) (ts : List AnyTrigger) (kv : KeyValue) → p.guards ≡ guards_of v.keys → p.again ≡ again_of v.keys → p.success ≡ update_acts cs ts → life_seen v who ≡ Some (Some kv) → kv.mod_revision ≡ who.mine → IsAskedPlan who v p }
+    ensures asked { (who : AnyWho) (v : View) (p : AnyPlan) (cs : List KeyChange) (ts : List AnyTrigger) (kv : KeyValue) → p.guards ≡ guards_of v.keys → p.again ≡ again_of v.keys → p.success ≡ update_acts cs ts → life_seen v who ≡ Some (Some kv) → kv.mod_revision ≡ who.mine → IsAskedPlan who v p }
     ensures put { (v : View) (m : Keys) (s : State) → StandsFor m s → Agrees v m → All WasPut v.keys }
 {}
 

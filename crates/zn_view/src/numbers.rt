@@ -2,7 +2,7 @@
 
 ghost use Rattle.std.specs.Prelude.{◌≡◌, ◌↔◌, IsTrue};
 ghost use Rattle.zn_view.specs.Adding.{AreNumbers, are_counts, are_numbers, has_counts, is_count};
-ghost use Rattle.zn_view.specs.Seen.{IsCount};
+ghost use Rattle.zn_view.specs.Seen.{IsCountNumber};
 
 use ev_types::{ActAns, Kv};
 
@@ -12,7 +12,7 @@ const MAX_COUNT: i64 = 4_611_686_018_427_387_903;
 /// Whether this is a number that an etcd's revisions, versions and counts can have: from 0 to 2^62 - 1.
 pub fn is_count(number: i64) -> bool
     ensures is { result ≡ is_count number }
-    ensures count { IsTrue result ↔ IsCount number }
+    ensures count { IsTrue result ↔ IsCountNumber number }
 {
     0 <= number && number <= MAX_COUNT
 }

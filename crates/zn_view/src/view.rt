@@ -4,7 +4,7 @@ ghost use Rattle.std.specs.Prelude.{◌≡◌, [], ◌≤◌, ◌+◌, ◌∷◌
 ghost use Rattle.zn_view.specs.declared.snapshot.SeenKey.{SeenKey as AnySeen};
 ghost use Rattle.zn_view.specs.Adding.{is_new, with_key, with_list, first_of};
 ghost use Rattle.zn_view.specs.Laying.{placed, with_laid};
-ghost use Rattle.zn_view.specs.Seen.{empty_view, IsCount, IsSeen};
+ghost use Rattle.zn_view.specs.Seen.{empty_view, IsCountNumber, IsSeen};
 
 use crate::snapshot::{SeenChildren, SeenKey};
 use std::alloc::Global;
@@ -24,7 +24,7 @@ pub struct View {
 impl Model for View {
     ghost use Rattle.std.specs.Prelude.{All};
     ghost use Rattle.zn_view.specs.declared.snapshot.Snapshot.{Snapshot};
-    ghost use Rattle.zn_view.specs.Seen.{IsCount, IsSeen};
+    ghost use Rattle.zn_view.specs.Seen.{IsCountNumber, IsSeen};
 
     ghost Value = { Snapshot };
 
@@ -34,7 +34,7 @@ impl Model for View {
       lists = v.lists.items;
     } };
 
-    ghost invariant = { λ v. IsCount v.revision × All IsSeen v.keys.items };
+    ghost invariant = { λ v. IsCountNumber v.revision × All IsSeen v.keys.items };
 }
 
 /// The first place at which this key stands; where it is not there, the number of keys.
@@ -66,7 +66,7 @@ pub(crate) fn lay_in(keys: &mut Vec<SeenKey>, seen: SeenKey) -> Result<(), Memor
 
 /// A view of these keys, without lists of children.
 pub(crate) fn viewed_at(alloc: Global, revision: i64, keys: Vec<SeenKey>) -> View
-    requires revision { IsCount revision }
+    requires revision { IsCountNumber revision }
     requires kept { All IsSeen keys.items }
     ensures { result ≡ record { revision = revision; keys = keys.items; lists = [] } }
 {
@@ -100,7 +100,7 @@ impl View {
 
     pub(crate) fn counted_revision(&self) -> i64
         ensures is { result ≡ self.now.revision }
-        ensures count { IsCount result }
+        ensures count { IsCountNumber result }
     {
         self.revision
     }
@@ -158,7 +158,7 @@ impl View {
 
     /// Sets the revision.
     pub(crate) fn begin_at(&mut self, revision: i64)
-        requires { IsCount revision }
+        requires { IsCountNumber revision }
         ensures { self.new ≡ record self.old { revision = revision } }
     {
         self.revision = revision;

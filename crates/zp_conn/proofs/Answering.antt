@@ -55,8 +55,8 @@ use Rattle.zp_step.specs.Looking.{IfRecords, Looks, change_by, decided, expired,
 use Rattle.zp_step.specs.Plans.{Committed, finishes}
 use Rattle.zp_step.specs.Replies.{Is, close_after, closed_by, is_due, replied, send_notices, stage_after, waits}
 use Rattle.zp_step.specs.Stages.{Core, Pending, Stage, Unconnected, Connecting, Ready, KeepingAlive, Checking, Reading, Committing, Waiting, Shut, is_shut, seen_by, wanted_in}
-use Rattle.zp_step.specs.Steps.{Answers, Comes, Goes, Handles, MayTake, Steps, StepsOpen, awaits_entry, counted, queued, rests, takes}
-use Rattle.zp_step.specs.Taking.{Takes, TakesReadable, end_of_plain, plainly}
+use Rattle.zp_step.specs.Steps.{Answers, Comes, Goes, Handles, MayTake, Steps, StepsOpen, awaits_entry, with_frame_counted, queued, rests, takes}
+use Rattle.zp_step.specs.Taking.{TakesFrame, TakesReadable, end_of_plain, plainly}
 use Rattle.zp_step.specs.declared.action.Action.{Action}
 use Rattle.zp_step.specs.declared.action.Action.TheVariants as action
 use Rattle.zp_step.specs.declared.input.Input.{Input}
@@ -259,12 +259,12 @@ module _ (fs : List (List ℕ)) where
         go (inl y) = decided-row (record c { views = y.views }) c' xid r y.view now out (Planned y.plan) w work y.is
         go (inr y) = looks-row c c' xid r empty_view now out w work y
 
-    takes-row : (c c' : Core) (bytes : List ℕ) (now : ℕ) (out : List Action) → c.waiting ≡ [] → IsServed (bytes ∷ []) fs ps → Takes c bytes now c' out → Row fs ps c' out
+    takes-row : (c c' : Core) (bytes : List ℕ) (now : ℕ) (out : List Action) → c.waiting ≡ [] → IsServed (bytes ∷ []) fs ps → TakesFrame c bytes now c' out → Row fs ps c' out
     takes-row c c' bytes now out w s h = readable-row c c' bytes now out (read_request bytes) (plain_reply no_watches (read_request bytes)) w s refl h
 
     takes-up-row : (c c' : Core) (bytes : List ℕ) (now : ℕ) (out : List Action) → c.waiting ≡ [] → IsServed (bytes ∷ []) fs ps → TakesUp c bytes now c' out → Row fs ps c' out
     takes-up-row c c' bytes now out w s h =
-        either (is_alive_due c.kept now c.timeout) (Is (keeps_alive c bytes now) c' out) (Takes c bytes now c' out) (Row fs ps c' out) h
+        either (is_alive_due c.kept now c.timeout) (Is (keeps_alive c bytes now) c' out) (TakesFrame c bytes now c' out) (Row fs ps c' out) h
         (asks-row ps (record c { stage = KeepingAlive bytes; kept = now }) c' _ out w refl s)
         (takes-row c c' bytes now out w s)
 
@@ -273,7 +273,7 @@ module _ (fs : List (List ℕ)) where
     still-row : (c c' : Core) (bytes : List ℕ) (v : View) (now : ℕ) (out : List Action) (o : Option Kv) → c.waiting ≡ [] → IsServed (bytes ∷ []) fs ps → StillMine c bytes v now c' out o → Row fs ps c' out
     still-row c c' bytes v now out None w s h = waits-row ps c c' (expired v (xid_of (read_request bytes))) out w (bytes, refl, s) h
     still-row c c' bytes v now out (Some kv) w s h =
-        either (int_eq kv.mod_revision c.who.mine) (Takes c bytes now c' out) (Is (waits c (moved c.who v kv.mod_revision (xid_of (read_request bytes)))) c' out) (Row fs ps c' out) h
+        either (int_eq kv.mod_revision c.who.mine) (TakesFrame c bytes now c' out) (Is (waits c (moved c.who v kv.mod_revision (xid_of (read_request bytes)))) c' out) (Row fs ps c' out) h
         (takes-row c c' bytes now out w s)
         (waits-row ps c c' (moved c.who v kv.mod_revision (xid_of (read_request bytes))) out w (bytes, refl, s))
 
@@ -312,7 +312,7 @@ module _ (fs : List (List ℕ)) where
     answers-row c c' a now out (Unconnected fresh) w k h = absurd h
     answers-row c c' a now out (Connecting connect) w k h = connects-row c c' connect k.0 (Some a) now out w k.1 k.2 h
     answers-row c c' a now out (KeepingAlive bytes) w k h = of_alive a _ (Row fs ps c' out) h (λ ttl f.
-        either (int_eq ttl (pos 0)) (Is (checks c bytes) c' out) (Takes c bytes now c' out) (Row fs ps c' out) f
+        either (int_eq ttl (pos 0)) (Is (checks c bytes) c' out) (TakesFrame c bytes now c' out) (Row fs ps c' out) f
         (asks-row ps (record c { stage = Checking bytes }) c' _ out w refl k)
         (takes-row c c' bytes now out w k))
     answers-row c c' a now out (Checking bytes) w k h = of_txn a _ (Row fs ps c' out) h (λ z b parts f.
@@ -380,7 +380,7 @@ module _ (fs ps : List (List ℕ)) (c c' : Core) (now : ℕ) (out : List Action)
 
   frame-row : (bytes : List ℕ) (st : Stage) → c.stage ≡ st → awaits_frame (wanted_in c st) ≡ true → HasAnswered st fs ps → (mid : Core) (first later : List Action) → Comes c bytes now mid first st → Goes now mid c' later → out ≡ first ++ later → Row (fs ++ bytes ∷ []) ps c' out
   frame-row bytes (Unconnected fresh) is a k mid first later h g o =
-      settled (fs ++ bytes ∷ []) ps mid c' now first later out (opens-row (fs ++ bytes ∷ []) ps (counted c bytes) mid c.taken fresh bytes now first (read_connect bytes) w (ap (λ l. l ++ bytes ∷ []) k.0) k.1 h) g o
+      settled (fs ++ bytes ∷ []) ps mid c' now first later out (opens-row (fs ++ bytes ∷ []) ps (with_frame_counted c bytes) mid c.taken fresh bytes now first (read_connect bytes) w (ap (λ l. l ++ bytes ∷ []) k.0) k.1 h) g o
   frame-row bytes Ready is a k mid first later h g o =
       either (has_header (read_request bytes)) (Is (queued c bytes, []) mid first) (Is (closed_by c (cause.NoHeader c.taken)) mid first) (Row (fs ++ bytes ∷ []) ps c' out) h
       (λ i. subst (Row (fs ++ bytes ∷ []) ps c') (sym (o ∙ ap (λ l. l ++ later) i.1)) (goes-one (fs ++ bytes ∷ []) ps now mid c' bytes later (ap (λ (d : Core). d.stage) i.0 ∙ is) (ap (λ (d : Core). d.waiting) i.0 ∙ ap (λ l. l ++ bytes ∷ []) w) served g))

@@ -3,7 +3,7 @@ use Rattle.std.proofs.Common.{◌≡◌, ℕ, ◌+◌, ◌-◌, ◌≤◌, ◌^�
 use Rattle.std.specs.Prelude.{Option, Some, None, Result, Ok, Err, ◌⊎◌}
 use Rattle.zk_jute.specs.Frames.{Framed, bad_length}
 use Rattle.zk_jute.proofs.Framing.{framed_join, bad_stays, bad_rest}
-use Rattle.zk_wire.specs.Cutting.{Hands, Refuses, Stands, Stream}
+use Rattle.zk_wire.specs.Cutting.{Hands, CutRefuses, CutStands, Stream}
 use Rattle.zk_wire.specs.declared.cutter.CutFault.TheVariants.{BadLength, Memory}
 use Rattle.zk_wire.specs.declared.cutter.CutFault.{CutFault}
 use Rattle.zx_base.proofs.Options.{some_none}
@@ -87,7 +87,7 @@ module _ (read piece : List ℕ) (handed : List (List ℕ)) (old new : InboxStat
   cut_holds ((v, takes, items), count) = cut-any v.items takes (h.stands).held items count
 
   -- a length out of range is met
-  module _ (place : ℕ) (n : ℤ) (r : Refuses old.stream piece place n new.stream) where
+  module _ (place : ℕ) (n : ℤ) (r : CutRefuses old.stream piece place n new.stream) where
     bad-after : bad_length (rest ++ piece) ≡ Some n
     bad-after = still-bad rest (old.stream).rest piece n (h.stands).held r.bad
 

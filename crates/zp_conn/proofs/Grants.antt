@@ -5,7 +5,7 @@ use Rattle.std.proofs.lemmas.Int.{ints}
 use Rattle.ev_call.specs.Asks.{IsGrantable}
 use Rattle.ev_types.specs.declared.ask.Ask.{Ask}
 use Rattle.zk_transcript.specs.History.{granted_timeout}
-use Rattle.zs_session.specs.Connecting.{asked_in}
+use Rattle.zs_session.specs.Connecting.{asked_in_phase}
 use Rattle.zs_session.specs.Sessions.{lease_seconds}
 use Rattle.zs_session.specs.declared.connect.Connect.{Connect}
 use Rattle.zs_session.specs.declared.connect.Phase.{Phase}
@@ -17,7 +17,7 @@ use Rattle.zx_base.proofs.Options.{none_some, some_is}
 few-seconds : (asked : ℤ) → lease_seconds (granted_timeout asked) <ℤ pos (2 ^ 62)
 few-seconds asked = grind (arith, ints)
 
-granted-phase : (c : Connect) (p : Phase) (a : Ask) → pos 1 ≤ℤ c.fresh.id → asked_in c p ≡ Some a → IsGrantable a
+granted-phase : (c : Connect) (p : Phase) (a : Ask) → pos 1 ≤ℤ c.fresh.id → asked_in_phase c p ≡ Some a → IsGrantable a
 granted-phase c Unasked a least h = absurd (none_some h)
 granted-phase c Looking a least h = subst IsGrantable (some_is h) tt
 granted-phase c Granting a least h = subst IsGrantable (some_is h) (least, grind (arith, ints), few-seconds c.request.timeout)

@@ -1,11 +1,11 @@
 -- What came of a client's stream, and what of it was handed in.
 use Rattle.std.specs.Prelude.{◌≡◌, ℕ, ℤ, ◌+◌, ◌-◌, Bool, true, List, [], ◌∷◌, ◌++◌, length, Option, Some, None, Result, Ok, Err}
 use Rattle.std.specs.Global.{Vec}
-use Rattle.zk_wire.specs.Cutting.{Takes as CutterTakes}
+use Rattle.zk_wire.specs.Cutting.{CutTakes as CutterTakes}
 use Rattle.zk_wire.specs.declared.cutter.CutFault.{CutFault}
 use Rattle.zk_wire.specs.declared.cutter.CutFault.TheVariants as faults
 use Rattle.zk_jute.specs.Frames.{Framed, bad_length}
-use Rattle.zk_wire.specs.Cutting.{Stands, Stream}
+use Rattle.zk_wire.specs.Cutting.{CutStands, Stream}
 use Rattle.zp_step.specs.Stages.{counted_up}
 use Rattle.zx_outside.specs.Counts.{one_more}
 use Rattle.zx_outside.specs.Reading.{Gives}
@@ -20,7 +20,7 @@ pub record InboxState : Type 0 where
 
 -- after the bytes `read`, of whose frames these were handed in
 pub record Holds (read : List ℕ) (given : List (List ℕ)) (i : InboxState) : Type 0 where
-  pub stands : Stands read (given ++ i.frames) i.stream
+  pub stands : CutStands read (given ++ i.frames) i.stream
   pub placed : (i.stream).place ≡ counted_up (length read - length stands.rest)
   pub counted : i.count ≡ counted_up (length read)
 

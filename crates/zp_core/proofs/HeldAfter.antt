@@ -24,7 +24,7 @@ use Rattle.zn_layout.specs.declared.entry.Entry.{Entry}
 use Rattle.zn_view.specs.Adding.{at_revision, is_new}
 use Rattle.zn_view.specs.Asks.{with_part, with_parts}
 use Rattle.zn_view.specs.Lookups.{found_at}
-use Rattle.zn_view.specs.Seen.{IsCount, View, empty_view}
+use Rattle.zn_view.specs.Seen.{IsCountNumber, View, empty_view}
 use Rattle.zn_view.specs.declared.plan.Decision.{Decision}
 use Rattle.zn_view.specs.declared.plan.Decision.TheVariants.{Answered, Planned, Expired, Moved}
 use Rattle.zn_view.specs.declared.plan.Plan.{Plan}
@@ -32,7 +32,7 @@ use Rattle.zn_view.specs.declared.want.Want.{Want}
 use Rattle.zn_view.specs.declared.want.Want.TheVariants as want
 use Rattle.zs_session.specs.Alive.{is_alive_due}
 use Rattle.zs_session.specs.Answering.{IsAwaited, viewed}
-use Rattle.zs_session.specs.Connecting.{IsHeld as IsHeldConnect}
+use Rattle.zs_session.specs.Connecting.{IsConnectHeld as IsHeldConnect}
 use Rattle.zs_session.specs.declared.connect.Connect.{Connect}
 use Rattle.zs_session.specs.declared.connect.ConnectStep.{ConnectStep}
 use Rattle.zs_session.specs.declared.connect.ConnectStep.TheVariants as steps
@@ -52,8 +52,8 @@ use Rattle.zp_step.specs.Looking.{IfRecords, Looks, asks_for, change_by, decided
 use Rattle.zp_step.specs.Plans.{CommitAnswered, ReadOn, finishes}
 use Rattle.zp_step.specs.Replies.{Is, closed_by, is_due, replied, stage_after, waits}
 use Rattle.zp_step.specs.Stages.{Core, Pending, Stage, Unconnected, Connecting, Ready, KeepingAlive, Checking, Reading, Committing, Waiting, Shut, asked_of, counted_up, is_shut, seen_by}
-use Rattle.zp_step.specs.Steps.{Answers, Comes, Handles, IsFit, counted, queued}
-use Rattle.zp_step.specs.Taking.{Takes, TakesReadable, end_of_plain, plainly}
+use Rattle.zp_step.specs.Steps.{Answers, Comes, Handles, IsFit, with_frame_counted, queued}
+use Rattle.zp_step.specs.Taking.{TakesFrame, TakesReadable, end_of_plain, plainly}
 use Rattle.zp_core.specs.Held.{IsFrame, IsHeld, IsHeldIn, IsReal, IsRequest, IsServing}
 
 -- ---- a request that came in a frame
@@ -65,14 +65,14 @@ request-of bytes xid r f read = record {
 
 -- ---- the revision of a view
 
-none-yet : IsCount (pos 0)
+none-yet : IsCountNumber (pos 0)
 none-yet = record { least = search rules; most = search rules }
 
-begun-count : (b : Bool) (v : View) (z : ℤ) → IsCount v.revision → IsCount z → IsCount (if b then record v { revision = z } else v).revision
+begun-count : (b : Bool) (v : View) (z : ℤ) → IsCountNumber v.revision → IsCountNumber z → IsCountNumber (if b then record v { revision = z } else v).revision
 begun-count true v z first count = count
 begun-count false v z first count = first
 
-pub count-at : (v : View) (z : ℤ) → IsCount v.revision → IsCount z → IsCount (at_revision v z).revision
+pub count-at : (v : View) (z : ℤ) → IsCountNumber v.revision → IsCountNumber z → IsCountNumber (at_revision v z).revision
 count-at v z first count = begun-count (is_new v) v z first count
 
 revision-parts : (v : View) (ws : List Want) (parts : List ActAns) → (with_parts v ws parts).revision ≡ v.revision
@@ -110,7 +110,7 @@ module _ (c : Core) (real : IsReal c.who.session) (frames : All IsFrame c.waitin
 
 module _ (c : Core) (real : IsReal c.who.session) (frames : All IsFrame c.waiting) where
   module _ (now : ℕ) (c' : Core) (out : List Action) where
-    pub looks-held : (xid : ℤ) (r : Request) (v : View) → IsRequest r → IsCount v.revision → Looks c xid r v now c' out → IsHeld c'
+    pub looks-held : (xid : ℤ) (r : Request) (v : View) → IsRequest r → IsCountNumber v.revision → Looks c xid r v now c' out → IsHeld c'
     looks-held xid r v q count (inl a) = is-held (asks_for c xid r v (take max_ranges a.lacking)) c' out a.is (record { frames = frames; stage = (real, q, count) })
     looks-held xid r v q count (inr d) = is-held (decided (keeps c r v) xid r v now d.decision) c' out d.is (decided-held (keeps c r v) real frames xid r v now d.decision q)
 
@@ -126,12 +126,12 @@ module _ (c : Core) (real : IsReal c.who.session) (frames : All IsFrame c.waitin
     readable-held (Unreadable xid place) None known h = absurd h
     readable-held (Unknown xid kind) None known h = absurd h
 
-    pub takes-held : (bytes : List ℕ) → IsFrame bytes → Takes c bytes now c' out → IsHeld c'
+    pub takes-held : (bytes : List ℕ) → IsFrame bytes → TakesFrame c bytes now c' out → IsHeld c'
     takes-held bytes f h = readable-held (read_request bytes) (plain_reply no_watches (read_request bytes)) (λ xid r read. request-of bytes xid r f read) h
 
     pub takes_up-held : (bytes : List ℕ) → IsFrame bytes → TakesUp c bytes now c' out → IsHeld c'
     takes_up-held bytes f h =
-        either (is_alive_due c.kept now c.timeout) (Is (keeps_alive c bytes now) c' out) (Takes c bytes now c' out) (IsHeld c') h
+        either (is_alive_due c.kept now c.timeout) (Is (keeps_alive c bytes now) c' out) (TakesFrame c bytes now c' out) (IsHeld c') h
         (λ i. is-held (keeps_alive c bytes now) c' out i (record { frames = frames; stage = (real, f) }))
         (takes-held bytes f)
 
@@ -143,7 +143,7 @@ module _ (c : Core) (real : IsReal c.who.session) (frames : All IsFrame c.waitin
 
     kept_alive-held : (bytes : List ℕ) → IsFrame bytes → (a : Answer) → KeptAlive c bytes now c' out a → IsHeld c'
     kept_alive-held bytes f (answer.Alive z id ttl) h =
-        either (int_eq ttl (pos 0)) (Is (checks c bytes) c' out) (Takes c bytes now c' out) (IsHeld c') h
+        either (int_eq ttl (pos 0)) (Is (checks c bytes) c' out) (TakesFrame c bytes now c' out) (IsHeld c') h
         (λ i. is-held (checks c bytes) c' out i (record { frames = frames; stage = (real, f) }))
         (takes-held bytes f)
     kept_alive-held bytes f (answer.Txn z b parts) h = absurd h
@@ -154,7 +154,7 @@ module _ (c : Core) (real : IsReal c.who.session) (frames : All IsFrame c.waitin
     still_mine-held bytes f v None h = is-held (waits c (expired v (xid_of (read_request bytes)))) c' out h (waits-held c real frames (expired v (xid_of (read_request bytes))))
     still_mine-held bytes f v (Some kv) h =
         let p = moved c.who v kv.mod_revision (xid_of (read_request bytes)) in
-        either (int_eq kv.mod_revision c.who.mine) (Takes c bytes now c' out) (Is (waits c p) c' out) (IsHeld c') h
+        either (int_eq kv.mod_revision c.who.mine) (TakesFrame c bytes now c' out) (Is (waits c p) c' out) (IsHeld c') h
         (takes-held bytes f)
         (λ i. is-held (waits c p) c' out i (waits-held c real frames p))
 
@@ -166,13 +166,13 @@ module _ (c : Core) (real : IsReal c.who.session) (frames : All IsFrame c.waitin
     checked-held bytes f (answer.Granted z id ttl) h = absurd h
     checked-held bytes f (answer.Alive z id ttl) h = absurd h
 
-    read_on-held : (xid : ℤ) (r : Request) (v : View) (ws : List Want) (z : ℤ) (b : Bool) (parts : List ActAns) → IsRequest r → IsCount v.revision → IsCount z
+    read_on-held : (xid : ℤ) (r : Request) (v : View) (ws : List Want) (z : ℤ) (b : Bool) (parts : List ActAns) → IsRequest r → IsCountNumber v.revision → IsCountNumber z
         → ReadOn c xid r v ws now c' out (answer.Txn z b parts) → IsHeld c'
     read_on-held xid r v ws z b parts q first count h =
         let w = with_parts (at_revision v z) ws parts in
-        if_records-held ws parts (Looks c xid r w now c' out) (looks-held xid r w q (subst IsCount (sym (revision-parts (at_revision v z) ws parts)) (count-at v z first count))) h
+        if_records-held ws parts (Looks c xid r w now c' out) (looks-held xid r w q (subst IsCountNumber (sym (revision-parts (at_revision v z) ws parts)) (count-at v z first count))) h
 
-    commit-held : (xid : ℤ) (r : Request) (u : View) (p : Plan) (z : ℤ) (b : Bool) (parts : List ActAns) → IsRequest r → IsCount z
+    commit-held : (xid : ℤ) (r : Request) (u : View) (p : Plan) (z : ℤ) (b : Bool) (parts : List ActAns) → IsRequest r → IsCountNumber z
         → CommitAnswered c xid r u p now c' out (answer.Txn z b parts) → IsHeld c'
     commit-held xid r u p z true parts q count h =
         let e = leaves-beside c h.kept (update_path r) u p z parts h.leaves in
@@ -181,7 +181,7 @@ module _ (c : Core) (real : IsReal c.who.session) (frames : All IsFrame c.waitin
         is-held (waits d fin) c' out (subst (λ (x : Core). Is (waits x fin) c' out) e.1 h.is) (waits-held d real frames fin)
     commit-held xid r u p z false parts q count h =
         let w = viewed z p.again parts in
-        if_records-held p.again parts (Looks c xid r w now c' out) (looks-held xid r w q (subst IsCount (sym (revision-parts (at_revision empty_view z) p.again parts)) count)) h
+        if_records-held p.again parts (Looks c xid r w now c' out) (looks-held xid r w q (subst IsCountNumber (sym (revision-parts (at_revision empty_view z) p.again parts)) count)) h
 
 -- ---- how the connection gets its session
 
@@ -243,7 +243,7 @@ module _ (c : Core) (frames : All IsFrame c.waiting) (now : ℕ) (c' : Core) (ou
   later-held s at shut k bytes short false headed h = is-held (closed_by c (cause.NoHeader c.taken)) c' out h tt
 
   comes-held : (s : Stage) → c.stage ≡ s → is_shut s ≡ false → IsHeldIn c.who.session s → (bytes : List ℕ) → length bytes ≤ max_frame → Comes c bytes now c' out s → IsHeld c'
-  comes-held (Unconnected fresh) at shut k bytes short h = opens-held (counted c bytes) c.taken fresh now c' out (read_connect bytes) frames k h
+  comes-held (Unconnected fresh) at shut k bytes short h = opens-held (with_frame_counted c bytes) c.taken fresh now c' out (read_connect bytes) frames k h
   comes-held (Connecting connect) at shut k bytes short h = later-held (Connecting connect) at shut k bytes short (has_header (read_request bytes)) refl h
   comes-held Ready at shut k bytes short h = later-held Ready at shut k bytes short (has_header (read_request bytes)) refl h
   comes-held (KeepingAlive f) at shut k bytes short h = later-held (KeepingAlive f) at shut k bytes short (has_header (read_request bytes)) refl h

@@ -13,7 +13,7 @@ use Rattle.zp_step.specs.Keepalives.{StillMine}
 use Rattle.zp_step.specs.Looking.{expired, moved}
 use Rattle.zp_step.specs.Replies.{Is, waits}
 use Rattle.zp_step.specs.Stages.{Core}
-use Rattle.zp_step.specs.Taking.{Takes}
+use Rattle.zp_step.specs.Taking.{TakesFrame}
 
 abbrev pub put_at : Option Kv → Option ℤ
 put_at o = option_map (λ (kv : Kv). kv.mod_revision) o
@@ -29,7 +29,7 @@ module _ (c : Core) (bytes : List ℕ) (v : View) (now : ℕ) (c' : Core) (out :
 
   -- by this revision
   abbrev pub ByPut : ℤ → Type 0
-  ByPut found = MatchBool (int_eq found c.who.mine) (Takes c bytes now c' out) (Is (waits c (moved c.who v found (xid_of (read_request bytes)))) c' out)
+  ByPut found = MatchBool (int_eq found c.who.mine) (TakesFrame c bytes now c' out) (Is (waits c (moved c.who v found (xid_of (read_request bytes)))) c' out)
 
   pub still-some : (o : Option Kv) (found : ℤ) → Some found ≡ put_at o → ByPut found → StillMine c bytes v now c' out o
   still-some None found e h = absurd (some_none e)

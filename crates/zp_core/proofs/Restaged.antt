@@ -35,7 +35,7 @@ use Rattle.zp_step.specs.Stages.{Core, Stage}
 use Rattle.zn_view.specs.Keeping.{update_path}
 use Rattle.zp_step.specs.Kept.{LeavesAt, LeavesBy, head_shown, left_core}
 use Rattle.zx_base.specs.Maps.{Bytes, same}
-use Rattle.zp_step.specs.Taking.{LooksFirst, LooksOn, Takes, TakesReadable}
+use Rattle.zp_step.specs.Taking.{LooksFirst, LooksOn, TakesFrame, TakesReadable}
 
 module _ (c : Core) (s : Stage) (c' : Core) (out : List Action) where
   pub damaged-at : (ws : List Want) (parts : List ActAns) → EndsDamaged (record c { stage = s }) ws parts c' out → EndsDamaged c ws parts c' out
@@ -74,7 +74,7 @@ module _ (c : Core) (s : Stage) (c' : Core) (out : List Action) where
   readable-at now (Unreadable xid place) None h = h
   readable-at now (Unknown xid kind) None h = h
 
-  pub takes-at : (bytes : List ℕ) (now : ℕ) → Takes (record c { stage = s }) bytes now c' out → Takes c bytes now c' out
+  pub takes-at : (bytes : List ℕ) (now : ℕ) → TakesFrame (record c { stage = s }) bytes now c' out → TakesFrame c bytes now c' out
   takes-at bytes now h = readable-at now (read_request bytes) (plain_reply no_watches (read_request bytes)) h
 
   -- ---- by the answer to what was asked
@@ -93,7 +93,7 @@ module _ (c : Core) (s : Stage) (c' : Core) (out : List Action) where
 
   pub kept_alive-at : (bytes : List ℕ) (now : ℕ) (a : Answer) → KeptAlive (record c { stage = s }) bytes now c' out a → KeptAlive c bytes now c' out a
   kept_alive-at bytes now (answer.Alive z id ttl) h =
-      on_false (int_eq ttl (pos 0)) (Is (checks c bytes) c' out) (Takes (record c { stage = s }) bytes now c' out) (Takes c bytes now c' out) (takes-at bytes now) h
+      on_false (int_eq ttl (pos 0)) (Is (checks c bytes) c' out) (TakesFrame (record c { stage = s }) bytes now c' out) (TakesFrame c bytes now c' out) (takes-at bytes now) h
   kept_alive-at bytes now (answer.Txn z b parts) h = h
   kept_alive-at bytes now (answer.Range z found) h = h
   kept_alive-at bytes now (answer.Granted z id ttl) h = h
@@ -101,7 +101,7 @@ module _ (c : Core) (s : Stage) (c' : Core) (out : List Action) where
   still_mine-at : (bytes : List ℕ) (now : ℕ) (v : View) (found : Option Kv) → StillMine (record c { stage = s }) bytes v now c' out found → StillMine c bytes v now c' out found
   still_mine-at bytes now v None h = h
   still_mine-at bytes now v (Some kv) h =
-      on_true (int_eq kv.mod_revision c.who.mine) (Takes (record c { stage = s }) bytes now c' out) (Takes c bytes now c' out)
+      on_true (int_eq kv.mod_revision c.who.mine) (TakesFrame (record c { stage = s }) bytes now c' out) (TakesFrame c bytes now c' out)
       (Is (waits c (moved c.who v kv.mod_revision (xid_of (read_request bytes)))) c' out) (takes-at bytes now) h
 
   pub checked-at : (bytes : List ℕ) (now : ℕ) (a : Answer) → Checked (record c { stage = s }) bytes now c' out a → Checked c bytes now c' out a

@@ -5,8 +5,8 @@ use Rattle.zk_jute.specs.Requests.{read_request}
 use Rattle.zk_model.specs.declared.request.Request.{Request}
 use Rattle.zk_model.specs.Limits.{max_frame}
 use Rattle.zk_transcript.specs.Walks.{has_header}
-use Rattle.zn_view.specs.Seen.{IsCount}
-use Rattle.zs_session.specs.Connecting.{IsHeld as IsHeldConnect}
+use Rattle.zn_view.specs.Seen.{IsCountNumber}
+use Rattle.zs_session.specs.Connecting.{IsConnectHeld as IsHeldConnect}
 use Rattle.zp_step.specs.Stages.{Core, Stage, Unconnected, Connecting, Ready, KeepingAlive, Checking, Reading, Committing, Waiting, Shut, is_shut}
 
 -- a frame that may wait: within the limit, and with a header
@@ -29,7 +29,7 @@ IsHeldIn session (Connecting connect) = IsHeldConnect connect
 IsHeldIn session Ready = IsReal session
 IsHeldIn session (KeepingAlive frame) = IsReal session × IsFrame frame
 IsHeldIn session (Checking frame) = IsReal session × IsFrame frame
-IsHeldIn session (Reading xid r v ws) = IsReal session × IsRequest r × IsCount v.revision
+IsHeldIn session (Reading xid r v ws) = IsReal session × IsRequest r × IsCountNumber v.revision
 IsHeldIn session (Committing xid r v p time) = IsReal session × IsRequest r
 IsHeldIn session (Waiting p) = IsReal session
 IsHeldIn session Shut = Unit {0}

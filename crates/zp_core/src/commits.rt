@@ -2,7 +2,7 @@
 
 ghost use Rattle.std.specs.Prelude.{◌≡◌, ◌≤ℤ◌, pos, false, IfOk, ◌<◌, ◌^◌};
 ghost use Rattle.zn_view.specs.Adding.{AreNumbers};
-ghost use Rattle.zn_view.specs.Seen.{IsCount};
+ghost use Rattle.zn_view.specs.Seen.{IsCountNumber};
 ghost use Rattle.zn_view.specs.Asks.{transaction};
 ghost use Rattle.zs_session.specs.Answering.{IsAnswerTo};
 ghost use Rattle.zp_step.specs.Plans.{CommitAnswered, Committed, WasMade, end_after as end_of, finishes};
@@ -65,7 +65,7 @@ fn done(
     revision: i64,
     parts: &[ActAns],
 ) -> Result<Move, Memory>
-    requires { IsCount revision }
+    requires { IsCountNumber revision }
     ensures { IfOk result (Leads (λ c out. WasMade (ready client.old) commit.value.task.value.xid commit.value.task.value.request commit.value.task.value.view commit.value.plan c out revision parts.now) client.new) }
 {
     leave(alloc, client, &commit, revision, parts)?;
@@ -94,7 +94,7 @@ fn look_again(
     requires request { IsRequest commit.value.task.value.request }
     requires real { pos 1 ≤ℤ client.old.who.session }
     requires time { now < 2 ^ 62 }
-    requires revision { IsCount revision }
+    requires revision { IsCountNumber revision }
     requires numbers { AreNumbers parts.now }
     ensures { IfOk result (Leads (λ c out. Committed (ready client.old) commit.value.task.value.xid commit.value.task.value.request commit.value.task.value.view commit.value.plan now c out revision false parts.now) client.new) }
 {
@@ -117,7 +117,7 @@ fn commit_at(
     requires request { IsRequest commit.value.task.value.request }
     requires real { pos 1 ≤ℤ client.old.who.session }
     requires time { now < 2 ^ 62 }
-    requires revision { IsCount revision }
+    requires revision { IsCountNumber revision }
     requires numbers { AreNumbers parts.now }
     ensures { IfOk result (Leads (λ c out. Committed (ready client.old) commit.value.task.value.xid commit.value.task.value.request commit.value.task.value.view commit.value.plan now c out revision succeeded parts.now) client.new) }
 {

@@ -2,7 +2,7 @@
 
 ghost use Rattle.std.specs.Prelude.{◌≡◌, ◌≤ℤ◌, ◌∷◌, [], pos, None, option_copied, IfOk};
 ghost use Rattle.zk_transcript.specs.Conversations.{refusal as refusal_of, answered_read_only as read_only_of};
-ghost use Rattle.zs_session.specs.Connecting.{MayStep};
+ghost use Rattle.zs_session.specs.Connecting.{MayStepConnect};
 ghost use Rattle.zp_step.specs.Connects.{Connects, Opens, attached_core, connected, kept_by};
 ghost use Rattle.zp_step.specs.Replies.{Is};
 ghost use Rattle.zp_step.specs.declared.action.Action.TheVariants as action;
@@ -140,7 +140,7 @@ pub(crate) fn connect(
     answer: Option<&Answer>,
     now: u64,
 ) -> Result<Move, Memory>
-    requires { MayStep connecting.value (option_copied answer) }
+    requires { MayStepConnect connecting.value (option_copied answer) }
     ensures { IfOk result (Leads (Connects (ready client.old) connecting.value (option_copied answer.entry) now) client.new) }
 {
     match connecting.step(answer) {

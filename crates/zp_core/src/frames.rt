@@ -6,7 +6,7 @@ ghost use Rattle.zk_model.specs.Watches.{no_watches};
 ghost use Rattle.zk_transcript.specs.Answers.{plain_request, xid_of as xid_in};
 ghost use Rattle.zk_transcript.specs.Walks.{is_auth_refusal};
 ghost use Rattle.zp_step.specs.Replies.{Is};
-ghost use Rattle.zp_step.specs.Taking.{Takes, TakesReadable, plainly, end_of_plain};
+ghost use Rattle.zp_step.specs.Taking.{TakesFrame, TakesReadable, plainly, end_of_plain};
 ghost use Rattle.zp_core.specs.Held.{IsFrame, IsRequest};
 ghost use Rattle.zp_core.specs.Meanings.{Leads, ready};
 
@@ -74,7 +74,7 @@ pub(crate) fn take(
     requires frame { IsFrame frame.now }
     requires real { pos 1 ≤ℤ client.old.who.session }
     requires time { now < 2 ^ 62 }
-    ensures { IfOk result (Leads (Takes (ready client.old) frame.now now) client.new) }
+    ensures { IfOk result (Leads (TakesFrame (ready client.old) frame.now now) client.new) }
 {
     match read_request(alloc, frame) {
         Ok((xid, request)) => take_request(alloc, client, xid, request, now),

@@ -5,9 +5,9 @@ ghost use Rattle.std.specs.Ordering.{int_eq};
 ghost use Rattle.zk_jute.specs.Requests.{read_request as read_as};
 ghost use Rattle.zk_transcript.specs.Answers.{xid_of as xid_in};
 ghost use Rattle.zn_view.specs.Lookups.{found_at};
-ghost use Rattle.zp_step.specs.Taking.{Takes};
+ghost use Rattle.zp_step.specs.Taking.{TakesFrame};
 ghost use Rattle.zn_view.specs.Adding.{AreNumbers};
-ghost use Rattle.zn_view.specs.Seen.{IsCount};
+ghost use Rattle.zn_view.specs.Seen.{IsCountNumber};
 ghost use Rattle.zs_session.specs.Answering.{viewed, IsAnswerTo};
 ghost use Rattle.zs_session.specs.Sessions.{attach_wants as wants_of, life_key};
 ghost use Rattle.ev_types.specs.declared.ask.Ask.TheVariants as asks;
@@ -151,7 +151,7 @@ fn take_or_refuse(
     requires frame { IsFrame frame.now }
     requires real { pos 1 ≤ℤ client.old.who.session }
     requires time { now < 2 ^ 62 }
-    ensures { IfOk result (Leads (λ c out. MatchBool (int_eq found client.old.who.mine) (Takes (ready client.old) frame.now now c out) (Is (waits (ready client.old) (moved_of client.old.who view.now found (xid_in (read_as frame.now)))) c out)) client.new) }
+    ensures { IfOk result (Leads (λ c out. MatchBool (int_eq found client.old.who.mine) (TakesFrame (ready client.old) frame.now now c out) (Is (waits (ready client.old) (moved_of client.old.who view.now found (xid_in (read_as frame.now)))) c out)) client.new) }
 {
     if found != client.who.mine {
         return refuse_moved(alloc, client, frame, view, found);
@@ -190,7 +190,7 @@ fn check_at(
     requires frame { IsFrame frame.now }
     requires real { pos 1 ≤ℤ client.old.who.session }
     requires time { now < 2 ^ 62 }
-    requires revision { IsCount revision }
+    requires revision { IsCountNumber revision }
     requires numbers { AreNumbers parts.now }
     ensures { IfOk result (Leads (λ c out. IfRecords (ready client.old) (wants_of client.old.who.session) parts.now c out (Looked (ready client.old) frame.now now c out (viewed revision (wants_of client.old.who.session) parts.now))) client.new) }
 {

@@ -3,7 +3,7 @@
 ghost use Rattle.std.specs.Prelude.{◌≡◌, true, false, None, Some, IfOk, OnOk, MatchOption, option_copied};
 ghost use Rattle.zn_view.specs.Asks.{found_in as kvs_in, kept_under, last_part};
 ghost use Rattle.zn_view.specs.Keeping.{IsAfter, trimmed, update_path as path_of_update};
-ghost use Rattle.zn_view.specs.Seen.{IsCount};
+ghost use Rattle.zn_view.specs.Seen.{IsCountNumber};
 ghost use Rattle.zn_layout.specs.Keys.{HeadKey, key_bytes};
 ghost use Rattle.zk_model.specs.Single.{is_sequential as is_sequential_by};
 ghost use Rattle.zp_step.specs.Kept.{Leaves, LeavesBy, head_shown as head_of, keeps, put_first, view_path as path_of_view};
@@ -124,7 +124,7 @@ fn head_shown(parts: &[ActAns]) -> Option<&Kv>
 
 /// What an update leaves of the view that its plan was made on. `None` where it would be no view.
 fn left(commit: &Commit, revision: i64, head: &Kv) -> Result<Option<View>, Memory>
-    requires { IsCount revision }
+    requires { IsCountNumber revision }
     ensures { IfOk result (IsAfter commit.now.task.value.view commit.now.plan.guards commit.now.plan.success revision head.now) }
 {
     let guards = commit.plan.guards.as_slice();
@@ -141,7 +141,7 @@ fn leave_under(
     revision: i64,
     parts: &[ActAns],
 ) -> Result<(), Memory>
-    requires { IsCount revision }
+    requires { IsCountNumber revision }
     ensures { OnOk result (LeavesBy (ready client.old) path.now commit.now.task.value.view commit.now.plan revision (head_of parts.now) (ready client.new)) }
 {
     let Some(head) = head_shown(parts) else {
@@ -161,7 +161,7 @@ pub(crate) fn leave(
     revision: i64,
     parts: &[ActAns],
 ) -> Result<(), Memory>
-    requires { IsCount revision }
+    requires { IsCountNumber revision }
     ensures { OnOk result (Leaves (ready client.old) commit.now.task.value.request commit.now.task.value.view commit.now.plan revision parts.now (ready client.new)) }
 {
     match update_path(&commit.task.request) {

@@ -3,7 +3,7 @@
 ghost use Rattle.std.specs.Prelude.{◌≡◌, ◌≤◌, ◌≤ℤ◌, pos, true, IfOk, IfErr, IsTrue, OnOk, ◌<◌, ◌^◌};
 ghost use Rattle.zn_view.specs.Adding.{AreNumbers, AreRecords, IsOtherRevision, IsViewFault, at_revision};
 ghost use Rattle.zn_view.specs.Needs.{AreNeeds};
-ghost use Rattle.zn_view.specs.Seen.{IsCount};
+ghost use Rattle.zn_view.specs.Seen.{IsCountNumber};
 ghost use Rattle.zn_view.specs.Asks.{reading as reading_of, with_parts};
 ghost use Rattle.ev_types.specs.declared.answer.Answer.TheVariants as answers;
 ghost use Rattle.zs_session.specs.Answering.{IsAnswerTo};
@@ -28,9 +28,9 @@ use zx_base::Memory;
 
 /// The revision of a view after a round at this one: that of its first round.
 fn revision_with(view: &View, revision: i64) -> i64
-    requires first { IsCount view.now.revision }
-    requires revision { IsCount revision }
-    ensures count { IsCount result }
+    requires first { IsCountNumber view.now.revision }
+    requires revision { IsCountNumber revision }
+    ensures count { IsCountNumber result }
     ensures same { at_revision view.now result ≡ at_revision view.now revision }
     ensures fits { IsOtherRevision view.now result → ⊥ }
 {
@@ -49,7 +49,7 @@ struct Lacking {
 
 /// Adds what a round found to the view.
 fn add(task: &mut Task, revision: i64, parts: &[ActAns]) -> Result<(), ViewFault>
-    requires revision { IsCount revision }
+    requires revision { IsCountNumber revision }
     requires numbers { AreNumbers parts.now }
     ensures ok { OnOk result (task.new ≡ record task.old { view = with_parts (at_revision task.old.view revision) task.old.asked parts.now }) }
     ensures same_revision { OnOk result (IsOtherRevision task.old.view revision → ⊥) }
@@ -77,7 +77,7 @@ fn added(
     parts: &[ActAns],
 ) -> Result<Lacking, ViewFault>
     requires real { pos 1 ≤ℤ who.session }
-    requires revision { IsCount revision }
+    requires revision { IsCountNumber revision }
     requires numbers { AreNumbers parts.now }
     ensures task { IfOk result (λ l. l.task.value ≡ record round { view = with_parts (at_revision round.view revision) round.asked parts.now }) }
     ensures needs { IfOk result (λ l. AreNeeds l.task.value.request who l.task.value.view l.wants.items) }
@@ -109,8 +109,8 @@ fn read_at(
     requires request { IsRequest round.request }
     requires real { pos 1 ≤ℤ client.old.who.session }
     requires time { now < 2 ^ 62 }
-    requires first { IsCount round.view.revision }
-    requires revision { IsCount revision }
+    requires first { IsCountNumber round.view.revision }
+    requires revision { IsCountNumber revision }
     requires numbers { AreNumbers parts.now }
     ensures { IfOk result (Leads (λ c out. ReadOn (ready client.old) round.xid round.request round.view round.asked now c out (answers.Txn revision true parts.now)) client.new) }
 {
@@ -135,7 +135,7 @@ pub(crate) fn read_on(
     requires request { IsRequest round.value.request }
     requires real { pos 1 ≤ℤ client.old.who.session }
     requires time { now < 2 ^ 62 }
-    requires first { IsCount round.value.view.revision }
+    requires first { IsCountNumber round.value.view.revision }
     ensures { IfOk result (Leads (λ c out. ReadOn (ready client.old) round.value.xid round.value.request round.value.view round.value.asked now c out answer.now) client.new) }
 {
     match answer {

@@ -24,7 +24,7 @@ use Rattle.zk_model.specs.declared.reply.Reply.{Reply}
 use Rattle.zk_model.specs.declared.reply.Reply.TheVariants as reply
 use Rattle.zk_model.specs.declared.request.Request.{Request}
 use Rattle.zk_model.specs.declared.request.Request.TheVariants as req
-use Rattle.zk_transcript.specs.Answers.{limit_in, only, xid_of}
+use Rattle.zk_transcript.specs.Answers.{owned_limit_in, only, xid_of}
 use Rattle.zk_transcript.specs.History.{Commit, Session, State, after, asked_commit, asked_in, attached_session, commit, frame_shown, limit_of, request, session_at, state_at}
 use Rattle.zk_transcript.specs.Legal.{is_legal}
 use Rattle.zk_transcript.specs.Walks.{Walker, closes_session, own_update, placed_frame, response_at, told_as_of, told_response, with_end}
@@ -133,7 +133,7 @@ responds lines k conn i now z id q x y r there a f d e = elim (close-or-other (s
     response = y.response;
     at_line = ap (response_at lines k z) other.0
         ∙ ap (option_map (λ (c : Commit). c.response)) (commit-is (take k lines) (state_at lines k) z conn i now id x q a f
-        ∙ ap (λ n. commit (state_at lines k).tree n id q z now) (sym (ap limit_in there)) ∙ sym other.1 ∙ d);
+        ∙ ap (λ n. commit (state_at lines k).tree n id q z now) (sym (ap owned_limit_in there)) ∙ sym other.1 ∙ d);
     same = e;
     closing = ap closes_session other.0 ∙ sym (ap is_some other.2);
   }

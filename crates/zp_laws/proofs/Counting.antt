@@ -41,8 +41,8 @@ use Rattle.zp_step.specs.Looking.{IfRecords, Looks, asks_for, change_by, decided
 use Rattle.zp_step.specs.Plans.{Committed, ReadOn, finishes}
 use Rattle.zp_step.specs.Replies.{Is, closed_by, is_due, replied, stage_after, waits}
 use Rattle.zp_step.specs.Stages.{Core, Pending, Stage, Unconnected, Connecting, Ready, KeepingAlive, Checking, Reading, Committing, Waiting, Shut, counted_up, is_shut, max_count}
-use Rattle.zp_step.specs.Steps.{Answers, Comes, Goes, Handles, Steps, StepsOpen, counted, queued, rests, takes}
-use Rattle.zp_step.specs.Taking.{Takes, TakesReadable, end_of_plain, plainly}
+use Rattle.zp_step.specs.Steps.{Answers, Comes, Goes, Handles, Steps, StepsOpen, with_frame_counted, queued, rests, takes}
+use Rattle.zp_step.specs.Taking.{TakesFrame, TakesReadable, end_of_plain, plainly}
 use Rattle.zp_step.specs.declared.action.Action.{Action}
 use Rattle.zp_step.specs.declared.input.Input.{Input}
 use Rattle.zp_step.specs.declared.input.Input.TheVariants as input
@@ -118,12 +118,12 @@ module _ (n : ℕ) (small : n ≤ max_count) where
         go (inl y) = let d = record c { views = y.views } in is-keeps true n (decided d xid r y.view now (Planned y.plan)) c' out (decided-keeps d xid r y.view now (Planned y.plan) w) y.is
         go (inr y) = looks-keeps c xid r empty_view now w y
 
-    takes-keeps : (c : Core) (bytes : List ℕ) (now : ℕ) → work c ≡ n → Takes c bytes now c' out → Keeps true n c'
+    takes-keeps : (c : Core) (bytes : List ℕ) (now : ℕ) → work c ≡ n → TakesFrame c bytes now c' out → Keeps true n c'
     takes-keeps c bytes now w h = readable-keeps c now (read_request bytes) (plain_reply no_watches (read_request bytes)) w h
 
     takes_up-keeps : (c : Core) (bytes : List ℕ) (now : ℕ) → work c ≡ n → TakesUp c bytes now c' out → Keeps true n c'
     takes_up-keeps c bytes now w h =
-        either (is_alive_due c.kept now c.timeout) (Is (keeps_alive c bytes now) c' out) (Takes c bytes now c' out) (Keeps true n c') h
+        either (is_alive_due c.kept now c.timeout) (Is (keeps_alive c bytes now) c' out) (TakesFrame c bytes now c' out) (Keeps true n c') h
         (is-keeps true n (keeps_alive c bytes now) c' out (inr (w, ((λ g. refl), tt))))
         (takes-keeps c bytes now w)
 
@@ -133,7 +133,7 @@ module _ (n : ℕ) (small : n ≤ max_count) where
     still-keeps c bytes v now None w h = is-keeps true n (waits c (expired v (xid_of (read_request bytes)))) c' out (waits-keeps c (expired v (xid_of (read_request bytes))) w) h
     still-keeps c bytes v now (Some kv) w h =
         let m = moved c.who v kv.mod_revision (xid_of (read_request bytes)) in
-        either (int_eq kv.mod_revision c.who.mine) (Takes c bytes now c' out) (Is (waits c m) c' out) (Keeps true n c') h (takes-keeps c bytes now w) (is-keeps true n (waits c m) c' out (waits-keeps c m w))
+        either (int_eq kv.mod_revision c.who.mine) (TakesFrame c bytes now c' out) (Is (waits c m) c' out) (Keeps true n c') h (takes-keeps c bytes now w) (is-keeps true n (waits c m) c' out (waits-keeps c m w))
 
     checked-keeps : (c : Core) (bytes : List ℕ) (now : ℕ) (a : Answer) → work c ≡ n → Checked c bytes now c' out a → Keeps true n c'
     checked-keeps c bytes now a w h = of_txn a _ (Keeps true n c') h (λ z b parts f.
@@ -142,7 +142,7 @@ module _ (n : ℕ) (small : n ≤ max_count) where
 
     alive-keeps : (c : Core) (bytes : List ℕ) (now : ℕ) (a : Answer) → work c ≡ n → KeptAlive c bytes now c' out a → Keeps true n c'
     alive-keeps c bytes now a w h = of_alive a _ (Keeps true n c') h (λ ttl f.
-        either (int_eq ttl (pos 0)) (Is (checks c bytes) c' out) (Takes c bytes now c' out) (Keeps true n c') f
+        either (int_eq ttl (pos 0)) (Is (checks c bytes) c' out) (TakesFrame c bytes now c' out) (Keeps true n c') f
         (is-keeps true n (checks c bytes) c' out (inr (w, ((λ g. refl), tt))))
         (takes-keeps c bytes now w))
 
@@ -243,7 +243,7 @@ at-stage c mid bytes n out st e small w k h =
     subst (λ s. Keeps (is_served s) n mid) e (queued-keeps n small mid out c bytes (ap (λ s. waits_from s c.next + length c.waiting + 1) e ∙ w) (subst (IsNumbered c) (sym e) k) h)
 
 frame-keeps : (c mid : Core) (bytes : List ℕ) (now n : ℕ) (out : List Action) (st : Stage) → c.stage ≡ st → n ≤ max_count → waits_from st c.next + length c.waiting + 1 ≡ n → IsNumbered c st → Comes c bytes now mid out st → Keeps (is_served st) n mid
-frame-keeps c mid bytes now n out (Unconnected fresh) e small w k h = opens-keeps n small mid out (counted c bytes) c.taken fresh now (read_connect bytes) (omega (arith, w, k)) h
+frame-keeps c mid bytes now n out (Unconnected fresh) e small w k h = opens-keeps n small mid out (with_frame_counted c bytes) c.taken fresh now (read_connect bytes) (omega (arith, w, k)) h
 frame-keeps c mid bytes now n out (Connecting connect) e small w k h = at-stage c mid bytes n out (Connecting connect) e small w k h
 frame-keeps c mid bytes now n out Ready e small w k h = at-stage c mid bytes n out Ready e small w k h
 frame-keeps c mid bytes now n out (KeepingAlive f) e small w k h = at-stage c mid bytes n out (KeepingAlive f) e small w k h

@@ -8,7 +8,7 @@ use Rattle.zk_model.specs.Watches.{Watches}
 use Rattle.zk_model.specs.declared.reply.Reply.{Reply}
 use Rattle.zk_model.specs.declared.reply.Reply.TheVariants as reply
 use Rattle.zk_model.specs.declared.request.Request.{Request}
-use Rattle.zk_transcript.specs.Answers.{limit_in, xid_of}
+use Rattle.zk_transcript.specs.Answers.{owned_limit_in, xid_of}
 use Rattle.zk_transcript.specs.History.{Session, limit_of, session_at, state_at}
 use Rattle.zk_transcript.specs.Walks.{Walker, own_update, told_as_of}
 use Rattle.zk_transcript.specs.Legal.{is_legal}
@@ -111,8 +111,8 @@ module _ (store : Store) (lines : List TranscriptLine) (conn : ℕ) (c : Core) (
       xid-is : xid_of (read_request bytes) ≡ xid
       xid-is = ap xid_of e
 
-      limit-is : (x : Session) → live (session_at c.who.session (state_at lines looked)) ≡ Some x → limit_in (session_at c.who.session (state_at lines looked)) ≡ limit_of x
-      limit-is x h = ap limit_in ((live-is (session_at c.who.session (state_at lines looked)) x h).there)
+      limit-is : (x : Session) → live (session_at c.who.session (state_at lines looked)) ≡ Some x → owned_limit_in (session_at c.who.session (state_at lines looked)) ≡ limit_of x
+      limit-is x h = ap owned_limit_in ((live-is (session_at c.who.session (state_at lines looked)) x h).there)
 
       decided-walks : (now : ℕ) (d : Decision) → AreNeeds q c.who v [] → IsBySession (state_at lines looked) c.who q d (live (session_at c.who.session (state_at lines looked))) → IsBacked q c.who now v d
           → Is (decided c xid q v now d) c' out → Walks store lines conn Afresh c c' w looked out

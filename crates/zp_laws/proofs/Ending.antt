@@ -29,7 +29,7 @@ use Rattle.zn_view.specs.declared.plan.Plan.{Plan}
 use Rattle.zn_view.specs.declared.want.Want.{Want}
 use Rattle.zs_session.specs.Alive.{is_alive_due}
 use Rattle.zs_session.specs.Answering.{viewed}
-use Rattle.zs_session.specs.Connecting.{asked_by as connect_asked, asked_in}
+use Rattle.zs_session.specs.Connecting.{asked_by_connect as connect_asked, asked_in_phase}
 use Rattle.zs_session.specs.Sessions.{attach_wants, life_key}
 use Rattle.zs_session.specs.declared.connect.Connect.{Connect}
 use Rattle.zs_session.specs.declared.connect.ConnectStep.{ConnectStep}
@@ -44,8 +44,8 @@ use Rattle.zp_step.specs.Looking.{IfRecords, Looks, change_by, decided, expired,
 use Rattle.zp_step.specs.Plans.{Committed, ReadOn, finishes}
 use Rattle.zp_step.specs.Replies.{Is, close_after, closed_by, is_due, replied, send_notices, stage_after, waits}
 use Rattle.zp_step.specs.Stages.{Core, Pending, Stage, Unconnected, Connecting, Ready, KeepingAlive, Checking, Reading, Committing, Waiting, Shut, asked_of, is_shut, seen_by}
-use Rattle.zp_step.specs.Steps.{Answers, Comes, Goes, Handles, Steps, StepsOpen, counted, queued, rests, takes}
-use Rattle.zp_step.specs.Taking.{Takes, TakesReadable, end_of_plain, plainly}
+use Rattle.zp_step.specs.Steps.{Answers, Comes, Goes, Handles, Steps, StepsOpen, with_frame_counted, queued, rests, takes}
+use Rattle.zp_step.specs.Taking.{TakesFrame, TakesReadable, end_of_plain, plainly}
 use Rattle.zp_step.specs.declared.action.Action.{Action}
 use Rattle.zp_step.specs.declared.action.Action.TheVariants as action
 use Rattle.zp_step.specs.declared.input.Input.{Input}
@@ -160,12 +160,12 @@ readable-ends c c' now out (Asks xid r) None h = go (first-or-anew c c' xid r no
     go (inl y) = decided-ends (record c { views = y.views }) c' xid r y.view now out (Planned y.plan) y.is
     go (inr y) = looks-ends c c' xid r empty_view now out y
 
-takes-ends : (c c' : Core) (bytes : List ℕ) (now : ℕ) (out : List Action) → Takes c bytes now c' out → Ends c' out
+takes-ends : (c c' : Core) (bytes : List ℕ) (now : ℕ) (out : List Action) → TakesFrame c bytes now c' out → Ends c' out
 takes-ends c c' bytes now out h = readable-ends c c' now out (read_request bytes) (plain_reply no_watches (read_request bytes)) h
 
 takes_up-ends : (c c' : Core) (bytes : List ℕ) (now : ℕ) (out : List Action) → TakesUp c bytes now c' out → Ends c' out
 takes_up-ends c c' bytes now out h =
-    either (is_alive_due c.kept now c.timeout) (Is (keeps_alive c bytes now) c' out) (Takes c bytes now c' out) (Ends c' out) h
+    either (is_alive_due c.kept now c.timeout) (Is (keeps_alive c bytes now) c' out) (TakesFrame c bytes now c' out) (Ends c' out) h
     (asks-ends (record c { stage = KeepingAlive bytes; kept = now }) c' _ out refl refl)
     (takes-ends c c' bytes now out)
 
@@ -193,7 +193,7 @@ goes-ends now c c' out (takes d frame more first later r w t g o) = inr (r, subs
 still-ends : (c c' : Core) (bytes : List ℕ) (v : View) (now : ℕ) (out : List Action) (o : Option Kv) → StillMine c bytes v now c' out o → Ends c' out
 still-ends c c' bytes v now out None h = waits-ends c c' (expired v (xid_of (read_request bytes))) out h
 still-ends c c' bytes v now out (Some kv) h =
-    either (int_eq kv.mod_revision c.who.mine) (Takes c bytes now c' out) (Is (waits c (moved c.who v kv.mod_revision (xid_of (read_request bytes)))) c' out) (Ends c' out) h
+    either (int_eq kv.mod_revision c.who.mine) (TakesFrame c bytes now c' out) (Is (waits c (moved c.who v kv.mod_revision (xid_of (read_request bytes)))) c' out) (Ends c' out) h
     (takes-ends c c' bytes now out)
     (waits-ends c c' (moved c.who v kv.mod_revision (xid_of (read_request bytes))) out)
 
@@ -204,7 +204,7 @@ checked-ends c c' bytes now out a h = of_txn a _ (Ends c' out) h (λ z b parts f
 
 alive-ends : (c c' : Core) (bytes : List ℕ) (now : ℕ) (out : List Action) (a : Answer) → KeptAlive c bytes now c' out a → Ends c' out
 alive-ends c c' bytes now out a h = of_alive a _ (Ends c' out) h (λ ttl f.
-    either (int_eq ttl (pos 0)) (Is (checks c bytes) c' out) (Takes c bytes now c' out) (Ends c' out) f
+    either (int_eq ttl (pos 0)) (Is (checks c bytes) c' out) (TakesFrame c bytes now c' out) (Ends c' out) f
     (asks-ends (record c { stage = Checking bytes }) c' _ out refl refl)
     (takes-ends c c' bytes now out))
 
@@ -221,7 +221,7 @@ committed-ends c c' xid r u p now out z false parts h =
 
 -- ---- connecting
 
-connected-ends : (c c' : Core) (now : ℕ) (new : Connect) (out : List Action) (step : ConnectStep) → ((q : Ask) → step ≡ steps.Ask q → asked_in new new.phase ≡ Some q) → Is (connected c now new step) c' out → Ends c' out
+connected-ends : (c c' : Core) (now : ℕ) (new : Connect) (out : List Action) (step : ConnectStep) → ((q : Ask) → step ≡ steps.Ask q → asked_in_phase new new.phase ≡ Some q) → Is (connected c now new step) c' out → Ends c' out
 connected-ends c c' now new out (steps.Ask q) h i = asks-ends (connected c now new (steps.Ask q)).0 c' q out refl (h q refl) i
 connected-ends c c' now new out (steps.Attached response who timeout number zxid) h i = ends-is c' (connected c now new (steps.Attached response who timeout number zxid)) out i (record { well = refl; closes = refl; asks = inr refl })
 connected-ends c c' now new out (steps.Ahead client head) h i = closed-ends c c' (cause.ZxidAhead client head) out i
@@ -264,7 +264,7 @@ queued-ends c c' bytes out h =
     (λ i. inl (closed-ends c c' (cause.NoHeader c.taken) out i))
 
 comes-ends : (c c' : Core) (bytes : List ℕ) (now : ℕ) (out : List Action) (st : Stage) → Comes c bytes now c' out st → HandledEnds c c' (input.Frame bytes) out
-comes-ends c c' bytes now out (Unconnected fresh) h = inl (opens-ends (counted c bytes) c' c.taken fresh now out (read_connect bytes) h)
+comes-ends c c' bytes now out (Unconnected fresh) h = inl (opens-ends (with_frame_counted c bytes) c' c.taken fresh now out (read_connect bytes) h)
 comes-ends c c' bytes now out (Connecting connect) h = queued-ends c c' bytes out h
 comes-ends c c' bytes now out Ready h = queued-ends c c' bytes out h
 comes-ends c c' bytes now out (KeepingAlive f) h = queued-ends c c' bytes out h

@@ -30,7 +30,7 @@ use Rattle.zp_step.specs.Looking.{Looks, asks_for, decided, max_ranges}
 use Rattle.zp_step.specs.Replies.{Is, close_after, stage_after}
 use Rattle.zp_step.specs.Stages.{Committing, Core, KeptViews, Ready, Reading, counted_up}
 use Rattle.zp_step.specs.Steps.{Goes, rests, takes}
-use Rattle.zp_step.specs.Taking.{LooksFirst, LooksOn, PlansAtOnce, Takes, TakesReadable, end_of_plain, plainly}
+use Rattle.zp_step.specs.Taking.{LooksFirst, LooksOn, PlansAtOnce, TakesFrame, TakesReadable, end_of_plain, plainly}
 use Rattle.zp_step.specs.declared.action.Action.{Action}
 use Rattle.zp_step.specs.declared.action.Action.TheVariants as action
 use Rattle.zp_laws.specs.Frames.{AreFrames, IsFrameAt, is_open, waits_from}
@@ -218,7 +218,7 @@ module _ (store : Store) (lines : List TranscriptLine) (conn : ℕ) (Afresh : Ty
   readable-walks c c' w bytes looked now out (Unknown xid kind) None k e p h = absurd h
   readable-walks c c' w bytes looked now out (Asks xid r) None k e p h = looks-walks c c' w bytes looked now xid r out (update_path r) k e p h
 
-  pub takes-walks : (c c' : Core) (w : Walker) (bytes : List ℕ) (looked now : ℕ) (out : List Action) → Works store lines conn c w bytes → Takes c bytes now c' out → Walks store lines conn Afresh c c' w looked out
+  pub takes-walks : (c c' : Core) (w : Walker) (bytes : List ℕ) (looked now : ℕ) (out : List Action) → Works store lines conn c w bytes → TakesFrame c bytes now c' out → Walks store lines conn Afresh c c' w looked out
   takes-walks c c' w bytes looked now out k t = readable-walks c c' w bytes looked now out (read_request bytes) (plain_reply no_watches (read_request bytes)) k refl refl t
 
   -- ---- frames are taken up
@@ -226,7 +226,7 @@ module _ (store : Store) (lines : List TranscriptLine) (conn : ℕ) (Afresh : Ty
   takes_up-walks : (c c' : Core) (w : Walker) (bytes : List ℕ) (looked now : ℕ) (out : List Action) → Works store lines conn c w bytes → TakesUp c bytes now c' out → Walks store lines conn Afresh c c' w looked out
   takes_up-walks c c' w bytes looked now out k t =
       let d = (keeps_alive c bytes now).0 in
-      either (is_alive_due c.kept now c.timeout) (Is (keeps_alive c bytes now) c' out) (Takes c bytes now c' out) (Walks store lines conn Afresh c c' w looked out) t
+      either (is_alive_due c.kept now c.timeout) (Is (keeps_alive c bytes now) c' out) (TakesFrame c bytes now c' out) (Walks store lines conn Afresh c c' w looked out) t
       (λ i. walks-is store lines conn Afresh c c' (keeps_alive c bytes now) w looked out i (asking-walks c d w bytes looked (keeps_alive c bytes now).1 k refl refl refl refl refl refl (record {
         matches = still-matches lines c d w k.matches refl refl refl refl;
         work = k.frame;

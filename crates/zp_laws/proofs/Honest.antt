@@ -22,7 +22,7 @@ use Rattle.zn_layout.specs.StandsFor.{CountsMean, DataMeans, HeadMeans, LifeMean
 use Rattle.zn_layout.proofs.Commits.{answer-is}
 use Rattle.zn_view.specs.Adding.{AreRecords, IsFirstDamaged}
 use Rattle.zn_view.specs.Asks.{kept_under, range_of, ranges_of}
-use Rattle.zn_view.specs.Seen.{IsOfKind, IsRecord, kind_in, kind_of}
+use Rattle.zn_view.specs.Seen.{IsOfKind, IsRecord, kind_in, kind_of_bytes}
 use Rattle.zn_view.specs.declared.kind.Kind.{Kind}
 use Rattle.zn_view.specs.declared.kind.Kind.TheVariants.{Counts, Data, Head, Life, Nodes}
 use Rattle.zn_view.specs.declared.want.Want.{Want}
@@ -60,7 +60,7 @@ front-or-none first = go (same first (codes "zk/d/")) (same first (codes "zk/c/"
     go false false false true e f g h = inr (codes "l/", same-true first (codes "zk/l/") h)
     go false false false false e f g h = inl refl
 
-kind-or-below : (k : Bytes) → (kind_of k ≡ None) ⊎ ((rest : Bytes) × (k ≡ front ++ rest))
+kind-or-below : (k : Bytes) → (kind_of_bytes k ≡ None) ⊎ ((rest : Bytes) × (k ≡ front ++ rest))
 kind-or-below k = go (same k (codes "zk/head")) refl (front-or-none (take 5 k))
   where
     go : (b : Bool) → same k (codes "zk/head") ≡ b → (kind_in (take 5 k) ≡ None) ⊎ ((tail : Bytes) × (take 5 k ≡ front ++ tail)) → (◌≡◌ {A = Option Kind} (if b then Some Head else kind_in (take 5 k)) None) ⊎ ((rest : Bytes) × (k ≡ front ++ rest))
@@ -80,13 +80,13 @@ module _ (m : Keys) (x : State) (stands : StandsFor m x) where
   layout-kept (LeaseKey id) kv e = life-kept id _ _ (stored-kept (LeaseKey id) kv e)
 
   -- a key below `zk/` is one of the layout
-  below-kept : (k rest : Bytes) (kv : Kv) → k ≡ front ++ rest → get m k ≡ Some kv → IsOfKind (kind_of k) kv.value
+  below-kept : (k rest : Bytes) (kv : Kv) → k ≡ front ++ rest → get m k ≡ Some kv → IsOfKind (kind_of_bytes k) kv.value
   below-kept k rest kv is e =
       let key = (stands.layout).no_other rest kv (ap (get m) (sym is) ∙ e) in
       let same_key : k ≡ key_bytes key.0 = is ∙ key.1 in
-      subst (λ (o : Option Kind). IsOfKind o kv.value) (sym (ap kind_of same_key ∙ kind_of-key key.0)) (layout-kept key.0 kv (ap (get m) (sym same_key) ∙ e))
+      subst (λ (o : Option Kind). IsOfKind o kv.value) (sym (ap kind_of_bytes same_key ∙ kind_of-key key.0)) (layout-kept key.0 kv (ap (get m) (sym same_key) ∙ e))
 
-  pub key-kept : (k : Bytes) (kv : Kv) → get m k ≡ Some kv → IsOfKind (kind_of k) kv.value
+  pub key-kept : (k : Bytes) (kv : Kv) → get m k ≡ Some kv → IsOfKind (kind_of_bytes k) kv.value
   key-kept k kv e = elim (kind-or-below k) [
     | inl none ↦ subst (λ (o : Option Kind). IsOfKind o kv.value) (sym none) tt
     | inr below ↦ below-kept k below.0 kv below.1 e
@@ -95,7 +95,7 @@ module _ (m : Keys) (x : State) (stands : StandsFor m x) where
   -- what a range of one key finds
   pub found-kept : (k : Bytes) (o : Option Kv) → AreKeyed m → get m k ≡ o → IfSome o IsRecord
   found-kept k None keyed e = tt
-  found-kept k (Some kv) keyed e = subst (λ (q : Bytes). IsOfKind (kind_of q) kv.value) (sym (keyed k kv e)) (key-kept k kv e)
+  found-kept k (Some kv) keyed e = subst (λ (q : Bytes). IsOfKind (kind_of_bytes q) kv.value) (sym (keyed k kv e)) (key-kept k kv e)
 
 -- ---- a look
 

@@ -9,7 +9,7 @@ use Rattle.ev_types.specs.Store.{Store, store_at}
 use Rattle.zk_model.specs.declared.request.Request.{Request}
 use Rattle.zx_base.specs.Maps.{Bytes, same}
 use Rattle.zx_base.proofs.Options.{none_some, some_is}
-use Rattle.zn_view.specs.Keeping.{max_kept, trimmed, view_size}
+use Rattle.zn_view.specs.Keeping.{max_kept_view, trimmed, view_size}
 use Rattle.zn_view.specs.Seen.{View, empty_view}
 use Rattle.zn_view.specs.Views.{Agrees, children_kept}
 use Rattle.zn_view.specs.declared.plan.Decision.TheVariants.{Planned}
@@ -59,7 +59,7 @@ pub views-used : (s : Store) (q : Bytes) (v : View) (xs : KeptViews) → IsViewO
 views-used s q v xs k h = All-cons (IsKeptOf s) (q, v) (remove_entry (same q) xs) k (all-without (IsKeptOf s) (same q) xs h)
 
 pub views-put : (s : Store) (q : Bytes) (v : View) (xs : KeptViews) → IsViewOf s v → AreViewsOf s xs → AreViewsOf s (put_first q (trimmed v) xs)
-views-put s q v xs k h = go (nat_le (view_size v) max_kept)
+views-put s q v xs k h = go (nat_le (view_size v) max_kept_view)
   where
     go : (b : Bool) → AreViewsOf s (put_first q (if b then Some (record v { lists = [] }) else None) xs)
     go true = All-cons (IsKeptOf s) (q, record v { lists = [] }) (others_kept q xs)

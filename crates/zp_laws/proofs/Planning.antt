@@ -40,8 +40,8 @@ use Rattle.zp_step.specs.Looking.{IfRecords, Looks, change_by, decided, expired,
 use Rattle.zp_step.specs.Plans.{Committed, finishes}
 use Rattle.zp_step.specs.Replies.{Is, closed_by, is_due, replied, stage_after, waits}
 use Rattle.zp_step.specs.Stages.{Core, Pending, Stage, Unconnected, Connecting, Ready, KeepingAlive, Checking, Reading, Committing, Waiting, Shut, is_shut}
-use Rattle.zp_step.specs.Steps.{Answers, Comes, Goes, Handles, Steps, StepsOpen, counted, queued, rests, takes}
-use Rattle.zp_step.specs.Taking.{Takes, TakesReadable, end_of_plain, plainly}
+use Rattle.zp_step.specs.Steps.{Answers, Comes, Goes, Handles, Steps, StepsOpen, with_frame_counted, queued, rests, takes}
+use Rattle.zp_step.specs.Taking.{TakesFrame, TakesReadable, end_of_plain, plainly}
 use Rattle.zp_step.specs.declared.action.Action.{Action}
 use Rattle.zp_step.specs.declared.input.Input.{Input}
 use Rattle.zp_step.specs.declared.input.Input.TheVariants as input
@@ -98,12 +98,12 @@ readable-plans c c' now out (Asks xid r) None h = go (first-or-anew c c' xid r n
     go (inl y) = decided-plans (record c { views = y.views }) c' xid r y.view now out (Planned y.plan) y.is
     go (inr y) = looks-plans c c' xid r empty_view now out y
 
-takes-plans : (c c' : Core) (bytes : List ℕ) (now : ℕ) (out : List Action) → Takes c bytes now c' out → IsPlannedAt now c'.stage
+takes-plans : (c c' : Core) (bytes : List ℕ) (now : ℕ) (out : List Action) → TakesFrame c bytes now c' out → IsPlannedAt now c'.stage
 takes-plans c c' bytes now out h = readable-plans c c' now out (read_request bytes) (plain_reply no_watches (read_request bytes)) h
 
 takes_up-plans : (c c' : Core) (bytes : List ℕ) (now : ℕ) (out : List Action) → TakesUp c bytes now c' out → IsPlannedAt now c'.stage
 takes_up-plans c c' bytes now out h =
-    either (is_alive_due c.kept now c.timeout) (Is (keeps_alive c bytes now) c' out) (Takes c bytes now c' out) (IsPlannedAt now c'.stage) h
+    either (is_alive_due c.kept now c.timeout) (Is (keeps_alive c bytes now) c' out) (TakesFrame c bytes now c' out) (IsPlannedAt now c'.stage) h
     (λ i. planned-is now (keeps_alive c bytes now) c' out i tt)
     (takes-plans c c' bytes now out)
 
@@ -120,7 +120,7 @@ goes-plan now c c' out (takes d frame more first later r w t g o) = inr (go (goe
 still-plans : (c c' : Core) (bytes : List ℕ) (v : View) (now : ℕ) (out : List Action) (o : Option Kv) → StillMine c bytes v now c' out o → IsPlannedAt now c'.stage
 still-plans c c' bytes v now out None h = waits-plans c c' (expired v (xid_of (read_request bytes))) now out h
 still-plans c c' bytes v now out (Some kv) h =
-    either (int_eq kv.mod_revision c.who.mine) (Takes c bytes now c' out) (Is (waits c (moved c.who v kv.mod_revision (xid_of (read_request bytes)))) c' out) (IsPlannedAt now c'.stage) h
+    either (int_eq kv.mod_revision c.who.mine) (TakesFrame c bytes now c' out) (Is (waits c (moved c.who v kv.mod_revision (xid_of (read_request bytes)))) c' out) (IsPlannedAt now c'.stage) h
     (takes-plans c c' bytes now out)
     (waits-plans c c' (moved c.who v kv.mod_revision (xid_of (read_request bytes))) now out)
 
@@ -145,7 +145,7 @@ answers-plan : (c c' : Core) (a : Answer) (now : ℕ) (out : List Action) (st : 
 answers-plan c c' a now out (Unconnected fresh) h = absurd h
 answers-plan c c' a now out (Connecting connect) h = connects-plans c c' connect (Some a) now out h
 answers-plan c c' a now out (KeepingAlive bytes) h = of_alive a _ (IsPlannedAt now c'.stage) h (λ ttl f.
-    either (int_eq ttl (pos 0)) (Is (checks c bytes) c' out) (Takes c bytes now c' out) (IsPlannedAt now c'.stage) f
+    either (int_eq ttl (pos 0)) (Is (checks c bytes) c' out) (TakesFrame c bytes now c' out) (IsPlannedAt now c'.stage) f
     (λ i. planned-is now (checks c bytes) c' out i tt)
     (takes-plans c c' bytes now out))
 answers-plan c c' a now out (Checking bytes) h = of_txn a _ (IsPlannedAt now c'.stage) h (λ z b parts f.
@@ -173,9 +173,9 @@ queued-plans c c' bytes now out h =
 comes-plan : (c c' : Core) (bytes : List ℕ) (now : ℕ) (out : List Action) (st : Stage) → Comes c bytes now c' out st → HandledPlan now c c' out
 comes-plan c c' bytes now out (Unconnected fresh) h = inl (opens (read_connect bytes) h)
   where
-    opens : (o : Option ConnectRequest) → Opens (counted c bytes) c.taken fresh now c' out o → IsPlannedAt now c'.stage
-    opens None i = closed-plans (counted c bytes) c' (cause.NoHeader c.taken) now out i
-    opens (Some r) i = connects-plans (counted c bytes) c' (begun r fresh) None now out i
+    opens : (o : Option ConnectRequest) → Opens (with_frame_counted c bytes) c.taken fresh now c' out o → IsPlannedAt now c'.stage
+    opens None i = closed-plans (with_frame_counted c bytes) c' (cause.NoHeader c.taken) now out i
+    opens (Some r) i = connects-plans (with_frame_counted c bytes) c' (begun r fresh) None now out i
 comes-plan c c' bytes now out (Connecting connect) h = queued-plans c c' bytes now out h
 comes-plan c c' bytes now out Ready h = queued-plans c c' bytes now out h
 comes-plan c c' bytes now out (KeepingAlive f) h = queued-plans c c' bytes now out h

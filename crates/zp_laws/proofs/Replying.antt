@@ -14,7 +14,7 @@ use Rattle.zk_jute.specs.Packets.{reply_packet, notice_packet}
 use Rattle.zk_model.specs.Watches.{is_unarmed}
 use Rattle.zk_model.specs.declared.reply.Notice.{Notice}
 use Rattle.zk_transcript.specs.History.{first_place, frame_shown, state_at}
-use Rattle.zk_transcript.specs.Legal.{index_shown, is_below, is_legal}
+use Rattle.zk_transcript.specs.Legal.{index_shown, is_below_place, is_legal}
 use Rattle.zk_transcript.specs.Walks.{Answer, Due, Walker, after_place, after_update, due_notices, fired_above, is_not_overtaken, is_past, later_of, may_answer_at, move, placed_frame, update_shown}
 use Rattle.zk_transcript.specs.declared.transcript.Cause.{Cause}
 use Rattle.zk_transcript.specs.declared.transcript.TranscriptLine.{TranscriptLine}
@@ -199,7 +199,7 @@ module _ (store : Store) (lines : List TranscriptLine) (conn : ℕ) (c : Core) (
             (All-append (UpTo (length lines)) (due_notices n notices) (packet ∷ []) (notices-up (length lines) n notices within)
             (All-cons (UpTo (length lines)) packet [] (later-bound (length (take looked lines)) ((r.frame).place + 1) (length lines) (omega (arith, len, (r.moment).past)) (omega (arith, bound))) (All-nil (UpTo (length lines)))))
             (λ q. (let less = past q (r.frame).place r.bytes (ap (λ i. placed_frame conn i lines) (sym m.next) ∙ (r.frame).framed) in let lt : nat_lt (r.frame).place looked ≡ true = grind (arith, nat_tests) in ap (is_past looked) (r.frame).framed ∙ lt))
-            (all-take (λ l. is_below (w.next + 1) (index_shown conn l)) looked lines (ap (is_not_overtaken lines conn) (m.next) ∙ b.turn));
+            (all-take (λ l. is_below_place (w.next + 1) (index_shown conn l)) looked lines (ap (is_not_overtaken lines conn) (m.next) ∙ b.turn));
         stands = stands-after p.ends refl;
         looks = λ q e. absurd (held-after p.ends e);
         who = refl;

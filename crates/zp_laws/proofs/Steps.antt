@@ -49,7 +49,7 @@ use Rattle.zp_step.specs.Plans.{CommitAnswered, ReadOn, finishes}
 use Rattle.zp_step.specs.Replies.{Is, closed_by, waits}
 use Rattle.zp_step.specs.Stages.{Core, KeptViews, Stage, Unconnected, Connecting, Ready, KeepingAlive, Checking, Reading, Committing, Waiting, Shut, asked_of, is_shut}
 use Rattle.zp_step.specs.Steps.{Answers, Comes, Handles, Steps, queued}
-use Rattle.zp_step.specs.Taking.{Takes}
+use Rattle.zp_step.specs.Taking.{TakesFrame}
 use Rattle.zp_step.specs.declared.action.Action.{Action}
 use Rattle.zp_step.specs.declared.action.Action.TheVariants as action
 use Rattle.zp_step.specs.declared.input.Input.{Input}
@@ -218,7 +218,7 @@ module _ (store : Store) (lines : List TranscriptLine) (conn : ℕ) (c c' : Core
   alive-walks a bytes k h = of_alive a _ (Walks store lines conn (Afresh (KeepingAlive bytes)) c c' w looked out) h (λ ttl f.
       let wk = works-at a (KeepingAlive bytes) bytes k k.work k.waiting k.own in
       let d = (checks c bytes).0 in
-      either (int_eq ttl (pos 0)) (Is (checks c bytes) c' out) (Takes c bytes now c' out) (Walks store lines conn (Afresh (KeepingAlive bytes)) c c' w looked out) f
+      either (int_eq ttl (pos 0)) (Is (checks c bytes) c' out) (TakesFrame c bytes now c' out) (Walks store lines conn (Afresh (KeepingAlive bytes)) c c' w looked out) f
       (λ i. walks-is store lines conn (Afresh (KeepingAlive bytes)) c c' (checks c bytes) w looked out i (asking-walks store lines conn (Afresh (KeepingAlive bytes)) c d w bytes looked (checks c bytes).1 wk refl refl refl refl refl refl
       (record { matches = still-matches lines c d w k.matches refl refl refl refl; work = k.work; waiting = k.waiting; turn = k.turn; views = k.views; knows = tt }) refl wk.ahead (λ q e. absurd (cc))))
       (takes-walks store lines conn (Afresh (KeepingAlive bytes)) c c' w bytes looked now out wk))
@@ -232,7 +232,7 @@ module _ (store : Store) (lines : List TranscriptLine) (conn : ℕ) (c c' : Core
       no : int_eq kv.mod_revision c.who.mine ≡ false → x.attached ≡ c.who.mine → ⊥
       no f s = let t = (Decides-int_eq kv.mod_revision c.who.mine).1 (sym same ∙ s) in cc
 
-      go : (t : Bool) → int_eq kv.mod_revision c.who.mine ≡ t → MatchBool t (Takes c bytes now c' out) (Is (waits c (moved c.who v kv.mod_revision (xid_of (read_request bytes)))) c' out) → Walks store lines conn (Afresh (Checking bytes)) c c' w looked out
+      go : (t : Bool) → int_eq kv.mod_revision c.who.mine ≡ t → MatchBool t (TakesFrame c bytes now c' out) (Is (waits c (moved c.who v kv.mod_revision (xid_of (read_request bytes)))) c' out) → Walks store lines conn (Afresh (Checking bytes)) c c' w looked out
       go true f i = takes-walks store lines conn (Afresh (Checking bytes)) c c' w bytes looked now out k.works i
       go false f i = moved-walks store lines conn c w bytes v looked k (Afresh (Checking bytes)) (λ q. q refl) c' out (xid_of (read_request bytes)) kv.mod_revision x refl lives (no f) i
 

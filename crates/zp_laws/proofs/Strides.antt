@@ -9,7 +9,7 @@ use Rattle.std.proofs.lemmas.List.Elements.{All-nil, All-append, filter_map-appe
 use Rattle.std.proofs.lemmas.Option.{slice_get_within}
 use Rattle.ev_types.specs.Store.{Store}
 use Rattle.zk_transcript.specs.History.{first_place, state_at, when}
-use Rattle.zk_transcript.specs.Legal.{index_in, index_shown, is_below, is_legal}
+use Rattle.zk_transcript.specs.Legal.{index_in, index_shown, is_below_place, is_legal}
 use Rattle.zk_transcript.specs.Walks.{Choice, Due, Walker, after_update, all_choices, is_fresh, is_in_turn, is_not_overtaken, move, own_update_in, own_update_shown, then_due, walk}
 use Rattle.zk_transcript.specs.declared.transcript.Cause.{Cause}
 use Rattle.zk_transcript.specs.declared.transcript.TranscriptLine.{TranscriptLine}
@@ -158,7 +158,7 @@ placed lines c w h m =
       within = omega (arith, slice_get_within lines t.line (Update t.update) t.shown);
     }
 
-below-more : (i : ℕ) (o : Option ℕ) → is_below (i + 1) o ≡ true → is_below (i + 1 + 1) o ≡ true
+below-more : (i : ℕ) (o : Option ℕ) → is_below_place (i + 1) o ≡ true → is_below_place (i + 1 + 1) o ≡ true
 below-more i None h = refl
 below-more i (Some j) h = grind (arith, nat_tests)
 
@@ -166,8 +166,8 @@ below-more i (Some j) h = grind (arith, nat_tests)
 pub turn-next : (lines : List TranscriptLine) (conn i : ℕ) → is_not_overtaken lines conn i ≡ true → is_not_overtaken lines conn (i + 1) ≡ true
 turn-next [] conn i h = refl
 turn-next (l ∷ ls) conn i h =
-    let q = and_parts (is_below (i + 1) (index_shown conn l)) (is_not_overtaken ls conn i) h in
-    and_from (is_below (i + 1 + 1) (index_shown conn l)) (is_not_overtaken ls conn (i + 1)) (below-more i (index_shown conn l) q.0) (turn-next ls conn i q.1)
+    let q = and_parts (is_below_place (i + 1) (index_shown conn l)) (is_not_overtaken ls conn i) h in
+    and_from (is_below_place (i + 1 + 1) (index_shown conn l)) (is_not_overtaken ls conn (i + 1)) (below-more i (index_shown conn l) q.0) (turn-next ls conn i q.1)
 
 -- a request without a line of its own, where no later one has a line
 none-first : {A : Type 0} (show : TranscriptLine → Option A) (k : ℕ) (l : TranscriptLine) (ls : List TranscriptLine) → first_place show k (l ∷ ls) ≡ None → (show l ≡ None) × (first_place show (k + 1) ls ≡ None)
@@ -180,15 +180,15 @@ none-first {A} show k l ls h = go (show l) h
 strict : (i j : ℕ) → nat_lt j (i + 1) ≡ true → (i == j) ≡ false → nat_lt j i ≡ true
 strict i j a b = grind (arith, nat_tests)
 
-differs : (c i : ℕ) (e j : ℕ) (u : UpdateRec) → when ((c == e) && (i == j)) u ≡ None → is_below (i + 1) (when (c == e) j) ≡ true → is_below i (when (c == e) j) ≡ true
+differs : (c i : ℕ) (e j : ℕ) (u : UpdateRec) → when ((c == e) && (i == j)) u ≡ None → is_below_place (i + 1) (when (c == e) j) ≡ true → is_below_place i (when (c == e) j) ≡ true
 differs c i e j u n h = go (c == e) (i == j) refl n h
   where
-    go : (p q : Bool) → (i == j) ≡ q → when (p && q) u ≡ None → is_below (i + 1) (when p j) ≡ true → is_below i (when p j) ≡ true
+    go : (p q : Bool) → (i == j) ≡ q → when (p && q) u ≡ None → is_below_place (i + 1) (when p j) ≡ true → is_below_place i (when p j) ≡ true
     go false q s f g = refl
     go true true s f g = absurd (cc)
     go true false s f g = strict i j g s
 
-in-kind : (c i : ℕ) (u : UpdateRec) (kind : UpdateKind) → own_update_in c i u kind ≡ None → is_below (i + 1) (index_in c kind) ≡ true → is_below i (index_in c kind) ≡ true
+in-kind : (c i : ℕ) (u : UpdateRec) (kind : UpdateKind) → own_update_in c i u kind ≡ None → is_below_place (i + 1) (index_in c kind) ≡ true → is_below_place i (index_in c kind) ≡ true
 in-kind c i u (Begin now) n h = refl
 in-kind c i u (NewSession id d) n h = refl
 in-kind c i u (Attach id d) n h = refl
@@ -196,7 +196,7 @@ in-kind c i u (Asked d j now) n h = differs c i d j u n h
 in-kind c i u (Closed id d j) n h = differs c i d j u n h
 in-kind c i u (Reaped id) n h = refl
 
-below-now : (c i : ℕ) (l : TranscriptLine) → is_below (i + 1) (index_shown c l) ≡ true → own_update_shown c i l ≡ None → is_below i (index_shown c l) ≡ true
+below-now : (c i : ℕ) (l : TranscriptLine) → is_below_place (i + 1) (index_shown c l) ≡ true → own_update_shown c i l ≡ None → is_below_place i (index_shown c l) ≡ true
 below-now c i (Update u) h n = in-kind c i u u.kind n h
 below-now c i (Open a b d e) h n = refl
 below-now c i (FrameLine a b d e) h n = refl
@@ -207,6 +207,6 @@ below-now c i (CloseLine a b) h n = refl
 pub ahead-now : (lines : List TranscriptLine) (k conn i : ℕ) → is_not_overtaken lines conn i ≡ true → first_place (own_update_shown conn i) k lines ≡ None → is_ahead lines conn i ≡ true
 ahead-now [] k conn i h n = refl
 ahead-now (l ∷ ls) k conn i h n =
-    let q = and_parts (is_below (i + 1) (index_shown conn l)) (is_not_overtaken ls conn i) h in
+    let q = and_parts (is_below_place (i + 1) (index_shown conn l)) (is_not_overtaken ls conn i) h in
     let r = none-first (own_update_shown conn i) k l ls n in
-    and_from (is_below i (index_shown conn l)) (is_ahead ls conn i) (below-now conn i l q.0 r.0) (ahead-now ls (k + 1) conn i q.1 r.1)
+    and_from (is_below_place i (index_shown conn l)) (is_ahead ls conn i) (below-now conn i l q.0 r.0) (ahead-now ls (k + 1) conn i q.1 r.1)

@@ -11,7 +11,7 @@ use Rattle.zk_model.specs.declared.reply.Reply.{Reply}
 use Rattle.zk_model.specs.declared.reply.Reply.TheVariants as reply
 use Rattle.zk_model.specs.declared.request.Request.{Request}
 use Rattle.zk_model.specs.declared.request.Request.TheVariants as req
-use Rattle.zk_transcript.specs.Answers.{Told, limit_in, only, plain_reply, plain_request, rearmed, session_refusal, tree_reply}
+use Rattle.zk_transcript.specs.Answers.{Told, owned_limit_in, only, plain_reply, plain_request, rearmed, session_refusal, tree_reply}
 use Rattle.zk_transcript.specs.History.{Session, State, limit_of, session_at, state_at}
 use Rattle.zk_transcript.specs.Walks.{looked, seen_told, told_as_of, with_end}
 use Rattle.zk_transcript.specs.declared.transcript.TranscriptLine.{TranscriptLine}
@@ -37,14 +37,14 @@ use Rattle.zp_laws.proofs.Arming.{tree-alike}
 pub refused-told : (lines : List TranscriptLine) (conn moment : ℕ) (id : ℤ) (x : Frame) (r : Reply) (ws : Watches) → session_refusal conn (session_at id (state_at lines moment)) ≡ Some r
     → told_as_of (take moment lines) conn id x ws None ≡ Some (true, only ws r)
 unfolding told_as_of
-refused-told lines conn moment id x r ws h = ap (seen_told (state_at lines moment) (limit_in (session_at id (state_at lines moment))) id x ws) h
+refused-told lines conn moment id x r ws h = ap (seen_told (state_at lines moment) (owned_limit_in (session_at id (state_at lines moment))) id x ws) h
 
 -- a request that only the tree answers, whatever is armed
 plain-none : (w : Watches) (q : Request) (xid : ℤ) → plain_request no_watches q ≡ None → plain_reply w (Asks xid q) ≡ None
 plain-none w q xid h = plain-only w (Asks xid q) ∙ ap (λ o. elim o [ None ↦ None | Some t ↦ Some (only w t) ]) (ap (λ o. elim o [ None ↦ None | Some t ↦ Some t.reply ]) h)
 
 -- and else it is the tree's answer
-pub tree-told : (lines : List TranscriptLine) (conn moment : ℕ) (id : ℤ) (xid : ℤ) (q : Request) (t : Told) (ws : Watches) (limit : ℕ) → limit_in (session_at id (state_at lines moment)) ≡ limit
+pub tree-told : (lines : List TranscriptLine) (conn moment : ℕ) (id : ℤ) (xid : ℤ) (q : Request) (t : Told) (ws : Watches) (limit : ℕ) → owned_limit_in (session_at id (state_at lines moment)) ≡ limit
     → session_refusal conn (session_at id (state_at lines moment)) ≡ None → plain_request no_watches q ≡ None → tree_reply (state_at lines moment).tree limit id ws q ≡ Some t
     → told_as_of (take moment lines) conn id (Asks xid q) ws None ≡ Some (false, t)
 unfolding told_as_of

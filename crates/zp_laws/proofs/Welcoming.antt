@@ -21,7 +21,7 @@ use Rattle.std.proofs.lemmas.List.Elements.{All-nil}
 use Rattle.zn_view.specs.Seen.{View}
 use Rattle.zn_view.specs.Asks.{reading}
 use Rattle.zn_view.specs.declared.plan.Who.{Who}
-use Rattle.zs_session.specs.Connecting.{Steps as ConnectSteps, asked_by}
+use Rattle.zs_session.specs.Connecting.{ConnectSteps, asked_by_connect}
 use Rattle.zs_session.specs.Sessions.{first_wants}
 use Rattle.zs_session.specs.declared.connect.Connect.{Connect}
 use Rattle.zs_session.specs.declared.connect.ConnectStep.{ConnectStep}
@@ -30,7 +30,7 @@ use Rattle.zs_session.specs.declared.connect.Fresh.{Fresh}
 use Rattle.zp_step.specs.Connects.{attached_core, Connects, Opens, connected}
 use Rattle.zp_step.specs.Replies.{Is, closed_by}
 use Rattle.zp_step.specs.Stages.{Core, Stage, Unconnected, Connecting, Ready, KeepingAlive, Checking, Reading, Committing, Waiting, Shut, is_shut}
-use Rattle.zp_step.specs.Steps.{Answers, Comes, Goes, Handles, Steps, counted, queued}
+use Rattle.zp_step.specs.Steps.{Answers, Comes, Goes, Handles, Steps, with_frame_counted, queued}
 use Rattle.zp_step.specs.declared.action.Action.{Action}
 use Rattle.zp_step.specs.declared.action.Action.TheVariants as action
 use Rattle.zp_step.specs.declared.input.Input.{Input}
@@ -99,7 +99,7 @@ module _ (c mid : Core) (first : List Action) where
 -- ---- the connect
 
 -- the first frame asks for a look
-opening : (c d mid : Core) (now : ℕ) (first : List Action) (new : Connect) (q : Ask) (step : ConnectStep) → asked_by step ≡ Some q → d.next ≡ c.next → Is (connected d now new step) mid first → IsSilent c mid first
+opening : (c d mid : Core) (now : ℕ) (first : List Action) (new : Connect) (q : Ask) (step : ConnectStep) → asked_by_connect step ≡ Some q → d.next ≡ c.next → Is (connected d now new step) mid first → IsSilent c mid first
 opening c d mid now first new q (steps.Ask a) e same i = silent c mid first (connected d now new (steps.Ask a)) (inl refl) refl same i
 opening c d mid now first new q (steps.Attached response who timeout number zxid) e same i = absurd (none_some e)
 opening c d mid now first new q (steps.Ahead client head) e same i = absurd (none_some e)
@@ -165,7 +165,7 @@ module _ (c mid : Core) (now : ℕ) (first : List Action) where
       (closed c mid first c (cause.NoHeader c.taken) refl)
 
   frame-to : (bytes : List ℕ) (st : Stage) → c.stage ≡ st → is_connecting st ≡ true → Comes c bytes now mid first st → IsSilent c mid first
-  frame-to bytes (Unconnected fresh) e t h = opens-to c (counted c bytes) mid c.taken fresh now first (read_connect bytes) refl h
+  frame-to bytes (Unconnected fresh) e t h = opens-to c (with_frame_counted c bytes) mid c.taken fresh now first (read_connect bytes) refl h
   frame-to bytes (Connecting connect) e t h = queued-to bytes (ap is_connecting e) h
   frame-to bytes Ready e t h = absurd (cc)
   frame-to bytes (KeepingAlive f) e t h = absurd (cc)

@@ -32,7 +32,7 @@ use Rattle.zp_laws.specs.Standing.{IsMoment, IsPastFrame, Stands}
 -- ---- an entry
 
 -- an entry is an update of the transcript
-pub record IsEntryOf (lines : List TranscriptLine) (e : Entry) : Type 0 where
+pub record IsEntryOfLines (lines : List TranscriptLine) (e : Entry) : Type 0 where
   pub place : ℕ
   pub update : UpdateRec
   pub shown : slice_get lines place ≡ Some (Update update)
@@ -48,7 +48,7 @@ takes_entries _ = false
 
 -- it is the next one, and is handed in where something is armed and entries are taken
 pub record IsTrueEntry (lines : List TranscriptLine) (c : Core) (e : Entry) : Type 0 where
-  pub of : IsEntryOf lines e
+  pub of : IsEntryOfLines lines e
   pub next : e.number ≡ c.cursor +ℤ pos 1
   pub armed : is_unarmed c.watches ≡ false
   pub taken : takes_entries c.stage ≡ true

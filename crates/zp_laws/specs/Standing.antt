@@ -9,7 +9,7 @@ use Rattle.zk_model.specs.Watches.{Watches, no_watches}
 use Rattle.zk_model.specs.declared.request.Request.{Request}
 use Rattle.zk_transcript.specs.Answers.{plain_request, xid_of}
 use Rattle.zk_transcript.specs.History.{state_at}
-use Rattle.zk_transcript.specs.Legal.{attach_of, index_shown, is_below}
+use Rattle.zk_transcript.specs.Legal.{attach_of, index_shown, is_below_place}
 use Rattle.zk_transcript.specs.Walks.{Walker, after_update, is_not_overtaken, own_update, placed_frame, told_as_of}
 use Rattle.zk_transcript.specs.declared.transcript.TranscriptLine.{TranscriptLine}
 use Rattle.zk_transcript.specs.declared.transcript.TranscriptLine.TheVariants.{Update}
@@ -112,7 +112,7 @@ pub record IsReply (lines : List TranscriptLine) (conn : ℕ) (who : Who) (w : W
 
 -- neither request i nor a later one was carried out
 abbrev pub is_ahead : List TranscriptLine → ℕ → ℕ → Bool
-is_ahead lines conn i = list_all (λ l. is_below i (index_shown conn l)) lines
+is_ahead lines conn i = list_all (λ l. is_below_place i (index_shown conn l)) lines
 
 abbrev pub Knows : Store → List TranscriptLine → ℕ → Core → Walker → ℕ → Stage → Type 0
 Knows store lines conn c w looked (Reading xid r v ws) = IsForTree r × (IsNoView v ⊎ IsViewAt store lines conn c.who w v looked)

@@ -14,7 +14,7 @@ use Rattle.zk_transcript.specs.declared.transcript.TranscriptLine.{TranscriptLin
 use Rattle.zk_transcript.specs.declared.transcript.TranscriptLine.TheVariants.{Update}
 use Rattle.zk_transcript.specs.declared.transcript.UpdateRec.{UpdateRec}
 use Rattle.zn_view.specs.declared.plan.Who.{Who}
-use Rattle.zs_session.specs.Connecting.{Steps as ConnectSteps}
+use Rattle.zs_session.specs.Connecting.{ConnectSteps}
 use Rattle.zs_session.specs.declared.connect.Connect.{Connect}
 use Rattle.zs_session.specs.declared.connect.ConnectStep.TheVariants.{Attached}
 use Rattle.zp_step.specs.Connects.{attached_core}

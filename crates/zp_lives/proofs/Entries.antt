@@ -17,11 +17,11 @@ use Rattle.zn_layout.specs.StandsFor.{HeadMeans, IsHead, at}
 use Rattle.zn_layout.specs.declared.entry.Entry.{Entry}
 use Rattle.zp_script.specs.Entries.{AreTriggersOf, entry_after}
 use Rattle.zp_laws.proofs.Updates.{IsLast, last-update, same-count}
-use Rattle.zp_laws.specs.Inputs.{IsEntryOf}
+use Rattle.zp_laws.specs.Inputs.{IsEntryOfLines}
 use Rattle.zp_lives.specs.Feeding.{IsEntryIn}
 use Rattle.zp_world_laws.proofs.Arrivals.{nat-either}
 use Rattle.zp_world_laws.specs.Entering.{AreEntries}
-use Rattle.zp_world_laws.specs.Serving.{Serves, moment_of}
+use Rattle.zp_world_laws.specs.Serving.{StoreServes, moment_of}
 
 -- ---- two moments with one number of updates show the same triggers
 
@@ -85,7 +85,7 @@ record IsOfMoment (lines : List TranscriptLine) (e : Entry) : Type 0 where
   zxid : e.zxid ≡ (state_at lines moment).zxid
   triggers : e.triggers ≡ (state_at lines moment).triggers
 
-of-moment : (s : Store) (lines : List TranscriptLine) (e : Entry) → Serves s lines → IsEntryIn s e → IsOfMoment lines e
+of-moment : (s : Store) (lines : List TranscriptLine) (e : Entry) → StoreServes s lines → IsEntryIn s e → IsOfMoment lines e
 of-moment s lines e h i =
     let m = moment_of lines (pos i.revision) in
     let head : IsHead i.head (state_at lines (moment_of lines (pos i.revision))) = subst (λ o. HeadMeans o (state_at lines (moment_of lines (pos i.revision)))) i.there (h.stands i.revision i.least i.known).head in
@@ -107,7 +107,7 @@ entry-same a b n z t = ap (λ k. entry_with k a.zxid a.triggers) n ∙ ap (λ k.
 positive : (m u : ℕ) → pos u ≡ pos m +ℤ pos 1 → u ≡ m + 1
 positive m u e = omega (arith, ints, e)
 
-pub entry-there : (s : Store) (lines : List TranscriptLine) (entries : List Entry) (e : Entry) (m : ℕ) → Serves s lines → AreEntries lines entries → IsEntryIn s e → e.number ≡ pos m +ℤ pos 1 → entry_after entries (pos m) ≡ Some e
+pub entry-there : (s : Store) (lines : List TranscriptLine) (entries : List Entry) (e : Entry) (m : ℕ) → StoreServes s lines → AreEntries lines entries → IsEntryIn s e → e.number ≡ pos m +ℤ pos 1 → entry_after entries (pos m) ≡ Some e
 entry-there s lines entries e m h all i next = elim (slice_get_cases entries m).1 [
   | inl x ↦ x.2 ∙ ap (λ (y : Entry). Some y) (there x.0 x.2)
   | inr q ↦ absurd (omega (arith, q.0, all.count, counted, most))
@@ -132,7 +132,7 @@ entry-there s lines entries e m h all i next = elim (slice_get_cases entries m).
     there : (y : Entry) → slice_get entries m ≡ Some y → y ≡ e
     there y at =
         let t = all.each m y at in
-        let of : IsEntryOf lines y = t.0 in
+        let of : IsEntryOfLines lines y = t.0 in
         let is : y.number ≡ pos m +ℤ pos 1 = t.1 ∙ ap pos (omega arith) in
         let number : (state_at lines (of.place + 1)).updates ≡ m + 1 = positive m (state_at lines (of.place + 1)).updates (sym of.number ∙ is) in
         let a = alike lines o.moment (of.place + 1) h.legal (omega (arith, counted)) (number ∙ sym counted) in

@@ -14,11 +14,11 @@ use Rattle.ev_types.specs.Store.{mod_of}
 use Rattle.zn_layout.specs.Keys.{HeadKey}
 use Rattle.zn_layout.specs.StandsFor.{HeadMeans, at}
 use Rattle.zn_layout.specs.declared.entry.Entry.{Entry}
-use Rattle.zp_script.specs.Carrying.{CarriedBy, Executes, HasStore, ShowsUpdate, update_line}
+use Rattle.zp_script.specs.Carrying.{CarriedBy, Executes, HasStore, ShowsUpdate, update_line_of}
 use Rattle.zp_script.specs.Entries.{IsEntryOf}
 use Rattle.zp_script.specs.Faults.{fault, flight_at, if_fails, is_to_carry_out}
 use Rattle.zp_script.specs.Happens.{Happens}
-use Rattle.zp_script.specs.Worlds.{Actor, Conn, Connection, World, conn_at, is_closed, with_conn, zxid_at}
+use Rattle.zp_script.specs.Worlds.{Actor, Conn, Connection, World, conn_at, is_closed_actor, with_conn, zxid_at}
 use Rattle.zp_script.specs.declared.flight.Asking.{Asking}
 use Rattle.zp_script.specs.declared.flight.Flight.TheVariants.{Carried, Out}
 use Rattle.zp_script.specs.declared.flight.Flight.{Flight}
@@ -30,7 +30,7 @@ use Rattle.zp_world_laws.proofs.Effects.{stored-in}
 use Rattle.zp_world_laws.proofs.Numbers.{conn-here}
 use Rattle.zp_world_laws.specs.Accounting.{IsAccounted}
 use Rattle.zp_world_laws.specs.Holding.{Of, air, out_in, out_of}
-use Rattle.zp_world_laws.specs.Serving.{Serves, kind_lines, update_lines}
+use Rattle.zp_world_laws.specs.Serving.{StoreServes, kind_lines, update_lines}
 use Rattle.zt_text.specs.declared.script.Happening.TheVariants as line
 use Rattle.zt_text.specs.declared.script.Why.TheVariants as why
 use Rattle.zt_text.specs.declared.script.Why.{Why}
@@ -42,13 +42,13 @@ unfolding fault
 out-possible c w x core a there actor out =
     let flight : flight_at c w ≡ Some (Out a) = ap (option_and_then (λ (y : Conn). y.flight)) there ∙ out in
     let later : Option Why = if_fails (is_none (flight_at c w)) why.NoRequestOut (if_fails (not (is_to_carry_out (flight_at c w))) why.AlreadyCarriedOut None) in
-    ap (λ (o : Option Conn). elim o [ None ↦ Some why.NoSuchConnection | Some y ↦ if_fails (is_closed y.actor) why.ConnectionClosed later ]) there
-    ∙ ap (λ (b : Actor). if_fails (is_closed b) why.ConnectionClosed later) actor
+    ap (λ (o : Option Conn). elim o [ None ↦ Some why.NoSuchConnection | Some y ↦ if_fails (is_closed_actor y.actor) why.ConnectionClosed later ]) there
+    ∙ ap (λ (b : Actor). if_fails (is_closed_actor b) why.ConnectionClosed later) actor
     ∙ ap (λ (f : Option Flight). if_fails (is_none f) why.NoRequestOut (if_fails (not (is_to_carry_out f)) why.AlreadyCarriedOut None)) flight
 
 -- ---- an update has its entry
 
-head-entry : (n : ℕ) (s : Store) (lines : List TranscriptLine) → Serves s lines → (e : Entry) × IsEntryOf n (at (present s) HeadKey) e
+head-entry : (n : ℕ) (s : Store) (lines : List TranscriptLine) → StoreServes s lines → (e : Entry) × IsEntryOf n (at (present s) HeadKey) e
 head-entry n s lines serves = go (at (present s) HeadKey) (stands-now s lines serves).head
   where
     go : (o : Option Kv) → HeadMeans o (after lines) → (e : Entry) × IsEntryOf n o e
@@ -73,7 +73,7 @@ pub record IsCarriedTo (c : ℕ) (w : World) (x : Conn) (s : Store) (a : Answer)
 module _ (c : ℕ) (w : World) (x : Conn) (core : Core) (asking : Asking) (s : Store) (a : Answer) (k : IsAccounted w) (there : conn_at c w ≡ Some x) (actor : x.actor ≡ Connection core) (out : x.flight ≡ Some (Out asking)) (done : carry w.store asking.ask ≡ Some (s, a)) where
   update-entry : (kind : UpdateKind) → asking.kind ≡ Some kind → int_eq (zxid_at w.store) (zxid_at s) ≡ false → (e : Entry) × IsEntryOf (length w.entries + 1) (at (present s) HeadKey) e
   update-entry kind is moved = elim (air-outcome w (Of c) asking s a (k.whole).holds (ap out_of there ∙ ap out_in out) done) [
-    | inl still ↦ absurd (one-line (update_line s kind) (sym (ap (λ b. if b then [] else kind_lines s (Some kind)) moved) ∙ sym (ap (update_lines w.store s) is) ∙ still.lines))
+    | inl still ↦ absurd (one-line (update_line_of s kind) (sym (ap (λ b. if b then [] else kind_lines s (Some kind)) moved) ∙ sym (ap (update_lines w.store s) is) ∙ still.lines))
     | inr updated ↦ head-entry (length w.entries + 1) s _ (updated.done).serves
   ]
 
@@ -84,7 +84,7 @@ module _ (c : ℕ) (w : World) (x : Conn) (core : Core) (asking : Asking) (s : S
       by-kind moved None e = (record w { store = s }, refl)
       by-kind moved (Some kind) e =
           let y = update-entry kind e moved in
-          (record w { store = s; lines = w.lines ++ update_line s kind ∷ []; entries = w.entries ++ y.0 ∷ [] }, (y.0, y.1, refl))
+          (record w { store = s; lines = w.lines ++ update_line_of s kind ∷ []; entries = w.entries ++ y.0 ∷ [] }, (y.0, y.1, refl))
 
       go : (b : Bool) → int_eq (zxid_at w.store) (zxid_at s) ≡ b → (mid : World) × MatchBool b (mid ≡ record w { store = s }) (ShowsUpdate w s asking.kind mid)
       go true e = (record w { store = s }, refl)

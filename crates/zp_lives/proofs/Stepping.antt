@@ -58,10 +58,10 @@ use Rattle.zp_world_laws.proofs.Kept.{true-false}
 use Rattle.zp_world_laws.proofs.Numbers.{conn-here}
 use Rattle.zp_world_laws.specs.Accounting.{IsAccounted}
 use Rattle.zp_world_laws.specs.Connecting.{IsConnectFlight, IsInStage}
-use Rattle.zp_world_laws.specs.Connections.{IsFlying, IsServing}
+use Rattle.zp_world_laws.specs.Connections.{IsFlying, IsServingConn}
 use Rattle.zp_world_laws.specs.Serving.{update_lines}
 use Rattle.zs_session.specs.Answering.{IsAwaited}
-use Rattle.zs_session.specs.Connecting.{asked_in}
+use Rattle.zs_session.specs.Connecting.{asked_in_phase}
 use Rattle.zs_session.specs.declared.connect.Connect.{Connect}
 use Rattle.zx_base.proofs.Options.{none_some, some_is}
 
@@ -149,7 +149,7 @@ module _ (w : World) (c : ℕ) (x : Conn) (core : Core) (k : IsAtCore w c x core
   pub open-now : is_shut core.stage ≡ false
   open-now = ((k.accounted).whole).unshut c x core k.there k.actor
 
-  connecting : (y : Connect) (place : ℕ) (f : Option Flight) → IsUndone f → IsConnectFlight w.store w.lines c place y f → asked_in y y.phase ≡ ask_out f
+  connecting : (y : Connect) (place : ℕ) (f : Option Flight) → IsUndone f → IsConnectFlight w.store w.lines c place y f → asked_in_phase y y.phase ≡ ask_out f
   connecting y place None u h = absurd h
   connecting y place (Some (Out a)) u h = h.asked
   connecting y place (Some (Carried b)) u h = absurd u
@@ -161,7 +161,7 @@ module _ (w : World) (c : ℕ) (x : Conn) (core : Core) (k : IsAtCore w c x core
   flying walker looked (Some (Carried b)) u h = absurd u
   flying walker looked (Some Denied) u h = absurd u
 
-  serving : is_served core.stage ≡ true → IsServing w.store w.lines c core x.flight
+  serving : is_served core.stage ≡ true → IsServingConn w.store w.lines c core x.flight
   serving s = ((k.accounted).whole).serving c x core k.there k.actor s
 
   served : is_served core.stage ≡ true → asked_of core.who core.stage ≡ ask_out x.flight

@@ -17,7 +17,7 @@ use Rattle.zp_lives.specs.Showing.{Came, Ends, Sent, Shown, shown_act, shown_by,
 use Rattle.zp_step.specs.declared.action.Action.TheVariants as action
 use Rattle.zp_step.specs.declared.action.Action.{Action}
 use Rattle.zp_world_laws.proofs.Executing.{same-nat}
-use Rattle.zp_world_laws.specs.Naming.{is_unnamed, names}
+use Rattle.zp_world_laws.specs.Naming.{is_unnamed, names_conn}
 use Rattle.zp_world_laws.specs.Serving.{kind_lines, update_lines}
 
 pub shown-append : (c : ℕ) (xs ys : List TranscriptLine) → shown_of c (xs ++ ys) ≡ shown_of c xs ++ shown_of c ys
@@ -54,7 +54,7 @@ updates-show c old new kind = go (int_eq (zxid_at old) (zxid_at new)) kind
     go false None = refl
     go false (Some k) = refl
 
-unnamed-line : (c : ℕ) (l : TranscriptLine) → not (names c l) ≡ true → shown_by c l ≡ None
+unnamed-line : (c : ℕ) (l : TranscriptLine) → not (names_conn c l) ≡ true → shown_by c l ≡ None
 unnamed-line c (Update u) h = refl
 unnamed-line c (Open d p id passwd) h = refl
 unnamed-line c (Lapse r id) h = refl
@@ -77,5 +77,5 @@ unnamed-line c (Close d end) h = go (c == d) h
 pub unnamed-shows : (c : ℕ) (ls : List TranscriptLine) → is_unnamed c ls ≡ true → shown_of c ls ≡ []
 unnamed-shows c [] h = refl
 unnamed-shows c (l ∷ ls) h =
-    let q = and_parts (not (names c l)) (is_unnamed c ls) h in
+    let q = and_parts (not (names_conn c l)) (is_unnamed c ls) h in
     shown-append c (l ∷ []) ls ∙ ap (λ o. filter_map (λ (p : Option Shown). p) (o ∷ []) ++ shown_of c ls) (unnamed-line c l q.0) ∙ unnamed-shows c ls q.1

@@ -41,8 +41,8 @@ use Rattle.zp_step.specs.Looking.{IfRecords, Looks, change_by, decided, expired,
 use Rattle.zp_step.specs.Plans.{Committed, finishes}
 use Rattle.zp_step.specs.Replies.{Is, closed_by, is_due, replied, waits}
 use Rattle.zp_step.specs.Stages.{Core, Pending, Stage, Unconnected, Connecting, Ready, KeepingAlive, Checking, Reading, Committing, Waiting, Shut, counted_up, is_shut}
-use Rattle.zp_step.specs.Steps.{Answers, Comes, Goes, Handles, Steps, StepsOpen, counted, queued, rests, takes}
-use Rattle.zp_step.specs.Taking.{Takes, TakesReadable}
+use Rattle.zp_step.specs.Steps.{Answers, Comes, Goes, Handles, Steps, StepsOpen, with_frame_counted, queued, rests, takes}
+use Rattle.zp_step.specs.Taking.{TakesFrame, TakesReadable}
 use Rattle.zp_step.specs.declared.action.Action.{Action}
 use Rattle.zp_step.specs.declared.input.Input.{Input}
 use Rattle.zp_step.specs.declared.input.Input.TheVariants as input
@@ -83,12 +83,12 @@ readable-same c c' now out (Asks xid r) None h = go (first-or-anew c c' xid r no
     go (inl y) = ap (λ (d : Core). d.taken) (y.is).0
     go (inr y) = looks-same c c' xid r empty_view now out y
 
-takes-same : (c c' : Core) (bytes : List ℕ) (now : ℕ) (out : List Action) → Takes c bytes now c' out → c'.taken ≡ c.taken
+takes-same : (c c' : Core) (bytes : List ℕ) (now : ℕ) (out : List Action) → TakesFrame c bytes now c' out → c'.taken ≡ c.taken
 takes-same c c' bytes now out h = readable-same c c' now out (read_request bytes) (plain_reply no_watches (read_request bytes)) h
 
 takes-up-same : (c c' : Core) (bytes : List ℕ) (now : ℕ) (out : List Action) → TakesUp c bytes now c' out → c'.taken ≡ c.taken
 takes-up-same c c' bytes now out h =
-    either (is_alive_due c.kept now c.timeout) (Is (keeps_alive c bytes now) c' out) (Takes c bytes now c' out) (c'.taken ≡ c.taken) h (λ i. ap (λ (d : Core). d.taken) i.0) (takes-same c c' bytes now out)
+    either (is_alive_due c.kept now c.timeout) (Is (keeps_alive c bytes now) c' out) (TakesFrame c bytes now c' out) (c'.taken ≡ c.taken) h (λ i. ap (λ (d : Core). d.taken) i.0) (takes-same c c' bytes now out)
 
 goes-same : (now : ℕ) (c c' : Core) (out : List Action) → Goes now c c' out → c'.taken ≡ c.taken
 goes-same now c c' out (rests why same none) = ap (λ (d : Core). d.taken) same
@@ -97,7 +97,7 @@ goes-same now c c' out (takes d frame more first later r ws t g o) = goes-same n
 still-same : (c c' : Core) (bytes : List ℕ) (v : View) (now : ℕ) (out : List Action) (o : Option Kv) → StillMine c bytes v now c' out o → c'.taken ≡ c.taken
 still-same c c' bytes v now out None h = waits-same c c' (expired v (xid_of (read_request bytes))) out h
 still-same c c' bytes v now out (Some kv) h =
-    either (int_eq kv.mod_revision c.who.mine) (Takes c bytes now c' out) (Is (waits c (moved c.who v kv.mod_revision (xid_of (read_request bytes)))) c' out) (c'.taken ≡ c.taken) h
+    either (int_eq kv.mod_revision c.who.mine) (TakesFrame c bytes now c' out) (Is (waits c (moved c.who v kv.mod_revision (xid_of (read_request bytes)))) c' out) (c'.taken ≡ c.taken) h
     (takes-same c c' bytes now out)
     (waits-same c c' (moved c.who v kv.mod_revision (xid_of (read_request bytes))) out)
 
@@ -120,7 +120,7 @@ connects-same c c' connect a now out (inr s) = connected-same c c' now s.new out
 answers-same : (c c' : Core) (a : Answer) (now : ℕ) (out : List Action) (st : Stage) → Answers c a now c' out st → c'.taken ≡ c.taken
 answers-same c c' a now out (Connecting connect) h = connects-same c c' connect (Some a) now out h
 answers-same c c' a now out (KeepingAlive bytes) h = of_alive a _ (c'.taken ≡ c.taken) h (λ ttl f.
-    either (int_eq ttl (pos 0)) (Is (checks c bytes) c' out) (Takes c bytes now c' out) (c'.taken ≡ c.taken) f (λ i. ap (λ (d : Core). d.taken) i.0) (takes-same c c' bytes now out))
+    either (int_eq ttl (pos 0)) (Is (checks c bytes) c' out) (TakesFrame c bytes now c' out) (c'.taken ≡ c.taken) f (λ i. ap (λ (d : Core). d.taken) i.0) (takes-same c c' bytes now out))
 answers-same c c' a now out (Checking bytes) h = of_txn a _ (c'.taken ≡ c.taken) h (λ z b parts f.
     let v = viewed z (attach_wants c.who.session) parts in
     records-same c c' (attach_wants c.who.session) parts out (Looked c bytes now c' out v) (still-same c c' bytes v now out (found_at v (life_key c.who.session))) f)
@@ -147,9 +147,9 @@ queued-counted c c' bytes out h =
 comes-counted : (c c' : Core) (bytes : List ℕ) (now : ℕ) (out : List Action) (st : Stage) → Comes c bytes now c' out st → Counted c c' bytes
 comes-counted c c' bytes now out (Unconnected fresh) h = inr (opens (read_connect bytes) h)
   where
-    opens : (o : Option ConnectRequest) → Opens (counted c bytes) c.taken fresh now c' out o → c'.taken ≡ counted_up (c.taken + 4 + length bytes)
+    opens : (o : Option ConnectRequest) → Opens (with_frame_counted c bytes) c.taken fresh now c' out o → c'.taken ≡ counted_up (c.taken + 4 + length bytes)
     opens None i = ap (λ (d : Core). d.taken) i.0
-    opens (Some r) i = connects-same (counted c bytes) c' (begun r fresh) None now out i
+    opens (Some r) i = connects-same (with_frame_counted c bytes) c' (begun r fresh) None now out i
 comes-counted c c' bytes now out (Connecting connect) h = queued-counted c c' bytes out h
 comes-counted c c' bytes now out Ready h = queued-counted c c' bytes out h
 comes-counted c c' bytes now out (KeepingAlive g) h = queued-counted c c' bytes out h

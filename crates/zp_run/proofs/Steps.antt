@@ -34,7 +34,7 @@ use Rattle.zn_view.specs.declared.plan.Who.{Who}
 use Rattle.zn_view.specs.declared.want.Want.{Want}
 use Rattle.zs_session.specs.Alive.{is_alive_due}
 use Rattle.zs_session.specs.Answering.{OfTxn, viewed}
-use Rattle.zs_session.specs.Connecting.{Answers as ConnectAnswers, Attached, Created, Ends, IsConnectFault, IsFaultIn, Kept, LookedAgain, LooksFirst, Moves, Resumes, SawNoneOfMine, Waits, asked_by as connect_asked, asked_in, is_taken}
+use Rattle.zs_session.specs.Connecting.{ConnectAnswers, Attached, Created, ConnectEnds, IsConnectFault, IsFaultOfConnect, Kept, ConnectLookedAgain, ConnectLooksFirst, ConnectMoves, Resumes, SawNoneOfMine, Waits, asked_by_connect as connect_asked, asked_in_phase, is_taken}
 use Rattle.zs_session.specs.Sessions.{attach_wants, first_wants, life_key, session_wants}
 use Rattle.zs_session.specs.declared.connect.Connect.{Connect}
 use Rattle.zs_session.specs.declared.connect.ConnectStep.{ConnectStep}
@@ -58,8 +58,8 @@ use Rattle.zp_step.specs.Looking.{IfRecords, Looks, change_by, decided, expired,
 use Rattle.zp_step.specs.Plans.{Committed, ReadOn, end_after, finishes}
 use Rattle.zp_step.specs.Replies.{Is, close_after, closed_by, stage_after, waits}
 use Rattle.zp_step.specs.Stages.{Core, Pending, Stage, Unconnected, Connecting, Ready, KeepingAlive, Checking, Reading, Committing, Waiting, Shut, counted_up, is_shut, new_core}
-use Rattle.zp_step.specs.Steps.{Answers, Comes, Goes, Handles, Steps, StepsOpen, counted, queued, rests, takes}
-use Rattle.zp_step.specs.Taking.{Takes, TakesReadable, end_of_plain, plainly}
+use Rattle.zp_step.specs.Steps.{Answers, Comes, Goes, Handles, Steps, StepsOpen, with_frame_counted, queued, rests, takes}
+use Rattle.zp_step.specs.Taking.{TakesFrame, TakesReadable, end_of_plain, plainly}
 use Rattle.zp_step.specs.declared.action.Action.{Action}
 use Rattle.zp_step.specs.declared.action.Action.TheVariants as action
 use Rattle.zp_step.specs.declared.input.Input.{Input}
@@ -153,12 +153,12 @@ module _ (k : Heard) (c0 : Core) (x : Input) where
       go (inl y) = asks-done k c0 x (record c { views = y.views; stage = Committing xid r y.view y.plan now }) c' _ out (record { waiting = w; stage = (asking, e) }) (λ f. cc) y.is
       go (inr y) = looks-done c c' xid r empty_view now out w asking e (nothing refl) y
 
-  takes-done : (c c' : Core) (bytes : List ℕ) (now : ℕ) (out : List Action) → Waits-heard c → Contains k.frames bytes → Takes c bytes now c' out → Done k c0 x c' out
+  takes-done : (c c' : Core) (bytes : List ℕ) (now : ℕ) (out : List Action) → Waits-heard c → Contains k.frames bytes → TakesFrame c bytes now c' out → Done k c0 x c' out
   takes-done c c' bytes now out w f h = readable-done c c' bytes now out (read_request bytes) (plain_reply no_watches (read_request bytes)) w f refl refl h
 
   takes-up-done : (c c' : Core) (bytes : List ℕ) (now : ℕ) (out : List Action) → Waits-heard c → Contains k.frames bytes → TakesUp c bytes now c' out → Done k c0 x c' out
   takes-up-done c c' bytes now out w f h =
-      either (is_alive_due c.kept now c.timeout) (Is (keeps_alive c bytes now) c' out) (Takes c bytes now c' out) (Done k c0 x c' out) h
+      either (is_alive_due c.kept now c.timeout) (Is (keeps_alive c bytes now) c' out) (TakesFrame c bytes now c' out) (Done k c0 x c' out) h
       (asks-done k c0 x (record c { stage = KeepingAlive bytes; kept = now }) c' _ out (record { waiting = w; stage = f }) (λ e. cc))
       (takes-done c c' bytes now out w f)
 
@@ -211,7 +211,7 @@ module _ (k : Heard) (c0 : Core) (x : Input) where
         m : Pending
         m = moved c.who v kv.mod_revision (xid_of (read_request bytes))
 
-        go : (b : Bool) → int_eq kv.mod_revision c.who.mine ≡ b → MatchBool b (Takes c bytes now c' out) (Is (waits c m) c' out) → Done k c0 x c' out
+        go : (b : Bool) → int_eq kv.mod_revision c.who.mine ≡ b → MatchBool b (TakesFrame c bytes now c' out) (Is (waits c m) c' out) → Done k c0 x c' out
         go true same i = takes-done c c' bytes now out w f i
         go false other i = waits-done k c0 x c c' m out w (refl, record { view = v; gathered = g; own = refl; kv = kv; there = e; put = refl; other = other }) i
 
@@ -223,7 +223,7 @@ module _ (k : Heard) (c0 : Core) (x : Input) where
 
     alive-done : (c c' : Core) (bytes : List ℕ) (now : ℕ) (out : List Action) → Waits-heard c → Contains k.frames bytes → KeptAlive c bytes now c' out a → Done k c0 x c' out
     alive-done c c' bytes now out w f h = of_alive a _ (Done k c0 x c' out) h (λ ttl i.
-        either (int_eq ttl (pos 0)) (Is (checks c bytes) c' out) (Takes c bytes now c' out) (Done k c0 x c' out) i
+        either (int_eq ttl (pos 0)) (Is (checks c bytes) c' out) (TakesFrame c bytes now c' out) (Done k c0 x c' out) i
         (asks-done k c0 x (record c { stage = Checking bytes }) c' _ out (record { waiting = w; stage = f }) (λ e. cc))
         (takes-done c c' bytes now out w f))
 
@@ -267,20 +267,20 @@ module _ (k : Heard) (c0 : Core) (x : Input) where
     asks-show q steps.Unknown e = absurd (none_some e)
     asks-show q (steps.Taken revision) e = absurd (none_some e)
 
-    waits-show : (next : Phase) (q : Ask) → asked_in c next ≡ Some q → Waits c next phase step → ConnectShows c step
+    waits-show : (next : Phase) (q : Ask) → asked_in_phase c next ≡ Some q → Waits c next phase step → ConnectShows c step
     waits-show next q e w = asks-show q step (w.1 ∙ e)
 
-    ends-show : (end : ConnectStep) → ConnectShows c end → Ends end phase step → ConnectShows c step
+    ends-show : (end : ConnectStep) → ConnectShows c end → ConnectEnds end phase step → ConnectShows c step
     ends-show end h e = subst (ConnectShows c) (sym e.1) h
 
-    resumes-show : (v : View) (next : ℤ → LeaseRec → Phase) → IsGathered k.answers v → ((seen : ℤ) (life : LeaseRec) → (q : Ask) × (asked_in c (next seen life) ≡ Some q)) → Resumes c v next phase step → ConnectShows c step
+    resumes-show : (v : View) (next : ℤ → LeaseRec → Phase) → IsGathered k.answers v → ((seen : ℤ) (life : LeaseRec) → (q : Ask) × (asked_in_phase c (next seen life) ≡ Some q)) → Resumes c v next phase step → ConnectShows c step
     resumes-show v next g asks (inl h) = ends-show steps.Unknown (v, g, h.0) h.1
     resumes-show v next g asks (inr (seen, life, mine, w)) = let q = asks seen life in waits-show (next seen life) q.0 q.1 w
 
-    looks-first-show : (v : View) → IsGathered k.answers v → LooksFirst c v phase step → ConnectShows c step
+    looks-first-show : (v : View) → IsGathered k.answers v → ConnectLooksFirst c v phase step → ConnectShows c step
     looks-first-show v g h = go (int_lt (head_zxid (head_of v)) c.request.last_zxid) refl h
       where
-        go : (b : Bool) → int_lt (head_zxid (head_of v)) c.request.last_zxid ≡ b → MatchBool b (Ends (steps.Ahead c.request.last_zxid (head_zxid (head_of v))) phase step) (MatchBool (int_eq c.request.session (pos 0)) (Waits c Granting phase step) (Resumes c v Keeping phase step)) → ConnectShows c step
+        go : (b : Bool) → int_lt (head_zxid (head_of v)) c.request.last_zxid ≡ b → MatchBool b (ConnectEnds (steps.Ahead c.request.last_zxid (head_zxid (head_of v))) phase step) (MatchBool (int_eq c.request.session (pos 0)) (Waits c Granting phase step) (Resumes c v Keeping phase step)) → ConnectShows c step
         go true e i = ends-show (steps.Ahead c.request.last_zxid (head_zxid (head_of v))) (refl, v, g, refl, e) i
         go false e i =
             either (int_eq c.request.session (pos 0)) (Waits c Granting phase step) (Resumes c v Keeping phase step) (ConnectShows c step) i
@@ -292,14 +292,14 @@ module _ (k : Heard) (c0 : Core) (x : Input) where
       created-show z true parts e h = ends-show _ tt h
       created-show z false parts e h = go (is_taken c.fresh.id (viewed z (session_wants c.fresh.id) parts)) refl h.1
         where
-          go : (b : Bool) → is_taken c.fresh.id (viewed z (session_wants c.fresh.id) parts) ≡ b → MatchBool b (Ends (steps.Taken z) phase step) (Waits c Creating phase step) → ConnectShows c step
+          go : (b : Bool) → is_taken c.fresh.id (viewed z (session_wants c.fresh.id) parts) ≡ b → MatchBool b (ConnectEnds (steps.Taken z) phase step) (Waits c Creating phase step) → ConnectShows c step
           go true there i = ends-show (steps.Taken z) (record { id = c.fresh.id; succeeded = false; parts = parts; came = comes-as a heard came z false parts e; there = there }) i
           go false there i = waits-show Creating _ refl i
 
       kept-show : (seen : ℤ) (life : LeaseRec) (ttl : ℤ) → Kept c seen life ttl phase step → ConnectShows c step
       kept-show seen life ttl h = either (int_eq ttl (pos 0)) (Waits c LookingAgain phase step) (Waits c (Attaching seen life) phase step) (ConnectShows c step) h (waits-show LookingAgain _ refl) (waits-show (Attaching seen life) _ refl)
 
-      again-show : (z : ℤ) (b : Bool) (parts : List ActAns) → a ≡ answer.Txn z b parts → LookedAgain c z parts phase step → ConnectShows c step
+      again-show : (z : ℤ) (b : Bool) (parts : List ActAns) → a ≡ answer.Txn z b parts → ConnectLookedAgain c z parts phase step → ConnectShows c step
       again-show z b parts e h = resumes-show (viewed z (attach_wants c.request.session) parts) Attaching (view-of a heard came (attach_wants c.request.session) z b parts e) (λ seen life. (_, refl)) h.1
 
       attached-show : (life : LeaseRec) (z : ℤ) (b : Bool) (parts : List ActAns) → a ≡ answer.Txn z b parts → Attached c life z b parts phase step → ConnectShows c step
@@ -318,10 +318,10 @@ module _ (k : Heard) (c0 : Core) (x : Input) where
 
   -- a value that is no record, where it was looked for in an answer
   module _ (c : Connect) (a : Answer) (came : x ≡ input.Answer a) (key value : Bytes) where
-    fault-shown : (p : Phase) → IsFaultIn c p a (faults.Damaged key value) → Shows k c0 x (record { session = pos 0; mine = pos 0 }) [] (cause.Damaged key value)
+    fault-shown : (p : Phase) → IsFaultOfConnect c p a (faults.Damaged key value) → Shows k c0 x (record { session = pos 0; mine = pos 0 }) [] (cause.Damaged key value)
     fault-shown p h = go p a came h
       where
-        go : (p : Phase) (y : Answer) → x ≡ input.Answer y → IsFaultIn c p y (faults.Damaged key value) → Shows k c0 x (record { session = pos 0; mine = pos 0 }) [] (cause.Damaged key value)
+        go : (p : Phase) (y : Answer) → x ≡ input.Answer y → IsFaultOfConnect c p y (faults.Damaged key value) → Shows k c0 x (record { session = pos 0; mine = pos 0 }) [] (cause.Damaged key value)
         go Looking (answer.Txn z b parts) e f = record { revision = z; succeeded = b; parts = parts; came = e; wants = first_wants c.request; damaged = f }
         go Creating (answer.Txn z false parts) e f = record { revision = z; succeeded = false; parts = parts; came = e; wants = session_wants c.fresh.id; damaged = f }
         go LookingAgain (answer.Txn z b parts) e f = record { revision = z; succeeded = b; parts = parts; came = e; wants = attach_wants c.request.session; damaged = f }
@@ -379,7 +379,7 @@ module _ (k : Heard) (c0 : Core) (x : Input) where
 
   connects-done : (c c' : Core) (connect : Connect) (o : Option Answer) (now : ℕ) (out : List Action) → Waits-heard c → IsConnectHeard k connect.request
       → ((key value : Bytes) → IsConnectFault connect o (faults.Damaged key value) → FaultShown key value)
-      → ((phase : Phase) (step : ConnectStep) → Moves connect o phase step → ConnectShows connect step)
+      → ((phase : Phase) (step : ConnectStep) → ConnectMoves connect o phase step → ConnectShows connect step)
       → Connects c connect o now c' out → Done k c0 x c' out
   connects-done c c' connect o now out w f damaged moved (inl e) = closed-done k c0 x c c' (cause.Damaged e.key e.value) out w (damaged e.key e.value e.found) e.is
   connects-done c c' connect o now out w f damaged moved (inr s) =
@@ -430,7 +430,7 @@ module _ (k : Heard) (c0 : Core) (x : Input) where
       go false e i = closed-done k c0 x c c' (cause.NoHeader c.taken) out s.waiting (record { bytes = bytes; came = came; at = at; either = inr e }) i
 
   comes-done : (c' : Core) (bytes : List ℕ) (now : ℕ) (out : List Action) (st : Stage) → Rests k c0 → Contains k.frames bytes → x ≡ input.Frame bytes → Comes c0 bytes now c' out st → Done k c0 x c' out
-  comes-done c' bytes now out (Unconnected fresh) s f came h = opens-done (counted c0 bytes) c' bytes fresh now out (read_connect bytes) s.waiting came f refl h
+  comes-done c' bytes now out (Unconnected fresh) s f came h = opens-done (with_frame_counted c0 bytes) c' bytes fresh now out (read_connect bytes) s.waiting came f refl h
   comes-done c' bytes now out (Connecting connect) s f came h = queued-done c0 c' bytes out refl s f came h
   comes-done c' bytes now out Ready s f came h = queued-done c0 c' bytes out refl s f came h
   comes-done c' bytes now out (KeepingAlive g) s f came h = queued-done c0 c' bytes out refl s f came h

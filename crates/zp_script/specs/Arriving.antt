@@ -13,7 +13,7 @@ use Rattle.zp_script.specs.Handing.{Handed}
 
 -- With these bytes the stream has these whole frames. If what is left begins with a length out of range, `bad` is that length, and
 -- what the new stream holds begins with it too; otherwise the new stream holds what is left.
-pub record Cuts (old : Stream) (bytes : List ℕ) (frames : List (List ℕ)) (bad : Option ℤ) (new : Stream) : Type 0 where
+pub record CutsFrames (old : Stream) (bytes : List ℕ) (frames : List (List ℕ)) (bad : Option ℤ) (new : Stream) : Type 0 where
   pub rest : List ℕ
   pub framed : Framed (old.rest ++ bytes) frames rest
   pub bad_is : bad_length rest ≡ bad
@@ -48,7 +48,7 @@ pub record Arrives (c : ℕ) (w : World) (bytes : List ℕ) (w' : World) : Type 
   pub frames : List (List ℕ)
   pub bad : Option ℤ
   pub stream : Stream
-  pub cuts : Cuts conn.stream bytes frames bad stream
+  pub cuts : CutsFrames conn.stream bytes frames bad stream
   pub mid : World
   pub arrive : FramesArrive c (with_conn w c (record conn { stream = stream })) frames mid
   pub ends : EndsBadly c mid stream.place bad w'

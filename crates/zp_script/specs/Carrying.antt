@@ -19,15 +19,15 @@ use Rattle.zp_script.specs.Faults.{left_at}
 
 -- ---- what is shown of it
 
-abbrev pub update_line : Store → UpdateKind → TranscriptLine
-update_line s kind = Update (record { zxid = zxid_at s; kind = kind })
+abbrev pub update_line_of : Store → UpdateKind → TranscriptLine
+update_line_of s kind = Update (record { zxid = zxid_at s; kind = kind })
 
 -- The head changed, by an ask of this kind. An ask without a kind changes no key, so in a run it never changes the head
 -- (`every_line_is_accounted_for` of `zp_world_laws`).
 abbrev pub ShowsUpdate : World → Store → Option UpdateKind → World → Type 0
 ShowsUpdate w s None w' = w' ≡ record w { store = s }
 ShowsUpdate w s (Some kind) w' = (e : Entry) × IsEntryOf (length w.entries + 1) (at (present s) HeadKey) e
-    × (w' ≡ record w { store = s; lines = w.lines ++ update_line s kind ∷ []; entries = w.entries ++ e ∷ [] })
+    × (w' ≡ record w { store = s; lines = w.lines ++ update_line_of s kind ∷ []; entries = w.entries ++ e ∷ [] })
 
 -- the store is this one from now on
 abbrev pub HasStore : World → Store → Option UpdateKind → World → Type 0

@@ -18,8 +18,8 @@ use Rattle.zs_reap.specs.declared.reap.Reap.{Reap}
 use Rattle.zs_reap.specs.declared.reap.Phase.TheVariants.{Unasked}
 use Rattle.zp_script.specs.declared.flight.Flight.{Flight}
 use Rattle.zp_script.specs.declared.flight.Flight.TheVariants.{Carried, Denied}
-use Rattle.zp_script.specs.Worlds.{World, Conn, Actor, Connection, Reaper, Closed, conn_at, with_conn, is_closed}
-use Rattle.zp_script.specs.Entries.{cursor_at, max_kept, next_entry}
+use Rattle.zp_script.specs.Worlds.{World, Conn, Actor, Connection, Reaper, Closed, conn_at, with_conn, is_closed_actor}
+use Rattle.zp_script.specs.Entries.{cursor_at, max_kept_entries, next_entry}
 use Rattle.zp_script.specs.Faults.{flight_at}
 use Rattle.zp_script.specs.StepOutcomes.{ended_by, leaves}
 use Rattle.zp_script.specs.Handing.{Handed, Reaps, AnswerComes, FailureComes, landed}
@@ -60,7 +60,7 @@ EntersBy c w w' (Some e) = (x : Input) × IsEntry e x × Handed c [] w x w'
 
 abbrev pub LagsBy : ℕ → World → World → Option ℤ → Type 0
 LagsBy c w w' None = ⊥
-LagsBy c w w' (Some cursor) = Handed c [] w (input.Lagged cursor (pos (length w.entries - max_kept))) w'
+LagsBy c w w' (Some cursor) = Handed c [] w (input.Lagged cursor (pos (length w.entries - max_kept_entries))) w'
 
 -- the client's stream ends after all the bytes that came
 abbrev pub EndsBy : ℕ → World → World → Option Conn → Type 0
@@ -70,7 +70,7 @@ EndsBy c w w' (Some x) = Handed c [] w (input.ClientEnd (counted_up (x.stream.pl
 -- ---- a proxy restarts: all its open connections and reapers end, in rising order of their numbers
 
 abbrev pub is_open_at : ℕ → Conn → Bool
-is_open_at p x = (p == x.proxy) && not (is_closed x.actor)
+is_open_at p x = (p == x.proxy) && not (is_closed_actor x.actor)
 
 abbrev pub stopped : ℕ → World → ℕ × Conn → World
 stopped p w e = if is_open_at p e.1 then leaves e.0 w e.1 Closed (ended_by e.0 cause.Restart e.1.flight) else w

@@ -55,13 +55,13 @@ abbrev pub next_entry : ℕ → World → Option Entry
 next_entry c w = option_and_then (entry_after w.entries) (cursor_at c w)
 
 -- how many of the newest entries are kept
-abbrev pub max_kept : ℕ
-max_kept = 4096
+abbrev pub max_kept_entries : ℕ
+max_kept_entries = 4096
 
 -- more than so many come after the cursor
 abbrev pub is_lagging_at : ℕ → Option ℤ → Bool
 is_lagging_at last None = false
-is_lagging_at last (Some cursor) = int_lt (cursor +ℤ pos max_kept) (pos last)
+is_lagging_at last (Some cursor) = int_lt (cursor +ℤ pos max_kept_entries) (pos last)
 
 abbrev pub is_lagging : ℕ → World → Bool
 is_lagging c w = is_lagging_at (length w.entries) (cursor_at c w)

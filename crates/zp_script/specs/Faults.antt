@@ -4,7 +4,7 @@ use Rattle.std.specs.Prelude.{ℕ, pos, ◌+◌, ◌-◌, Bool, true, false, not
 use Rattle.std.specs.Option.{option_and_then}
 use Rattle.std.specs.List.{starts_with}
 use Rattle.ev_types.specs.Store.{Store, Change, Puts}
-use Rattle.ev_types.specs.Denials.{has_lease, is_full}
+use Rattle.ev_types.specs.Denials.{has_lease, is_full_store}
 use Rattle.ev_types.specs.Lapses.{leased_keys, removals}
 use Rattle.zk_model.specs.Limits.{max_frame, max_time}
 use Rattle.zx_base.specs.Maps.{Bytes, same}
@@ -16,7 +16,7 @@ use Rattle.zt_text.specs.declared.script.Why.TheVariants as why
 use Rattle.zp_script.specs.declared.flight.Asking.{Asking}
 use Rattle.zp_script.specs.declared.flight.Flight.{Flight}
 use Rattle.zp_script.specs.declared.flight.Flight.TheVariants.{Out}
-use Rattle.zp_script.specs.Worlds.{World, Conn, conn_at, is_closed, is_reaper}
+use Rattle.zp_script.specs.Worlds.{World, Conn, conn_at, is_closed_actor, is_reaper}
 use Rattle.zp_script.specs.Entries.{next_entry, is_lagging}
 
 abbrev pub if_fails : Bool → Why → Option Why → Option Why
@@ -30,7 +30,7 @@ new_fault c w later = if_fails (is_some (conn_at c w)) why.NumberInUse later
 
 -- there is a connection or a reaper of this number, and it is open
 abbrev pub open_fault : ℕ → World → Option Why → Option Why
-open_fault c w later = elim (conn_at c w) [ None ↦ Some why.NoSuchConnection | Some x ↦ if_fails (is_closed x.actor) why.ConnectionClosed later ]
+open_fault c w later = elim (conn_at c w) [ None ↦ Some why.NoSuchConnection | Some x ↦ if_fails (is_closed_actor x.actor) why.ConnectionClosed later ]
 
 abbrev pub is_reaper_at : ℕ → World → Bool
 is_reaper_at c w = elim (conn_at c w) [ None ↦ false | Some x ↦ is_reaper x.actor ]
@@ -73,7 +73,7 @@ left_at k strays = if nat_lt 0 k then option_and_then (λ (o : Option Asking). o
 
 -- these changes would need a revision after the last that there can be (a lease without keys lapses without a revision)
 abbrev pub full_fault : Store → List Change → Option Why
-full_fault s changes = if_fails (is_full s changes) why.StoreFull None
+full_fault s changes = if_fails (is_full_store s changes) why.StoreFull None
 
 -- a key that no other user may put: the empty one, or one that begins with `zk/`
 abbrev pub is_kept_key : Bytes → Bool

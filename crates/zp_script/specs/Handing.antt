@@ -10,7 +10,7 @@ use Rattle.zp_step.specs.Stages.{Core}
 use Rattle.zp_step.specs.Steps.{Steps as CoreSteps}
 use Rattle.zs_reap.specs.declared.reap.Reap.{Reap}
 use Rattle.zs_reap.specs.declared.reap.ReapStep.{ReapStep}
-use Rattle.zs_reap.specs.Steps.{Steps, IsReapFault}
+use Rattle.zs_reap.specs.Steps.{ReaperSteps, IsReapFault}
 use Rattle.zs_session.specs.declared.fault.StepFault.TheVariants as faults
 use Rattle.zx_base.specs.Maps.{Bytes}
 use Rattle.zp_script.specs.Worlds.{World, Conn, Actor, Connection, Reaper, Closed, conn_at, with_conn, after_step, after_reap}
@@ -36,7 +36,7 @@ pub record Handed (c : ℕ) (after : List TranscriptLine) (w : World) (x : Input
 pub record ReapSteps (c : ℕ) (w : World) (conn : Conn) (reap : Reap) (a : Option Answer) (w' : World) : Type 0 where
   pub step : ReapStep
   pub next : Reap
-  pub stepped : Steps reap a step next
+  pub stepped : ReaperSteps reap a step next
   pub result : w' ≡ leaves c w conn (after_reap next) (reap_acts c (kind_asked c (Reaper next)) conn.flight step)
 
 -- a value was found that is no record, and the reaper ends

@@ -7,7 +7,7 @@ use Rattle.zp_step.specs.declared.wants.Wants.TheVariants as wants
 use Rattle.zp_step.specs.Stages.{wants_of, counted_up}
 use Rattle.zp_script.specs.declared.flight.Flight.{Flight}
 use Rattle.zp_script.specs.declared.flight.Flight.TheVariants.{Out, Carried, Denied}
-use Rattle.zp_script.specs.Worlds.{World, Conn, Actor, Connection, conn_at, is_closed}
+use Rattle.zp_script.specs.Worlds.{World, Conn, Actor, Connection, conn_at, is_closed_actor}
 use Rattle.zp_script.specs.Entries.{next_entry}
 use Rattle.zp_script.specs.Faults.{fault}
 use Rattle.zp_script.specs.Effects.{Does}
@@ -36,7 +36,7 @@ flight_line c w x None = entry_line c w x
 -- the line that settle does next, if any
 abbrev pub settling_conn : ℕ → World → Option Conn → Option Happening
 settling_conn c w None = None
-settling_conn c w (Some x) = if is_closed x.actor then None else flight_line c w x x.flight
+settling_conn c w (Some x) = if is_closed_actor x.actor then None else flight_line c w x x.flight
 
 abbrev pub settling : ℕ → World → Option Happening
 settling c w = settling_conn c w (conn_at c w)

@@ -74,9 +74,9 @@ after_step core = if is_shut core.stage then Closed else Connection core
 abbrev pub after_reap : Reap → Actor
 after_reap reap = if is_over reap.phase then Closed else Reaper reap
 
-abbrev pub is_closed : Actor → Bool
-is_closed Closed = true
-is_closed _ = false
+abbrev pub is_closed_actor : Actor → Bool
+is_closed_actor Closed = true
+is_closed_actor _ = false
 
 abbrev pub is_reaper : Actor → Bool
 is_reaper (Reaper reap) = true
@@ -84,4 +84,4 @@ is_reaper _ = false
 
 abbrev pub is_open_conn : Option Conn → Bool
 is_open_conn None = false
-is_open_conn (Some x) = not (is_closed x.actor)
+is_open_conn (Some x) = not (is_closed_actor x.actor)

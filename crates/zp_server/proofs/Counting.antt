@@ -2,7 +2,7 @@
 use Rattle.std.proofs.Common.{◌≡◌, ℕ, ◌+◌, ◌^◌, ◌<◌, Bool, true, false, List, [], ◌∷◌, sym, subst, arith, add-one}
 use Rattle.std.specs.Prelude.{Result, Ok, Err}
 use Rattle.zp_server.specs.Telling.{Seen}
-use Rattle.zp_server.specs.Logs.{Goes, Logs, Stops, counting}
+use Rattle.zp_server.specs.Logs.{LogGoes, Logs, LogStops, counting}
 use Rattle.zp_server.specs.declared.ends.Stop.{Stop}
 use Rattle.zp_server.proofs.Logging.{logs_none, logs_then}
 use Rattle.zp_server.proofs.Stopping.{stops_done, stops_last}
@@ -33,6 +33,6 @@ counted_from_none size k fresh busy busy' t t' logs from few = omega (arith, log
 -- ---- all clients
 
 -- the last were waited for
-pub stops_end : (size : ℕ) (r : Result (Unit {0}) Stop) (limit : ℕ) (busy : List ℕ) (t t' t'' : Seen) → Logs size false limit (counting limit) [] busy t t' → Goes size r 0 [] busy [] t' t'' → Stops size r limit [] t t''
+pub stops_end : (size : ℕ) (r : Result (Unit {0}) Stop) (limit : ℕ) (busy : List ℕ) (t t' t'' : Seen) → Logs size false limit (counting limit) [] busy t t' → LogGoes size r 0 [] busy [] t' t'' → LogStops size r limit [] t t''
 stops_end size (Ok u) limit busy t t' t'' logs goes = stops_done size limit busy t t' t'' logs goes
 stops_end size (Err why) limit busy t t' t'' logs halts = stops_last size why limit busy [] t t' t'' logs halts

@@ -10,10 +10,10 @@ use Rattle.zx_outside.specs.Counts.{one_more}
 use Rattle.zw_hub.specs.Ends.{MayBeTold}
 use Rattle.zp_server.specs.Books.{Ending}
 use Rattle.zp_server.specs.Lines.{fault_text, feed_text, listening_text, text_of}
-use Rattle.zp_server.specs.Telling.{Cuts, IsCut, IsWritten, Output, Seen, Starts, Tells}
-use Rattle.zp_server.specs.Logs.{AreFew, Leaves, Logs, NetStop, Stops, counting}
+use Rattle.zp_server.specs.Telling.{TellsFront, IsCutOutput, IsWritten, Output, Seen, Starts, TellsText}
+use Rattle.zp_server.specs.Logs.{AreFewClients, LogLeaves, Logs, NetStop, LogStops, counting}
 use Rattle.zp_server.specs.Beginning.{Begins, ClusterTold}
-use Rattle.zp_server.specs.Ends.{Begun, Clients, Ends, FeedTold, Finishes, IsAfterLines, IsDone, IsNext, IsNextLine, IsRefused, IsShut, IsStarved, IsUnbound, IsUnstarted, IsUnwritten, IsWriting, Listened, ServesFrom}
+use Rattle.zp_server.specs.Ends.{Begun, Clients, ServeEnds, FeedTold, ServeFinishes, IsAfterLines, IsServeDone, IsNextTold, IsNextLine, IsListenRefused, IsShut, IsStarved, IsUnbound, IsUnstarted, IsUnwritten, IsWriting, ServeListened, ServesFrom}
 use Rattle.zp_server.specs.declared.ends.Stop.{Stop}
 use Rattle.zp_server.specs.declared.ends.Stop.TheVariants as stop
 use Rattle.zp_server.specs.declared.ends.ServeEnd.{ServeEnd}
@@ -26,17 +26,17 @@ seen_is s t net out book =
     ∙ ap (λ (o : Output). record { net = s.net; out = o; book = t.book }) out
     ∙ ap (λ (b : Option (List Ending)). record { net = s.net; out = s.out; book = b }) book
 
-cuts_of : (text : List ℕ) (s t : Seen) → t.net ≡ s.net → t.book ≡ s.book → IsCut text s.out t.out → Cuts text s t
+cuts_of : (text : List ℕ) (s t : Seen) → t.net ≡ s.net → t.book ≡ s.book → IsCutOutput text s.out t.out → TellsFront text s t
 cuts_of text s t net book cut = record { accepted = ap (λ (n : NetCounts). n.accepted) net; doors = ap (λ (n : NetCounts). n.door_faults) net; out = cut; book = book }
 
 -- ---- after lines
 
-few_all : (n limit : ℕ) → n < limit → AreFew n n limit
+few_all : (n limit : ℕ) → n < limit → AreFewClients n n limit
 few_all n limit fewer = record { least = omega arith; most = omega arith; within = omega (arith, fewer) }
 
 -- ---- it was done
 
-done : (size : ℕ) (listen : List ℕ) (limit refusals refusals' : ℕ) (t s t' : Seen) → t' ≡ s → ServesFrom size (Ok tt) listen limit refusals refusals' t s → IsDone size listen limit t t'
+done : (size : ℕ) (listen : List ℕ) (limit refusals refusals' : ℕ) (t s t' : Seen) → t' ≡ s → ServesFrom size (Ok tt) listen limit refusals refusals' t s → IsServeDone size listen limit t t'
 done size listen limit refusals refusals' t s t' same (inl refused) = absurd refused
 done size listen limit refusals refusals' t s t' same (inr (inl begun)) = absurd begun
 done size listen limit refusals refusals' t s t' same (inr (inr h)) = record {
@@ -47,15 +47,15 @@ done size listen limit refusals refusals' t s t' same (inr (inr h)) = record {
 
 -- ---- the net had a fault
 
-net_told : (size : ℕ) (listen : List ℕ) (limit failures failures' refusals refusals' : ℕ) (t s t' : Seen) → Tells fault_text s t' → ServesFrom size (Err stop.Net) listen limit refusals refusals' t s
-    → Ends size ends.Net listen limit failures failures' refusals refusals' t t'
+net_told : (size : ℕ) (listen : List ℕ) (limit failures failures' refusals refusals' : ℕ) (t s t' : Seen) → TellsText fault_text s t' → ServesFrom size (Err stop.Net) listen limit refusals refusals' t s
+    → ServeEnds size ends.Net listen limit failures failures' refusals refusals' t t'
 net_told size listen limit failures failures' refusals refusals' t s t' tells (inl refused) =
-    inl (record { rose = inr refused.0; tells = subst (λ (x : Seen). Tells fault_text x t') refused.1 tells })
+    inl (record { rose = inr refused.0; tells = subst (λ (x : Seen). TellsText fault_text x t') refused.1 tells })
 net_told size listen limit failures failures' refusals refusals' t s t' tells (inr (inl faulted)) = inr (inl (record { broken = s; faulted = faulted; tells = tells }))
 net_told size listen limit failures failures' refusals refusals' t s t' tells (inr (inr h)) =
     inr (inr (record { first = h.first; listens = h.listens; broken = s; stopped = h.stops; tells = tells }))
 
-net_cut : (size : ℕ) (listen : List ℕ) (limit refusals refusals' : ℕ) (t s t' : Seen) → Cuts fault_text s t' → ServesFrom size (Err stop.Net) listen limit refusals refusals' t s
+net_cut : (size : ℕ) (listen : List ℕ) (limit refusals refusals' : ℕ) (t s t' : Seen) → TellsFront fault_text s t' → ServesFrom size (Err stop.Net) listen limit refusals refusals' t s
     → IsUnwritten size listen limit t t'
 net_cut size listen limit refusals refusals' t s t' cut (inl refused) = record { text = fault_text; from = s; writing = inr (inl (refl, inl refused.1)); cut = cut }
 net_cut size listen limit refusals refusals' t s t' cut (inr (inl faulted)) = record { text = fault_text; from = s; writing = inr (inl (refl, inr faulted)); cut = cut }
@@ -88,7 +88,7 @@ unwritten size listen limit refusals refusals' t s t' same (inr (inl cut)) = rec
   text = listening_text listen;
   from = t;
   writing = inl (refl, refl);
-  cut = subst (Cuts (listening_text listen) t) (sym same) cut;
+  cut = subst (TellsFront (listening_text listen) t) (sym same) cut;
 }
 unwritten size listen limit refusals refusals' t s t' same (inr (inr h)) = record {
   text = text_of (h.stops).last;
@@ -99,7 +99,7 @@ unwritten size listen limit refusals refusals' t s t' same (inr (inr h)) = recor
     lines = record { first = h.first; listens = h.listens; n = (h.stops).n; k = (h.stops).k; few = (h.stops).few; logs = (h.stops).logs };
     is_next = inl ((h.stops).last, ((refl, (h.stops).owed), refl));
   }));
-  cut = subst (Cuts (text_of (h.stops).last) (h.stops).between) (sym same) (h.stops).cut;
+  cut = subst (TellsFront (text_of (h.stops).last) (h.stops).between) (sym same) (h.stops).cut;
 }
 
 -- ---- memory was refused
@@ -111,7 +111,7 @@ starved size listen limit refusals refusals' t s t' same (inr (inr h)) = inr (re
   left = (h.stops).left;
   between = (h.stops).between;
   lines = record { first = h.first; listens = h.listens; n = (h.stops).n; k = (h.stops).k; few = (h.stops).few; logs = (h.stops).logs };
-  leaves = subst (Leaves (h.stops).left (h.stops).between) (sym same) (h.stops).leaves;
+  leaves = subst (LogLeaves (h.stops).left (h.stops).between) (sym same) (h.stops).leaves;
 })
 
 -- ---- the hub was closed
@@ -126,7 +126,7 @@ feed_lines size end listen limit refusals refusals' t s (inr (inr h)) =
 -- ---- the whole
 
 pub ended : (size : ℕ) (r : Result (Unit {0}) Stop) (end : ServeEnd) (listen : List ℕ) (limit failures failures' refusals refusals' : ℕ) (t s t' : Seen) → failures' ≡ failures
-    → ServesFrom size r listen limit refusals refusals' t s → t'.net ≡ s.net → t'.book ≡ s.book → Finishes r end s.out t'.out → Ends size end listen limit failures failures' refusals refusals' t t'
+    → ServesFrom size r listen limit refusals refusals' t s → t'.net ≡ s.net → t'.book ≡ s.book → ServeFinishes r end s.out t'.out → ServeEnds size end listen limit failures failures' refusals refusals' t t'
 ended size (Ok u) ends.Done listen limit failures failures' refusals refusals' t s t' asked from net book fin =
     (done size listen limit refusals refusals' t s t' (seen_is s t' net fin book) from, asked)
 ended size (Err stop.Net) ends.Net listen limit failures failures' refusals refusals' t s t' asked from net book fin =
@@ -154,7 +154,7 @@ ended size (Err (stop.Feed end)) ends.Memory listen limit failures failures' ref
       left = [];
       between = s;
       lines = lines.1;
-      leaves = subst (Leaves [] s) (sym (seen_is s t' net fin book)) (record { accepted = refl; doors = refl; book = refl; taken = inl refl; unharmed = refl });
+      leaves = subst (LogLeaves [] s) (sym (seen_is s t' net fin book)) (record { accepted = refl; doors = refl; book = refl; taken = inl refl; unharmed = refl });
     })
 ended size (Ok u) ends.WriteFault listen limit failures failures' refusals refusals' t s t' asked from net book fin = absurd fin
 ended size (Ok u) ends.Net listen limit failures failures' refusals refusals' t s t' asked from net book fin = absurd fin
@@ -176,7 +176,7 @@ ended size (Err (stop.Feed end)) ends.Net listen limit failures failures' refusa
 
 -- the first ask failed, or memory was refused for it
 pub unasked : (size : ℕ) (why : Stop) (end : ServeEnd) (listen : List ℕ) (limit refusals refusals' : ℕ) (c c' : ClusterTold) (t t' : Seen) → Begins (Err why) c c'
-    → t'.net ≡ t.net → t'.book ≡ t.book → Finishes (Err why) end t.out t'.out → Ends size end listen limit c.failures c'.failures refusals refusals' t t'
+    → t'.net ≡ t.net → t'.book ≡ t.book → ServeFinishes (Err why) end t.out t'.out → ServeEnds size end listen limit c.failures c'.failures refusals refusals' t t'
 unasked size stop.Net ends.Net listen limit refusals refusals' c c' t t' begins net book fin = inl (record { rose = inl begins.failures; tells = record { net = net; out = fin; book = book } })
 unasked size stop.Net ends.WriteFault listen limit refusals refusals' c c' t t' begins net book fin =
     record { text = fault_text; from = t; writing = inr (inl (refl, inl refl)); cut = cuts_of fault_text t t' net book fin }
@@ -208,11 +208,11 @@ unbound size listen limit t t' net out book = inl (record {
 })
 
 -- it could not say that it listens
-pub unlisted : (size : ℕ) (text listen : List ℕ) (limit : ℕ) (t t' : Seen) → text ≡ listening_text listen → t'.net ≡ t.net → t'.book ≡ t.book → IsCut text t.out t'.out → Clients size (Err stop.Write) listen limit t t'
-unlisted size text listen limit t t' is net book cut = inl (cuts_of (listening_text listen) t t' net book (subst (λ (x : List ℕ). IsCut x t.out t'.out) is cut))
+pub unlisted : (size : ℕ) (text listen : List ℕ) (limit : ℕ) (t t' : Seen) → text ≡ listening_text listen → t'.net ≡ t.net → t'.book ≡ t.book → IsCutOutput text t.out t'.out → Clients size (Err stop.Write) listen limit t t'
+unlisted size text listen limit t t' is net book cut = inl (cuts_of (listening_text listen) t t' net book (subst (λ (x : List ℕ). IsCutOutput x t.out t'.out) is cut))
 
 -- it said so, and then accepted clients
-pub listened : (size : ℕ) (r : Result (Unit {0}) Stop) (text listen : List ℕ) (limit : ℕ) (t s t' : Seen) → Stops size r limit [] s t' → text ≡ listening_text listen → s.net ≡ t.net → s.book ≡ t.book → IsWritten text t.out s.out
+pub listened : (size : ℕ) (r : Result (Unit {0}) Stop) (text listen : List ℕ) (limit : ℕ) (t s t' : Seen) → LogStops size r limit [] s t' → text ≡ listening_text listen → s.net ≡ t.net → s.book ≡ t.book → IsWritten text t.out s.out
     → Clients size r listen limit t t'
 listened size r text listen limit t s t' stops is net book written = inr (record {
   first = s;

@@ -8,10 +8,10 @@ use Rattle.zw_hub.specs.declared.feed.FeedEnd.{FeedEnd}
 use Rattle.zw_hub.specs.Readers.{ReaderState}
 use Rattle.zx_net.specs.Nets.{NetCounts}
 use Rattle.zp_server.specs.Books.{Ending, with_ending}
-use Rattle.zp_server.specs.Lines.{Line, Closed, NoLink, closed_text, no_link_text, number_of, text_of}
+use Rattle.zp_server.specs.Lines.{Line, Closed, NoLink, closed_text, no_link_text, number_of_line, text_of}
 use Rattle.zp_server.specs.Looking.{Closes, Looks}
-use Rattle.zp_server.specs.Telling.{IsWritten, Output, Says, Seen, more}
-use Rattle.zp_server.specs.Logs.{AreFew, FeedHalt, Goes, Halts, IsAmong, Leaves, Logs, MemoryHalt, Rests, Stops, counting}
+use Rattle.zp_server.specs.Telling.{IsWritten, Output, OutputSays, Seen, more}
+use Rattle.zp_server.specs.Logs.{AreFewClients, FeedHalt, LogGoes, LogHalts, IsAmong, LogLeaves, Logs, MemoryHalt, Rests, LogStops, counting}
 use Rattle.zp_server.specs.declared.ends.Stop.{Stop}
 use Rattle.zp_server.specs.declared.ends.Stop.TheVariants as stop
 use Rattle.zp_server.proofs.Logging.{logs_closed, logs_met, logs_none, logs_then, logs_unlinked}
@@ -22,7 +22,7 @@ no_one e = cc
 the_one : {x y : ℕ} → x ∷ [] ≡ y ∷ [] → x ≡ y
 the_one e = cc
 
-leaves_none : (left : List ℕ) (t : Seen) → Leaves left t t
+leaves_none : (left : List ℕ) (t : Seen) → LogLeaves left t t
 leaves_none left t = record { accepted = refl; doors = refl; book = refl; taken = inl refl; unharmed = refl }
 
 -- memory was refused after a log
@@ -42,8 +42,8 @@ starved size most busy busy' t t' accepted doors out book = record {
 }
 
 -- a line could not be written, of a connection that is open or of the fresh one
-pub unsaid : (size : ℕ) (why : Stop) (l : Line) (fresh busy busy' : List ℕ) (t t' : Seen) → IsAmong (number_of l) busy ⊎ ((fresh ≡ number_of l ∷ []) × (0 ≤ 0)) → (t'.net).accepted ≡ (t.net).accepted → (t'.net).door_faults ≡ (t.net).door_faults → t'.book ≡ t.book
-    → Says (Err why) (text_of l) t.out t'.out → Halts size why 0 fresh busy busy' t t'
+pub unsaid : (size : ℕ) (why : Stop) (l : Line) (fresh busy busy' : List ℕ) (t t' : Seen) → IsAmong (number_of_line l) busy ⊎ ((fresh ≡ number_of_line l ∷ []) × (0 ≤ 0)) → (t'.net).accepted ≡ (t.net).accepted → (t'.net).door_faults ≡ (t.net).door_faults → t'.book ≡ t.book
+    → OutputSays (Err why) (text_of l) t.out t'.out → LogHalts size why 0 fresh busy busy' t t'
 unsaid size stop.Write l fresh busy busy' t t' owed accepted doors book cut = record {
   k = 0;
   few = omega arith;
@@ -59,7 +59,7 @@ unsaid size stop.Net l fresh busy busy' t t' owed accepted doors book said = abs
 unsaid size (stop.Feed end) l fresh busy busy' t t' owed accepted doors book said = absurd said
 
 -- a line was written, and the book does not know of it
-pub unbooked : (size : ℕ) (l : Line) (busy busy' : List ℕ) (t t' : Seen) → IsAmong (number_of l) busy → t'.net ≡ t.net → t'.book ≡ t.book → IsWritten (text_of l) t.out t'.out → MemoryHalt size 0 busy t t'
+pub unbooked : (size : ℕ) (l : Line) (busy busy' : List ℕ) (t t' : Seen) → IsAmong (number_of_line l) busy → t'.net ≡ t.net → t'.book ≡ t.book → IsWritten (text_of l) t.out t'.out → MemoryHalt size 0 busy t t'
 unbooked size l busy busy' t t' whose net book written = record {
   k = 0;
   few = omega arith;
@@ -71,7 +71,7 @@ unbooked size l busy busy' t t' whose net book written = record {
 
 -- a worker has handed back a connection, of which the line was written and the book knows; and its reader was asked for the hub
 pub took_back : (size : ℕ) (r : Result (Unit {0}) Stop) (e : Ending) (s s' : ReaderState) (busy busy' : List ℕ) (t t' : Seen) → Closes r e.cause s s' → IsPermutation (e.number ∷ busy') busy
-    → t'.net ≡ t.net → IsWritten (closed_text e.number e.cause) t.out t'.out → t'.book ≡ with_ending t.book e → Goes size r 0 [] busy busy' t t'
+    → t'.net ≡ t.net → IsWritten (closed_text e.number e.cause) t.out t'.out → t'.book ≡ with_ending t.book e → LogGoes size r 0 [] busy busy' t t'
 took_back size (Ok u) e s s' busy busy' t t' closes numbers net written book = logs_closed size false e busy busy' t t' (λ unmet. closes) numbers net written book
 took_back size (Err (stop.Feed end)) e s s' busy busy' t t' closes numbers net written book =
     record { may = closes.1; k = 0; few = omega arith; logs = logs_closed size true e busy busy' t t' (λ (unmet : true ≡ false). absurd (cc)) numbers net written book }
@@ -98,8 +98,8 @@ owed_open number left (inl among) = among
 owed_open number left (inr (none, _)) = absurd (no_one none)
 
 -- after some log, with so many accepted in it
-pub halts_later : (size : ℕ) (why : Stop) (j most : ℕ) (fresh busy busy' busy'' : List ℕ) (t t' t'' : Seen) → j + most ≤ 1 → Logs size false j [] busy busy' t t' → Halts size why most fresh busy' busy'' t' t''
-    → Halts size why (j + most) fresh busy busy'' t t''
+pub halts_later : (size : ℕ) (why : Stop) (j most : ℕ) (fresh busy busy' busy'' : List ℕ) (t t' t'' : Seen) → j + most ≤ 1 → Logs size false j [] busy busy' t t' → LogHalts size why most fresh busy' busy'' t' t''
+    → LogHalts size why (j + most) fresh busy busy'' t t''
 halts_later size stop.Net j most fresh busy busy' busy'' t t' t'' few logs h =
     let none : j ≡ 0 = omega (arith, few, h.0) in (
       omega (arith, h.0),
@@ -123,7 +123,7 @@ halts_later size stop.Write j most fresh busy busy' busy'' t t' t'' few logs h =
   between = h.between;
   logs = logs_then size true j h.k (j + h.k) (omega arith) [] [] busy busy' h.left t t' h.between (logs_met size false j [] busy busy' t t' logs) h.logs;
   last = h.last;
-  owed = owed_later (number_of h.last) h.left fresh j most h.k h.owed;
+  owed = owed_later (number_of_line h.last) h.left fresh j most h.k h.owed;
   cut = h.cut;
 }
 halts_later size stop.Memory j most fresh busy busy' busy'' t t' t'' few logs h = record {
@@ -136,7 +136,7 @@ halts_later size stop.Memory j most fresh busy busy' busy'' t t' t'' few logs h 
 }
 
 -- at most so many were accepted, and perhaps one is fresh
-pub halts_most : (size : ℕ) (why : Stop) (most most' : ℕ) (fresh busy busy' : List ℕ) (t t' : Seen) → most ≤ most' → Halts size why most [] busy busy' t t' → Halts size why most' fresh busy busy' t t'
+pub halts_most : (size : ℕ) (why : Stop) (most most' : ℕ) (fresh busy busy' : List ℕ) (t t' : Seen) → most ≤ most' → LogHalts size why most [] busy busy' t t' → LogHalts size why most' fresh busy busy' t t'
 halts_most size stop.Net most most' fresh busy busy' t t' le h = (omega (arith, le, h.0), h.1)
 halts_most size (stop.Feed end) most most' fresh busy busy' t t' le h = record { may = h.may; k = h.k; few = omega (arith, le, h.few); logs = h.logs }
 halts_most size stop.Write most most' fresh busy busy' t t' le h = record {
@@ -146,13 +146,13 @@ halts_most size stop.Write most most' fresh busy busy' t t' le h = record {
   between = h.between;
   logs = h.logs;
   last = h.last;
-  owed = inl (owed_open (number_of h.last) h.left h.owed);
+  owed = inl (owed_open (number_of_line h.last) h.left h.owed);
   cut = h.cut;
 }
 halts_most size stop.Memory most most' fresh busy busy' t t' le h = record { k = h.k; few = omega (arith, le, h.few); left = h.left; between = h.between; logs = h.logs; leaves = h.leaves }
 
 -- the hub was found closed by the server's own reader
-pub looked : (size : ℕ) (why : Stop) (s s' : ReaderState) (most k : ℕ) (busy busy' : List ℕ) (t t' : Seen) → k ≤ most → Looks (Err why) s s' → Logs size false k [] busy busy' t t' → Halts size why most [] busy busy' t t'
+pub looked : (size : ℕ) (why : Stop) (s s' : ReaderState) (most k : ℕ) (busy busy' : List ℕ) (t t' : Seen) → k ≤ most → Looks (Err why) s s' → Logs size false k [] busy busy' t t' → LogHalts size why most [] busy busy' t t'
 looked size (stop.Feed end) s s' most k busy busy' t t' few looks logs = record { may = looks.1; k = k; few = few; logs = logs_met size false k [] busy busy' t t' logs }
 looked size stop.Memory s s' most k busy busy' t t' few looks logs = starved_after size most k busy busy' busy' t t' few (logs_met size false k [] busy busy' t t' logs)
 looked size stop.Net s s' most k busy busy' t t' few looks logs = absurd looks
@@ -160,7 +160,7 @@ looked size stop.Write s s' most k busy busy' t t' few looks logs = absurd looks
 
 -- ---- all clients
 
-few_of : (n k limit : ℕ) → n < limit → k ≤ 1 → AreFew n (n + k) limit
+few_of : (n k limit : ℕ) → n < limit → k ≤ 1 → AreFewClients n (n + k) limit
 few_of n k limit fewer few = record { least = omega arith; most = omega (arith, few); within = omega (arith, fewer, few) }
 
 owed_next : (number n k : ℕ) (left : List ℕ) → k ≤ 1 → IsAmong number left ⊎ (((n + 1) ∷ [] ≡ number ∷ []) × (1 ≤ k)) → IsAmong number left ⊎ ((number ≡ n + 1) × (n + k ≡ n + 1))
@@ -168,8 +168,8 @@ owed_next number n k left few (inl among) = inl among
 owed_next number n k left few (inr (only, all)) = inr (sym (the_one only), omega (arith, few, all))
 
 -- n clients were served or are, and the next was not accepted or not served
-pub stops_at : (size : ℕ) (why : Stop) (n limit : ℕ) (busy busy' busy'' : List ℕ) (t t' t'' : Seen) → n < limit → Logs size false n (counting n) [] busy' t t' → Halts size why 1 ((n + 1) ∷ []) busy' busy'' t' t''
-    → Stops size (Err why) limit busy'' t t''
+pub stops_at : (size : ℕ) (why : Stop) (n limit : ℕ) (busy busy' busy'' : List ℕ) (t t' t'' : Seen) → n < limit → Logs size false n (counting n) [] busy' t t' → LogHalts size why 1 ((n + 1) ∷ []) busy' busy'' t' t''
+    → LogStops size (Err why) limit busy'' t t''
 stops_at size stop.Net n limit busy busy' busy'' t t' t'' fewer logs h = record {
   n = n;
   fewer = fewer;
@@ -193,7 +193,7 @@ stops_at size stop.Write n limit busy busy' busy'' t t' t'' fewer logs h = recor
   between = h.between;
   logs = logs_then size true n h.k (n + h.k) (omega arith) (counting n) [] [] busy' h.left t t' h.between (logs_met size false n (counting n) [] busy' t t' logs) h.logs;
   last = h.last;
-  owed = owed_next (number_of h.last) n h.k h.left h.few h.owed;
+  owed = owed_next (number_of_line h.last) n h.k h.left h.few h.owed;
   cut = h.cut;
 }
 stops_at size stop.Memory n limit busy busy' busy'' t t' t'' fewer logs h = record {
@@ -214,43 +214,43 @@ pub not_open : (size : ℕ) (busy busy' : List ℕ) (net : NetCounts) (o : Outpu
 not_open size busy busy' net o book = starved size 0 busy busy' _ _ refl refl refl refl
 
 -- its line could not be written
-pub unclosed : (size : ℕ) (why : Stop) (number : ℕ) (end : Cause) (busy busy' : List ℕ) (net : NetCounts) (o o' : Output) (book : Option (List Ending)) → IsPermutation (number ∷ busy') busy → Says (Err why) (closed_text number end) o o' →
-    Halts size why 0 [] busy busy' (record { net = net; out = o; book = book }) (record { net = net; out = o'; book = book })
+pub unclosed : (size : ℕ) (why : Stop) (number : ℕ) (end : Cause) (busy busy' : List ℕ) (net : NetCounts) (o o' : Output) (book : Option (List Ending)) → IsPermutation (number ∷ busy') busy → OutputSays (Err why) (closed_text number end) o o' →
+    LogHalts size why 0 [] busy busy' (record { net = net; out = o; book = book }) (record { net = net; out = o'; book = book })
 unclosed size why number end busy busy' net o o' book numbers said = unsaid size why (Closed (record { number = number; cause = end })) [] busy busy' _ _ (inl (busy', numbers)) refl refl refl said
 
 -- the book refused it
-pub unbooked_closed : (size : ℕ) (number : ℕ) (end : Cause) (busy busy' : List ℕ) (net : NetCounts) (o o' : Output) (book book' : Option (List Ending)) → IsPermutation (number ∷ busy') busy → Says (Ok tt) (closed_text number end) o o' → book' ≡ book →
+pub unbooked_closed : (size : ℕ) (number : ℕ) (end : Cause) (busy busy' : List ℕ) (net : NetCounts) (o o' : Output) (book book' : Option (List Ending)) → IsPermutation (number ∷ busy') busy → OutputSays (Ok tt) (closed_text number end) o o' → book' ≡ book →
     MemoryHalt size 0 busy (record { net = net; out = o; book = book }) (record { net = net; out = o'; book = book' })
 unbooked_closed size number end busy busy' net o o' book book' numbers said same = unbooked size (Closed (record { number = number; cause = end })) busy busy' _ _ (busy', numbers) refl same said
 
 -- there was no room for its reader
-pub unkept_closed : (size : ℕ) (number : ℕ) (end : Cause) (busy busy' : List ℕ) (net : NetCounts) (o o' : Output) (book book' : Option (List Ending)) → IsPermutation (number ∷ busy') busy → Says (Ok tt) (closed_text number end) o o'
+pub unkept_closed : (size : ℕ) (number : ℕ) (end : Cause) (busy busy' : List ℕ) (net : NetCounts) (o o' : Output) (book book' : Option (List Ending)) → IsPermutation (number ∷ busy') busy → OutputSays (Ok tt) (closed_text number end) o o'
     → book' ≡ with_ending book (record { number = number; cause = end }) → MemoryHalt size 0 busy (record { net = net; out = o; book = book }) (record { net = net; out = o'; book = book' })
 unkept_closed size number end busy busy' net o o' book book' numbers said taken = unkept size (record { number = number; cause = end }) busy busy' _ _ numbers refl said taken
 
 -- it was taken back
 pub taken_closed : (size : ℕ) (r : Result (Unit {0}) Stop) (number : ℕ) (end : Cause) (s s' : ReaderState) (busy busy' : List ℕ) (net : NetCounts) (o o' : Output) (book book' : Option (List Ending)) → Closes r end s s'
-    → IsPermutation (number ∷ busy') busy → Says (Ok tt) (closed_text number end) o o' → book' ≡ with_ending book (record { number = number; cause = end })
-    → Goes size r 0 [] busy busy' (record { net = net; out = o; book = book }) (record { net = net; out = o'; book = book' })
+    → IsPermutation (number ∷ busy') busy → OutputSays (Ok tt) (closed_text number end) o o' → book' ≡ with_ending book (record { number = number; cause = end })
+    → LogGoes size r 0 [] busy busy' (record { net = net; out = o; book = book }) (record { net = net; out = o'; book = book' })
 taken_closed size r number end s s' busy busy' net o o' book book' closes numbers said taken = took_back size r (record { number = number; cause = end }) s s' busy busy' _ _ closes numbers refl said taken
 
 -- ---- a client that was accepted
 
 -- there is no link for it
 pub unlinked_said : (size : ℕ) (r : Result (Unit {0}) Stop) (number : ℕ) (busy : List ℕ) (t t' : Seen) → (t'.net).accepted ≡ (t.net).accepted → (t'.net).door_faults ≡ (t.net).door_faults
-    → (t'.net).dial_faults ≡ more size (t.net).dial_faults → t'.book ≡ t.book → Says r (no_link_text number) t.out t'.out → Goes size r 0 (number ∷ []) busy busy t t'
+    → (t'.net).dial_faults ≡ more size (t.net).dial_faults → t'.book ≡ t.book → OutputSays r (no_link_text number) t.out t'.out → LogGoes size r 0 (number ∷ []) busy busy t t'
 unlinked_said size (Ok u) number busy t t' accepted doors dials book said = logs_unlinked size false number busy t t' accepted doors dials said book
 unlinked_said size (Err why) number busy t t' accepted doors dials book said = unsaid size why (NoLink number) (number ∷ []) busy busy t t' (inr (refl, omega arith)) accepted doors book said
 
 -- ---- one after the other, with nobody accepted
 
-pub goes_on : (size : ℕ) (busy busy' busy'' : List ℕ) (t t' t'' : Seen) → Logs size false 0 [] busy busy' t t' → Goes size (Ok tt) 0 [] busy' busy'' t' t'' → Logs size false 0 [] busy busy'' t t''
+pub goes_on : (size : ℕ) (busy busy' busy'' : List ℕ) (t t' t'' : Seen) → Logs size false 0 [] busy busy' t t' → LogGoes size (Ok tt) 0 [] busy' busy'' t' t'' → Logs size false 0 [] busy busy'' t t''
 goes_on size busy busy' busy'' t t' t'' logs next = logs_then size false 0 0 0 (omega arith) [] [] busy busy' busy'' t t' t'' logs next
 
-pub goes_later : (size : ℕ) (why : Stop) (most : ℕ) (busy busy' busy'' : List ℕ) (t t' t'' : Seen) → most ≤ 1 → Logs size false 0 [] busy busy' t t' → Halts size why most [] busy' busy'' t' t'' → Halts size why most [] busy busy'' t t''
+pub goes_later : (size : ℕ) (why : Stop) (most : ℕ) (busy busy' busy'' : List ℕ) (t t' t'' : Seen) → most ≤ 1 → Logs size false 0 [] busy busy' t t' → LogHalts size why most [] busy' busy'' t' t'' → LogHalts size why most [] busy busy'' t t''
 goes_later size why most busy busy' busy'' t t' t'' few logs h =
     let all : 0 + most ≡ most = omega arith in
-    subst (λ (n : ℕ). Halts size why n [] busy busy'' t t'') all (halts_later size why 0 most [] busy busy' busy'' t t' t'' (omega (arith, few)) logs h)
+    subst (λ (n : ℕ). LogHalts size why n [] busy busy'' t t'') all (halts_later size why 0 most [] busy busy' busy'' t t' t'' (omega (arith, few)) logs h)
 
 pub starves_later : (size : ℕ) (most : ℕ) (busy busy' busy'' : List ℕ) (t t' : Seen) → Logs size false 0 [] busy busy' t t' → MemoryHalt size most busy t t'
 starves_later size most busy busy' busy'' t t' logs = starved_after size most 0 busy busy' busy'' t t' (omega arith) (logs_met size false 0 [] busy busy' t t' logs)
@@ -268,7 +268,7 @@ met_found size end busy busy' t t' h = let none : h.k ≡ 0 = omega (arith, h.fe
 pub rested : (size : ℕ) (end : FeedEnd) (busy busy' : List ℕ) (t t' : Seen) → MayBeTold end → busy' ≡ [] → Logs size true 0 [] busy busy' t t' → FeedHalt size end 0 busy [] t t'
 rested size end busy busy' t t' may none logs = record { may = may; k = 0; few = omega arith; logs = subst (λ (b : List ℕ). Logs size true 0 [] busy b t t') none logs }
 
-pub met_later : (size : ℕ) (why : Stop) (busy busy' busy'' : List ℕ) (t t' t'' : Seen) → Logs size true 0 [] busy busy' t t' → Halts size why 0 [] busy' busy'' t' t'' → Halts size why 0 [] busy busy'' t t''
+pub met_later : (size : ℕ) (why : Stop) (busy busy' busy'' : List ℕ) (t t' t'' : Seen) → Logs size true 0 [] busy busy' t t' → LogHalts size why 0 [] busy' busy'' t' t'' → LogHalts size why 0 [] busy busy'' t t''
 met_later size stop.Net busy busy' busy'' t t' t'' logs h = absurd (omega (arith, h.0))
 met_later size (stop.Feed end) busy busy' busy'' t t' t'' logs h =
     record { may = h.may; k = h.k; few = h.few; logs = logs_then size true 0 h.k h.k (omega arith) [] [] busy busy' busy'' t t' t'' logs h.logs }
@@ -295,5 +295,5 @@ pub met_starved : (size : ℕ) (busy busy' busy'' : List ℕ) (t t' : Seen) → 
 met_starved size busy busy' busy'' t t' logs = starved_after size 0 0 busy busy' busy'' t t' (omega arith) logs
 
 -- one found it closed, and the others were waited for
-pub rest_later : (size : ℕ) (end : FeedEnd) (why : Stop) (busy busy' busy'' : List ℕ) (t t' t'' : Seen) → FeedHalt size end 0 busy busy' t t' → (MayBeTold end → Halts size why 0 [] busy' busy'' t' t'') → Halts size why 0 [] busy busy'' t t''
+pub rest_later : (size : ℕ) (end : FeedEnd) (why : Stop) (busy busy' busy'' : List ℕ) (t t' t'' : Seen) → FeedHalt size end 0 busy busy' t t' → (MayBeTold end → LogHalts size why 0 [] busy' busy'' t' t'') → LogHalts size why 0 [] busy busy'' t t''
 rest_later size end why busy busy' busy'' t t' t'' found rest = met_later size why busy busy' busy'' t t' t'' (met_found size end busy busy' t t' found) (rest found.may)

@@ -10,7 +10,7 @@ use Rattle.std.specs.Io.KnownBytes.{append_known}
 use Rattle.zx_outside.specs.Counts.{one_more}
 use Rattle.zx_outside.proofs.Streams.{Takes-append, append_known-nil}
 use Rattle.zp_server.specs.Books.{Ending, with_ending, with_endings}
-use Rattle.zp_server.specs.Lines.{Line, Closed, NoLink, closed_text, ending_of, is_fed, is_feed_closed, no_link_text, number_of, text_of, unlinked}
+use Rattle.zp_server.specs.Lines.{Line, Closed, NoLink, closed_text, ending_in, is_fed, is_feed_closed, no_link_text, number_of_line, text_of, unlinked}
 use Rattle.zp_server.specs.Telling.{IsWritten, Seen, more}
 use Rattle.zp_server.specs.Logs.{Logs}
 use Rattle.ev_link.specs.Reaching.{undialled_times}
@@ -183,10 +183,10 @@ logs_then size met k k' sum is fresh fresh' busy busy' busy'' t t' t'' a b = rec
   dials = b.dials ∙ ap (more (size * length (filter_map unlinked b.lines) + b.passed)) a.dials
       ∙ more_plus (size * length (filter_map unlinked a.lines) + a.passed) (size * length (filter_map unlinked b.lines) + b.passed) (t.net).dial_faults
       ∙ ap (λ (n : ℕ). more n (t.net).dial_faults) (failed_both size a.passed b.passed a.lines b.lines);
-  numbers = rw (map-append number_of a.lines b.lines) (numbers_then (map number_of a.lines) (map number_of b.lines) fresh fresh' busy busy' busy'' a.numbers b.numbers);
+  numbers = rw (map-append number_of_line a.lines b.lines) (numbers_then (map number_of_line a.lines) (map number_of_line b.lines) fresh fresh' busy busy' busy'' a.numbers b.numbers);
   fed = λ unmet. filter-append is_fed a.lines b.lines ∙ ap (λ (ls : List Line). ls ++ filter is_fed b.lines) (a.fed unmet) ∙ b.fed unmet;
-  book = b.book ∙ ap (λ (bk : Option (List Ending)). with_endings bk (filter_map ending_of b.lines)) a.book ∙ with_more t.book (filter_map ending_of a.lines) (filter_map ending_of b.lines)
-      ∙ ap (with_endings t.book) (sym (filter_map-append ending_of a.lines b.lines));
+  book = b.book ∙ ap (λ (bk : Option (List Ending)). with_endings bk (filter_map ending_in b.lines)) a.book ∙ with_more t.book (filter_map ending_in a.lines) (filter_map ending_in b.lines)
+      ∙ ap (with_endings t.book) (sym (filter_map-append ending_in a.lines b.lines));
   written = rw (flat_map-append text_of a.lines b.lines) (Takes-append (flat_map text_of a.lines) (flat_map text_of b.lines) (t.out).taken (t'.out).taken (t''.out).taken a.written b.written);
   unharmed = b.unharmed ∙ a.unharmed;
 }

@@ -31,13 +31,13 @@ abbrev pub text_of : Line → List ℕ
 text_of (Closed e) = closed_text e.number e.cause
 text_of (NoLink number) = no_link_text number
 
-abbrev pub number_of : Line → ℕ
-number_of (Closed e) = e.number
-number_of (NoLink number) = number
+abbrev pub number_of_line : Line → ℕ
+number_of_line (Closed e) = e.number
+number_of_line (NoLink number) = number
 
-abbrev pub ending_of : Line → Option Ending
-ending_of (Closed e) = Some e
-ending_of (NoLink number) = None
+abbrev pub ending_in : Line → Option Ending
+ending_in (Closed e) = Some e
+ending_in (NoLink number) = None
 
 -- the number of a connection for which there was no link
 abbrev pub unlinked : Line → Option ℕ

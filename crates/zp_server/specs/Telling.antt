@@ -31,32 +31,32 @@ pub record IsWritten (text : List ℕ) (o o' : Output) : Type 0 where
   pub unharmed : o'.counts ≡ o.counts
 
 -- the sink had one fault, and took a front of the text
-pub record IsCut (text : List ℕ) (o o' : Output) : Type 0 where
+pub record IsCutOutput (text : List ℕ) (o o' : Output) : Type 0 where
   pub taken : TakesFront text o.taken o'.taken
   pub harmed : o'.counts ≡ counts_after_write took.Failed o.counts
 
 abbrev pub WritesAll : Bool → List ℕ → Output → Output → Type 0
 WritesAll true text o o' = IsWritten text o o'
-WritesAll false text o o' = IsCut text o o'
+WritesAll false text o o' = IsCutOutput text o o'
 
 -- a line was written; where memory was refused, nothing was
-abbrev pub Says : Result (Unit {0}) Stop → List ℕ → Output → Output → Type 0
-Says (Ok _) text o o' = IsWritten text o o'
-Says (Err stop.Write) text o o' = IsCut text o o'
-Says (Err stop.Memory) text o o' = o' ≡ o
-Says (Err _) text o o' = ⊥
+abbrev pub OutputSays : Result (Unit {0}) Stop → List ℕ → Output → Output → Type 0
+OutputSays (Ok _) text o o' = IsWritten text o o'
+OutputSays (Err stop.Write) text o o' = IsCutOutput text o o'
+OutputSays (Err stop.Memory) text o o' = o' ≡ o
+OutputSays (Err _) text o o' = ⊥
 
 -- the text was written, and nothing else has happened
-pub record Tells (text : List ℕ) (t t' : Seen) : Type 0 where
+pub record TellsText (text : List ℕ) (t t' : Seen) : Type 0 where
   pub net : t'.net ≡ t.net
   pub out : IsWritten text t.out t'.out
   pub book : t'.book ≡ t.book
 
 -- a front of the text was written, and nothing else has happened, but perhaps a dial that failed
-pub record Cuts (text : List ℕ) (t t' : Seen) : Type 0 where
+pub record TellsFront (text : List ℕ) (t t' : Seen) : Type 0 where
   pub accepted : (t'.net).accepted ≡ (t.net).accepted
   pub doors : (t'.net).door_faults ≡ (t.net).door_faults
-  pub out : IsCut text t.out t'.out
+  pub out : IsCutOutput text t.out t'.out
   pub book : t'.book ≡ t.book
 
 -- a door had a fault, and nothing else has happened

@@ -5,7 +5,7 @@ ghost use Rattle.ev_addresses.specs.Lists.{addresses_in};
 ghost use Rattle.ev_call.specs.Addresses.{IsAddress};
 ghost use Rattle.ev_call.specs.Calls.{calls_of};
 ghost use Rattle.zx_net.specs.Nets.{IsFreshSink, IsFreshSource};
-ghost use Rattle.zp_server.specs.Logs.{Goes, Stops};
+ghost use Rattle.zp_server.specs.Logs.{LogGoes, LogStops};
 ghost use Rattle.zp_server.specs.Looking.{FindsOpenFor, FindsOpenTwice};
 
 use crate::admitting::admit;
@@ -113,7 +113,7 @@ where
     requires address { IsAddress endpoint.now }
     requires source { IsFreshSource (N.In.given ends.0) (N.In.counts ends.0) (N.In.ended ends.0) (N.In.name ends.0) number }
     requires sink { IsFreshSink (N.Out.taken ends.1) (N.Out.counts ends.1) (N.Out.name ends.1) number }
-    ensures goes { Goes (length (addresses_in endpoint.now)) result 0 (number ∷ []) desk.old.busy.items desk.new.busy.items
+    ensures goes { LogGoes (length (addresses_in endpoint.now)) result 0 (number ∷ []) desk.old.busy.items desk.new.busy.items
         (record { net = N.counts net.old; out = record { taken = O.taken out.old; counts = O.counts out.old }; book = B.told book.old })
         (record { net = N.counts net.new; out = record { taken = O.taken out.new; counts = O.counts out.new }; book = B.told book.new }) }
     ensures own { desk.new.own ≡ desk.old.own }
@@ -167,7 +167,7 @@ where
     requires address { IsAddress endpoint.now }
     requires accepted { (N.counts net.old).accepted ≡ before }
     requires few { before + 1 < 2 ^ 64 }
-    ensures goes { Goes (length (addresses_in endpoint.now)) result 1 ((before + 1) ∷ []) desk.old.busy.items desk.new.busy.items
+    ensures goes { LogGoes (length (addresses_in endpoint.now)) result 1 ((before + 1) ∷ []) desk.old.busy.items desk.new.busy.items
         (record { net = N.counts net.old; out = record { taken = O.taken out.old; counts = O.counts out.old }; book = B.told book.old })
         (record { net = N.counts net.new; out = record { taken = O.taken out.new; counts = O.counts out.new }; book = B.told book.new }) }
     ensures looked { OnOk result (FindsOpenTwice desk.old.own desk.new.own) }
@@ -223,7 +223,7 @@ where
     requires address { IsAddress endpoint.now }
     requires fresh { (N.counts net.old).accepted ≡ 0 }
     requires idle { desk.old.busy.items ≡ [] }
-    ensures stops { Stops (length (addresses_in endpoint.now)) result limit desk.new.busy.items
+    ensures stops { LogStops (length (addresses_in endpoint.now)) result limit desk.new.busy.items
         (record { net = N.counts net.old; out = record { taken = O.taken out.old; counts = O.counts out.old }; book = B.told book.old })
         (record { net = N.counts net.new; out = record { taken = O.taken out.new; counts = O.counts out.new }; book = B.told book.new }) }
     ensures looked { OnOk result (FindsOpenFor limit desk.old.own desk.new.own) }

@@ -6,7 +6,7 @@ ghost use Rattle.zk_transcript.specs.declared.transcript.TranscriptLine.TheVaria
 ghost use Rattle.zt_text.specs.Transcripts.{line_text};
 ghost use Rattle.zw_hub.specs.declared.feed.FeedEnd.TheVariants.{Compacted, Gap, Damaged};
 ghost use Rattle.zp_server.specs.Lines.{cause_text, closed_text, feed_text, listening_text, no_link_text};
-ghost use Rattle.zp_server.specs.Telling.{Says, WritesAll};
+ghost use Rattle.zp_server.specs.Telling.{OutputSays, WritesAll};
 
 use crate::ends::Stop;
 use std::alloc::Global;
@@ -185,7 +185,7 @@ pub fn write_all<O: Sink>(out: &mut O, bytes: &[u8]) -> bool
 
 /// Writes a line.
 fn say<O: Sink>(out: &mut O, text: &[u8]) -> Result<(), Stop>
-    ensures { Says result text.now (record { taken = O.taken out.old; counts = O.counts out.old }) (record { taken = O.taken out.new; counts = O.counts out.new }) }
+    ensures { OutputSays result text.now (record { taken = O.taken out.old; counts = O.counts out.old }) (record { taken = O.taken out.new; counts = O.counts out.new }) }
 {
     if write_all(out, text) {
         Ok(())
@@ -201,7 +201,7 @@ pub fn say_closed<O: Sink>(
     cause: &Cause,
     out: &mut O,
 ) -> Result<(), Stop>
-    ensures { Says result (closed_text number cause.now) (record { taken = O.taken out.old; counts = O.counts out.old }) (record { taken = O.taken out.new; counts = O.counts out.new }) }
+    ensures { OutputSays result (closed_text number cause.now) (record { taken = O.taken out.old; counts = O.counts out.old }) (record { taken = O.taken out.new; counts = O.counts out.new }) }
 {
     match closed(alloc, number, cause) {
         Ok(text) => say(out, text.as_slice()),
@@ -211,7 +211,7 @@ pub fn say_closed<O: Sink>(
 
 /// Says that there is no link for a connection.
 pub fn say_no_link<O: Sink>(alloc: Global, number: u64, out: &mut O) -> Result<(), Stop>
-    ensures { Says result (no_link_text number) (record { taken = O.taken out.old; counts = O.counts out.old }) (record { taken = O.taken out.new; counts = O.counts out.new }) }
+    ensures { OutputSays result (no_link_text number) (record { taken = O.taken out.old; counts = O.counts out.old }) (record { taken = O.taken out.new; counts = O.counts out.new }) }
 {
     match no_link(alloc, number) {
         Ok(text) => say(out, text.as_slice()),

@@ -4,8 +4,8 @@ ghost use Rattle.std.specs.Prelude.{◌≡◌, ℕ, [], length, IfOk, Err};
 ghost use Rattle.ev_addresses.specs.Lists.{addresses_in};
 ghost use Rattle.ev_call.specs.Addresses.{IsAddress};
 ghost use Rattle.zp_server.specs.Beginning.{IsPlace};
-ghost use Rattle.zp_server.specs.Ends.{Clients, Ends, Finishes, ServesFrom};
-ghost use Rattle.zp_server.specs.Logs.{Stops};
+ghost use Rattle.zp_server.specs.Ends.{Clients, ServeEnds, ServeFinishes, ServesFrom};
+ghost use Rattle.zp_server.specs.Logs.{LogStops};
 ghost use Rattle.zp_server.specs.Telling.{Seen};
 ghost use Rattle.zx_net.specs.Nets.{NetCounts};
 
@@ -38,7 +38,7 @@ const MAX_CLIENTS: usize = 256;
 /// Says that the net had a fault.
 #[tactic(auto, unfolding(crate::specs::Lines::fault_text))]
 fn net_fault<O: Sink>(out: &mut O) -> ServeEnd
-    ensures { Finishes (Err Stop.Net) result (record { taken = O.taken out.old; counts = O.counts out.old }) (record { taken = O.taken out.new; counts = O.counts out.new }) }
+    ensures { ServeFinishes (Err Stop.Net) result (record { taken = O.taken out.old; counts = O.counts out.old }) (record { taken = O.taken out.new; counts = O.counts out.new }) }
 {
     if write_all(out, NET_FAULT) {
         ServeEnd::Net
@@ -49,7 +49,7 @@ fn net_fault<O: Sink>(out: &mut O) -> ServeEnd
 
 /// Says why the hub was closed.
 fn feed_end<O: Sink>(alloc: Global, end: Arc<FeedEnd, Global>, out: &mut O) -> ServeEnd
-    ensures { Finishes (Err (Stop.Feed end)) result (record { taken = O.taken out.old; counts = O.counts out.old }) (record { taken = O.taken out.new; counts = O.counts out.new }) }
+    ensures { ServeFinishes (Err (Stop.Feed end)) result (record { taken = O.taken out.old; counts = O.counts out.old }) (record { taken = O.taken out.new; counts = O.counts out.new }) }
 {
     let text = match feed(alloc, &end) {
         Ok(text) => text,
@@ -64,7 +64,7 @@ fn feed_end<O: Sink>(alloc: Global, end: Arc<FeedEnd, Global>, out: &mut O) -> S
 
 /// Ends a server that accepts no further client.
 fn finish<O: Sink>(alloc: Global, stopped: Result<(), Stop>, out: &mut O) -> ServeEnd
-    ensures { Finishes stopped result (record { taken = O.taken out.old; counts = O.counts out.old }) (record { taken = O.taken out.new; counts = O.counts out.new }) }
+    ensures { ServeFinishes stopped result (record { taken = O.taken out.old; counts = O.counts out.old }) (record { taken = O.taken out.new; counts = O.counts out.new }) }
 {
     match stopped {
         Ok(()) => ServeEnd::Done,
@@ -101,9 +101,9 @@ fn waited_for<
     out: &mut O,
     book: &mut B,
 ) -> Stop
-    ensures { (size : ℕ) (net : NetCounts) (limit : ℕ) (first : Seen) → Stops size (Err stop) limit desk.old.busy.items first
+    ensures { (size : ℕ) (net : NetCounts) (limit : ℕ) (first : Seen) → LogStops size (Err stop) limit desk.old.busy.items first
         (record { net = net; out = record { taken = O.taken out.old; counts = O.counts out.old }; book = B.told book.old })
-        → Stops size (Err result) limit [] first
+        → LogStops size (Err result) limit [] first
         (record { net = net; out = record { taken = O.taken out.new; counts = O.counts out.new }; book = B.told book.new }) }
 {
     match stop {
@@ -144,7 +144,7 @@ where
     requires address { IsAddress endpoint.now }
     requires fresh { (N.counts net.old).accepted ≡ 0 }
     requires idle { desk.old.busy.items ≡ [] }
-    ensures { Stops (length (addresses_in endpoint.now)) result limit []
+    ensures { LogStops (length (addresses_in endpoint.now)) result limit []
         (record { net = N.counts net.old; out = record { taken = O.taken out.old; counts = O.counts out.old }; book = B.told book.old })
         (record { net = N.counts net.new; out = record { taken = O.taken out.new; counts = O.counts out.new }; book = B.told book.new }) }
 {
@@ -358,7 +358,7 @@ where
     requires address { IsAddress endpoint.now }
     requires fresh { (N.counts net.old).accepted ≡ 0 }
     // What was accepted, written and given to the book, by the end.
-    ensures { Ends (length (addresses_in endpoint.now)) result listen.now limit (L.failures cluster.old) (L.failures cluster.new) (P.refusals spawner.old) (P.refusals spawner.new)
+    ensures { ServeEnds (length (addresses_in endpoint.now)) result listen.now limit (L.failures cluster.old) (L.failures cluster.new) (P.refusals spawner.old) (P.refusals spawner.new)
         (record { net = N.counts net.old; out = record { taken = O.taken out.old; counts = O.counts out.old }; book = B.told book.old })
         (record { net = N.counts net.new; out = record { taken = O.taken out.new; counts = O.counts out.new }; book = B.told book.new }) }
 {

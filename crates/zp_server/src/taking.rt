@@ -4,7 +4,7 @@ ghost use Rattle.std.specs.Prelude.{◌≡◌, ℕ, [], OnOk};
 ghost use Rattle.std.specs.Arc.{arc_value};
 ghost use Rattle.zw_hub.specs.Ends.{MayBeTold};
 ghost use Rattle.zx_net.specs.Nets.{NetCounts};
-ghost use Rattle.zp_server.specs.Logs.{Goes, Halts, Rests};
+ghost use Rattle.zp_server.specs.Logs.{LogGoes, LogHalts, Rests};
 
 use crate::back::Returned;
 use crate::book::Book;
@@ -28,7 +28,7 @@ pub fn take_back<I: Source + Drop, K: Sink + Drop, R: Wait + Drop, O: Sink, B: B
     out: &mut O,
     book: &mut B,
 ) -> Result<(), Stop>
-    ensures goes { (size : ℕ) (net : NetCounts) → Goes size result 0 [] desk.old.busy.items desk.new.busy.items
+    ensures goes { (size : ℕ) (net : NetCounts) → LogGoes size result 0 [] desk.old.busy.items desk.new.busy.items
         (record { net = net; out = record { taken = O.taken out.old; counts = O.counts out.old }; book = B.told book.old })
         (record { net = net; out = record { taken = O.taken out.new; counts = O.counts out.new }; book = B.told book.new }) }
     ensures own { desk.new.own ≡ desk.old.own }
@@ -71,7 +71,7 @@ pub fn make_room<
     out: &mut O,
     book: &mut B,
 ) -> Result<(), Stop>
-    ensures goes { (size : ℕ) (net : NetCounts) → Goes size result 0 [] desk.old.busy.items desk.new.busy.items
+    ensures goes { (size : ℕ) (net : NetCounts) → LogGoes size result 0 [] desk.old.busy.items desk.new.busy.items
         (record { net = net; out = record { taken = O.taken out.old; counts = O.counts out.old }; book = B.told book.old })
         (record { net = net; out = record { taken = O.taken out.new; counts = O.counts out.new }; book = B.told book.new }) }
     ensures own { desk.new.own ≡ desk.old.own }
@@ -129,7 +129,7 @@ pub fn await_rest<
     out: &mut O,
     book: &mut B,
 ) -> Stop
-    ensures { (size : ℕ) (net : NetCounts) → MayBeTold (arc_value end) → Halts size result 0 [] desk.old.busy.items []
+    ensures { (size : ℕ) (net : NetCounts) → MayBeTold (arc_value end) → LogHalts size result 0 [] desk.old.busy.items []
         (record { net = net; out = record { taken = O.taken out.old; counts = O.counts out.old }; book = B.told book.old })
         (record { net = net; out = record { taken = O.taken out.new; counts = O.counts out.new }; book = B.told book.new }) }
 {
@@ -166,7 +166,7 @@ fn await_first<
     out: &mut O,
     book: &mut B,
 ) -> Result<(), Stop>
-    ensures goes { (size : ℕ) (net : NetCounts) → Goes size result 0 [] desk.old.busy.items desk.new.busy.items
+    ensures goes { (size : ℕ) (net : NetCounts) → LogGoes size result 0 [] desk.old.busy.items desk.new.busy.items
         (record { net = net; out = record { taken = O.taken out.old; counts = O.counts out.old }; book = B.told book.old })
         (record { net = net; out = record { taken = O.taken out.new; counts = O.counts out.new }; book = B.told book.new }) }
     ensures idle { OnOk result (desk.new.busy.items ≡ []) }
@@ -205,7 +205,7 @@ pub fn await_all<
     out: &mut O,
     book: &mut B,
 ) -> Result<(), Stop>
-    ensures { (size : ℕ) (net : NetCounts) → Goes size result 0 [] desk.old.busy.items []
+    ensures { (size : ℕ) (net : NetCounts) → LogGoes size result 0 [] desk.old.busy.items []
         (record { net = net; out = record { taken = O.taken out.old; counts = O.counts out.old }; book = B.told book.old })
         (record { net = net; out = record { taken = O.taken out.new; counts = O.counts out.new }; book = B.told book.new }) }
 {

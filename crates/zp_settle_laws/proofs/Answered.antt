@@ -25,7 +25,7 @@ use Rattle.zn_view.specs.declared.plan.Decision.{Decision}
 use Rattle.zn_view.specs.declared.plan.Decision.TheVariants.{Answered, Planned, Expired, Moved}
 use Rattle.zn_view.specs.declared.plan.Plan.{Plan}
 use Rattle.zn_view.specs.declared.want.Want.{Want}
-use Rattle.zs_reap.specs.Steps.{AreFew}
+use Rattle.zs_reap.specs.Steps.{AreFewOwned}
 use Rattle.zs_session.specs.Alive.{is_alive_due}
 use Rattle.zs_session.specs.Answering.{viewed}
 use Rattle.zs_session.specs.Sessions.{attach_wants, life_key}
@@ -44,7 +44,7 @@ use Rattle.zp_step.specs.Plans.{CommitAnswered, Committed, ReadOn, finishes}
 use Rattle.zp_step.specs.Replies.{Is, closed_by, is_due, replied, stage_after, waits}
 use Rattle.zp_step.specs.Stages.{Core, Pending, Stage, Unconnected, Connecting, Ready, KeepingAlive, Checking, Reading, Committing, Waiting, Shut, is_shut}
 use Rattle.zp_step.specs.Steps.{Answers, Goes, StepsOpen, rests, takes}
-use Rattle.zp_step.specs.Taking.{Takes, TakesReadable, end_of_plain, plainly}
+use Rattle.zp_step.specs.Taking.{TakesFrame, TakesReadable, end_of_plain, plainly}
 use Rattle.zp_step.specs.declared.action.Action.{Action}
 use Rattle.zp_step.specs.declared.input.Input.TheVariants as input
 use Rattle.zp_settle_laws.proofs.Coming.{AsksAfter, AsksOut, CommitAfter, ConnectAfter, EndsIf, IsTruthful, LooksOn, Remains, RemainsAfter, TruthIn, again_for, is_present}
@@ -107,7 +107,7 @@ module _ (s : Store) (n : ℕ) where
     looks-then c xid r v now k l w t (inl y) =
         is-then (asks_for c xid r v (take max_ranges y.lacking)) c' out (go l.rounds l.ends l.most (is-true (asks_for c xid r v (take max_ranges y.lacking)) c' out t y.is)) y.is
       where
-        go : (m : ℕ) → EndsIf r c.who m v → m + 1 + again_for (is_present s v) r ≤ k → AreFew c.who.session v → Then s n (asks_for c xid r v (take max_ranges y.lacking)).0
+        go : (m : ℕ) → EndsIf r c.who m v → m + 1 + again_for (is_present s v) r ≤ k → AreFewOwned c.who.session v → Then s n (asks_for c xid r v (take max_ranges y.lacking)).0
         go zero ends most few = absurd (y.some (ends few y.lacking y.needs))
         go (suc m) ends most few = inr (record {
           asks = k;
@@ -141,12 +141,12 @@ module _ (s : Store) (n : ℕ) where
               most = w;
             })) y.is
 
-    takes-then : (c : Core) (bytes : List ℕ) (now k : ℕ) → asks_of bytes ≤ k + 2 → k + asks_of_all c.waiting ≤ n → Takes c bytes now c' out → Then s n c'
+    takes-then : (c : Core) (bytes : List ℕ) (now k : ℕ) → asks_of bytes ≤ k + 2 → k + asks_of_all c.waiting ≤ n → TakesFrame c bytes now c' out → Then s n c'
     takes-then c bytes now k m w h = readable-then c now k (read_request bytes) (plain_reply no_watches (read_request bytes)) refl (omega (arith, m)) w h
 
     takes_up-then : (c : Core) (bytes : List ℕ) (now : ℕ) → asks_of bytes + asks_of_all c.waiting ≤ n → TakesUp c bytes now c' out → Then s n c'
     takes_up-then c bytes now w h =
-        either (is_alive_due c.kept now c.timeout) (Is (keeps_alive c bytes now) c' out) (Takes c bytes now c' out) (Then s n c') h
+        either (is_alive_due c.kept now c.timeout) (Is (keeps_alive c bytes now) c' out) (TakesFrame c bytes now c' out) (Then s n c') h
         (is-then (keeps_alive c bytes now) c' out (inr (record { asks = asks_of bytes; out = omega arith; most = w })))
         (takes-then c bytes now (asks_of bytes) (omega arith) w)
 
@@ -156,7 +156,7 @@ module _ (s : Store) (n : ℕ) where
     still-then c bytes v now k None m w h = is-then (waits c (expired v (xid_of (read_request bytes)))) c' out (waits-then c (expired v (xid_of (read_request bytes))) (omega (arith, w))) h
     still-then c bytes v now k (Some kv) m w h =
         let p = moved c.who v kv.mod_revision (xid_of (read_request bytes)) in
-        either (int_eq kv.mod_revision c.who.mine) (Takes c bytes now c' out) (Is (waits c p) c' out) (Then s n c') h (takes-then c bytes now k m w) (is-then (waits c p) c' out (waits-then c p (omega (arith, w))))
+        either (int_eq kv.mod_revision c.who.mine) (TakesFrame c bytes now c' out) (Is (waits c p) c' out) (Then s n c') h (takes-then c bytes now k m w) (is-then (waits c p) c' out (waits-then c p (omega (arith, w))))
 
     checked-then : (c : Core) (bytes : List ℕ) (now k : ℕ) (a : Answer) → asks_of bytes ≤ k + 2 → k + asks_of_all c.waiting ≤ n → Checked c bytes now c' out a → Then s n c'
     checked-then c bytes now k a m w h = of_txn a _ (Then s n c') h (λ z b parts f.
@@ -165,7 +165,7 @@ module _ (s : Store) (n : ℕ) where
 
     alive-then : (c : Core) (bytes : List ℕ) (now k : ℕ) (a : Answer) → asks_of bytes ≤ k + 1 → k + asks_of_all c.waiting ≤ n → KeptAlive c bytes now c' out a → Then s n c'
     alive-then c bytes now k a m w h = of_alive a _ (Then s n c') h (λ ttl f.
-        either (int_eq ttl (pos 0)) (Is (checks c bytes) c' out) (Takes c bytes now c' out) (Then s n c') f
+        either (int_eq ttl (pos 0)) (Is (checks c bytes) c' out) (TakesFrame c bytes now c' out) (Then s n c') f
         (is-then (checks c bytes) c' out (inr (record { asks = k; out = m; most = w })))
         (takes-then c bytes now k (omega (arith, m)) w))
 

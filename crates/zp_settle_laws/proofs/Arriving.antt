@@ -26,7 +26,7 @@ use Rattle.zp_step.specs.Keepalives.{TakesUp, keeps_alive}
 use Rattle.zp_step.specs.Replies.{Is, closed_by}
 use Rattle.zp_step.specs.Stages.{Core, Stage, Unconnected, Connecting, Ready, KeepingAlive, Checking, Reading, Committing, Waiting, Shut, counted_up}
 use Rattle.zp_step.specs.Steps.{Comes, Goes, Steps as CoreSteps, queued, rests, takes}
-use Rattle.zp_step.specs.Taking.{Takes, TakesReadable, plainly}
+use Rattle.zp_step.specs.Taking.{TakesFrame, TakesReadable, plainly}
 use Rattle.zp_step.specs.declared.action.Action.TheVariants as action
 use Rattle.zp_step.specs.declared.action.Action.{Action}
 use Rattle.zp_step.specs.declared.input.Input.TheVariants as input
@@ -34,7 +34,7 @@ use Rattle.zp_script.specs.Arriving.{EndsBadly, FramesArrive, frame_lines, shown
 use Rattle.zp_script.specs.Handing.{Handed}
 use Rattle.zp_script.specs.Kinds.{kind_asked}
 use Rattle.zp_script.specs.StepOutcomes.{StepOutcome, acts, acts_all, quiet}
-use Rattle.zp_script.specs.Worlds.{Closed, Conn, Connection, World, after_step, conn_at, is_closed, is_open_conn, with_conn, zxid_at}
+use Rattle.zp_script.specs.Worlds.{Closed, Conn, Connection, World, after_step, conn_at, is_closed_actor, is_open_conn, with_conn, zxid_at}
 use Rattle.zp_world_laws.proofs.Handing.{core-same}
 use Rattle.zp_world_laws.proofs.Kept.{true-false}
 use Rattle.zp_world_laws.proofs.Numbers.{conn-here}
@@ -61,7 +61,7 @@ readable-who c c' now out (Asks xid r) None p h = go (first-or-anew c c' xid r n
 
 takes_up-who : (c c' : Core) (bytes : List ℕ) (now : ℕ) (out : List Action) → TakesUp c bytes now c' out → c'.who ≡ c.who
 takes_up-who c c' bytes now out h =
-    either (is_alive_due c.kept now c.timeout) (Is (keeps_alive c bytes now) c' out) (Takes c bytes now c' out) (c'.who ≡ c.who) h (is-who (keeps_alive c bytes now) c c' out refl)
+    either (is_alive_due c.kept now c.timeout) (Is (keeps_alive c bytes now) c' out) (TakesFrame c bytes now c' out) (c'.who ≡ c.who) h (is-who (keeps_alive c bytes now) c c' out refl)
     (readable-who c c' now out (read_request bytes) (plain_reply no_watches (read_request bytes)) refl)
 
 goes-who : (now : ℕ) (c c' : Core) (out : List Action) → Goes now c c' out → c'.who ≡ c.who
@@ -157,7 +157,7 @@ frames-stay c w w' (f ∷ fs) m s (x, mid, found, hd, rest) = go (is_open_conn (
     still = one-stays c w mid x f fs found hd m.0 m.1 s
 
     open-now : StaysOpen c mid → is_open_conn (conn_at c mid) ≡ true
-    open-now t = ap is_open_conn t.there ∙ ap (λ a. not (is_closed a)) t.actor
+    open-now t = ap is_open_conn t.there ∙ ap (λ a. not (is_closed_actor a)) t.actor
 
     go : (b : Bool) → b ≡ true → (FramesArrive c mid fs w' → StaysOpen c w') → MatchBool b (FramesArrive c mid fs w') (w' ≡ mid) → StaysOpen c w'
     go true e later r = later r

@@ -11,7 +11,7 @@ use Rattle.zk_model.specs.declared.reply.Reply.{Reply}
 use Rattle.zk_model.specs.declared.request.Request.{Request}
 use Rattle.zk_transcript.proofs.Attachments.{NoneAfter}
 use Rattle.zk_transcript.proofs.Placed.{first_place-shown, is_legal-at}
-use Rattle.zk_transcript.specs.Answers.{Told, limit_in, plain_reply, session_refusal}
+use Rattle.zk_transcript.specs.Answers.{Told, owned_limit_in, plain_reply, session_refusal}
 use Rattle.zk_transcript.specs.History.{after, frame_shown, session_at, state_at}
 use Rattle.zk_transcript.specs.Legal.{is_legal, is_next_zxid, may_update}
 use Rattle.zk_transcript.specs.Walks.{at_start, closes_session, looked as looks_told, own_update, own_update_in, own_update_shown, response_at, seen_told, told_as_of, told_response, with_end}
@@ -33,7 +33,7 @@ use Rattle.zp_script.specs.declared.flight.Flight.{Flight}
 use Rattle.zp_world_laws.proofs.Kept.{true-false}
 use Rattle.zp_world_laws.proofs.Numbers.{number-same}
 use Rattle.zp_world_laws.specs.Bounds.{attachment}
-use Rattle.zp_world_laws.specs.Connections.{IsServing}
+use Rattle.zp_world_laws.specs.Connections.{IsServingConn}
 use Rattle.zp_settle_laws.proofs.Sessions.{close-frame, held-at, may-close, mild-front, placed-mild, when-both}
 use Rattle.zp_settle_laws.proofs.Staying.{or-both}
 use Rattle.zp_settle_laws.specs.Staying.{AreLasting, IsLasting, IsLastingIn, closes_after, is_close, refuses}
@@ -55,7 +55,7 @@ with_end-is : (over : Bool) (o : Option Told) (b : Bool) (t : Told) → with_end
 with_end-is over None b t h = absurd (none_some h)
 with_end-is over (Some x) b t h = ap (λ (p : Bool × Told). p.0) (some_is h)
 
-module _ (s : Store) (lines : List TranscriptLine) (c : ℕ) (core : Core) (flight : Option Flight) (legal : is_legal lines ≡ true) (k : IsServing s lines c core flight) (kept : NoneAfter (takes_session core.who.session) k.place lines) (mild : HasMildFrames c lines) where
+module _ (s : Store) (lines : List TranscriptLine) (c : ℕ) (core : Core) (flight : Option Flight) (legal : is_legal lines ≡ true) (k : IsServingConn s lines c core flight) (kept : NoneAfter (takes_session core.who.session) k.place lines) (mild : HasMildFrames c lines) where
   front-mild : (n : ℕ) → HasMildFrames c (take n lines)
   front-mild n = mild-front c (take n lines) (drop n lines) (subst (HasMildFrames c) (sym (take-append-drop n lines)) mild)
 
@@ -110,8 +110,8 @@ module _ (s : Store) (lines : List TranscriptLine) (c : ℕ) (core : Core) (flig
       go false g = absurd (none_some g)
   told-not past x w None b t h own state = go (session_refusal c (session_at core.who.session (after past))) state h
     where
-      go : (q : Option Reply) → q ≡ None → seen_told (after past) (limit_in (session_at core.who.session (after past))) core.who.session x w q ≡ Some (b, t) → b ≡ false
-      go None e g = sym (with_end-is false (looks_told (after past) (limit_in (session_at core.who.session (after past))) core.who.session w x (plain_reply w x)) b t g)
+      go : (q : Option Reply) → q ≡ None → seen_told (after past) (owned_limit_in (session_at core.who.session (after past))) core.who.session x w q ≡ Some (b, t) → b ≡ false
+      go None e g = sym (with_end-is false (looks_told (after past) (owned_limit_in (session_at core.who.session (after past))) core.who.session w x (plain_reply w x)) b t g)
       go (Some r) e g = absurd (none_some (sym e))
 
   reply-lasts : (p : Pending) → IsReply lines c core.who k.walker p k.looked → p.ends ≡ None

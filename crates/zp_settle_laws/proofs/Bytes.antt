@@ -45,7 +45,7 @@ use Rattle.zp_script.specs.Happens.{Effect, Happens, Settles, max_settling, sett
 use Rattle.zp_script.specs.Kinds.{kind_asked}
 use Rattle.zp_script.specs.Runs.{IsFirst, RunsFrom}
 use Rattle.zp_script.specs.StepOutcomes.{StepOutcome, acts, acts_all, ended_by, ends, leaves, quiet, reap_acts}
-use Rattle.zp_script.specs.Worlds.{Actor, Closed, Conn, Connection, Reaper, World, after_reap, after_step, conn_at, is_closed, is_open_conn, with_conn, zxid_at}
+use Rattle.zp_script.specs.Worlds.{Actor, Closed, Conn, Connection, Reaper, World, after_reap, after_step, conn_at, is_closed_actor, is_open_conn, with_conn, zxid_at}
 use Rattle.zp_script.specs.declared.flight.Asking.{Asking}
 use Rattle.zp_script.specs.declared.flight.Flight.TheVariants.{Carried, Denied, Out}
 use Rattle.zp_script.specs.declared.flight.Flight.{Flight}
@@ -321,7 +321,7 @@ module _ (c : ℕ) (w mid : World) (x : Conn) (f : List ℕ) (fs : List (List �
 
       go : (b : Bool) → is_shut hd.next.stage ≡ b → b ≡ false
       go false f = refl
-      go true f = absurd (true-false (sym e ∙ ap is_open_conn now ∙ ap (λ b. not (is_closed (if b then Closed else Connection hd.next))) f))
+      go true f = absurd (true-false (sym e ∙ ap is_open_conn now ∙ ap (λ b. not (is_closed_actor (if b then Closed else Connection hd.next))) f))
 
   goes-brings : is_shut hd.next.stage ≡ false → Brings w mid c (length f)
   goes-brings going = record {

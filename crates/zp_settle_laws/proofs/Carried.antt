@@ -32,7 +32,7 @@ use Rattle.zn_view.specs.declared.plan.Plan.{Plan}
 use Rattle.zn_view.specs.declared.plan.Who.{Who}
 use Rattle.zn_view.specs.declared.want.Want.{Want}
 use Rattle.zs_session.specs.Answering.{viewed}
-use Rattle.zs_session.specs.Connecting.{Answers, Attached, Created, Ends, Kept, LookedAgain, LooksFirst, Resumes, SawLifeAt, Steps as ConnectSteps, Waits, asked_in, is_taken, is_there, timeout_in}
+use Rattle.zs_session.specs.Connecting.{ConnectAnswers, Attached, Created, ConnectEnds, Kept, ConnectLookedAgain, ConnectLooksFirst, Resumes, SawLifeAt, ConnectSteps, Waits, asked_in_phase, is_taken, is_there, timeout_in}
 use Rattle.zs_session.specs.Sessions.{attach_guards, attach_txn, attach_wants, first_wants, guard_on, life_key, new_session_guards, new_session_txn, nodes_key, session_wants}
 use Rattle.zs_session.specs.declared.connect.Connect.{Connect}
 use Rattle.zs_session.specs.declared.connect.ConnectStep.{ConnectStep}
@@ -205,17 +205,17 @@ module _ (P : Phase → Type 0) (over : P Over) (c : Connect) (phase : Phase) (s
   waits : (next : Phase) → P next → Waits c next phase step → P phase
   waits next p w = subst P (sym w.0) p
 
-  ends : (end : ConnectStep) → Ends end phase step → P phase
+  ends : (end : ConnectStep) → ConnectEnds end phase step → P phase
   ends end e = subst P (sym e.0) over
 
   resumes : (v : View) (next : ℤ → LeaseRec → Phase) → ((seen : ℤ) (life : LeaseRec) → SawLifeAt v c.request.session seen life → P (next seen life)) → Resumes c v next phase step → P phase
   resumes v next p (inl h) = ends steps.Unknown h.1
   resumes v next p (inr (seen, life, mine, w)) = waits (next seen life) (p seen life mine.saw) w
 
-  looks-first : (v : View) → P Granting → ((seen : ℤ) (life : LeaseRec) → P (Keeping seen life)) → LooksFirst c v phase step → P phase
+  looks-first : (v : View) → P Granting → ((seen : ℤ) (life : LeaseRec) → P (Keeping seen life)) → ConnectLooksFirst c v phase step → P phase
   looks-first v g p h =
       let head = head_zxid (head_of v) in
-      either (int_lt head c.request.last_zxid) (Ends (steps.Ahead c.request.last_zxid head) phase step) (MatchBool (int_eq c.request.session (pos 0)) (Waits c Granting phase step) (Resumes c v Keeping phase step)) (P phase) h
+      either (int_lt head c.request.last_zxid) (ConnectEnds (steps.Ahead c.request.last_zxid head) phase step) (MatchBool (int_eq c.request.session (pos 0)) (Waits c Granting phase step) (Resumes c v Keeping phase step)) (P phase) h
       (ends (steps.Ahead c.request.last_zxid head))
       (λ k. either (int_eq c.request.session (pos 0)) (Waits c Granting phase step) (Resumes c v Keeping phase step) (P phase) k (waits Granting g) (resumes v Keeping (λ seen life saw. p seen life)))
 
@@ -223,7 +223,7 @@ module _ (P : Phase → Type 0) (over : P Over) (c : Connect) (phase : Phase) (s
   created z true parts p h = ends _ h
   created z false parts p h = go (is_taken c.fresh.id (viewed z (session_wants c.fresh.id) parts)) refl h.1
     where
-      go : (b : Bool) → is_taken c.fresh.id (viewed z (session_wants c.fresh.id) parts) ≡ b → MatchBool b (Ends (steps.Taken z) phase step) (Waits c Creating phase step) → P phase
+      go : (b : Bool) → is_taken c.fresh.id (viewed z (session_wants c.fresh.id) parts) ≡ b → MatchBool b (ConnectEnds (steps.Taken z) phase step) (Waits c Creating phase step) → P phase
       go true e k = ends (steps.Taken z) k
       go false e k = waits Creating (p refl e) k
 
@@ -236,7 +236,7 @@ module _ (P : Phase → Type 0) (over : P Over) (c : Connect) (phase : Phase) (s
   attached life z false parts p h = resumes (viewed z (attach_wants c.request.session) parts) Attaching (p refl) h.1
 
 -- any answer leads to a later phase
-answer-later : (c : Connect) (phase : Phase) (step : ConnectStep) (p : Phase) (a : Answer) → Answers c p a phase step → IsLater phase
+answer-later : (c : Connect) (phase : Phase) (step : ConnectStep) (p : Phase) (a : Answer) → ConnectAnswers c p a phase step → IsLater phase
 answer-later c phase step Unasked a h = absurd h
 answer-later c phase step Looking a h = of_txn a _ (IsLater phase) h (λ z b parts f. looks-first IsLater tt c phase step (viewed z (first_wants c.request) parts) tt (λ seen life. tt) f.1)
 answer-later c phase step Granting a h = waits IsLater tt c phase step Creating tt h
@@ -255,20 +255,20 @@ connect-most s x a k h = λ step new t. later-out s new.request.session new.phas
 
 module _ (s u : Store) (x : Connect) (a : Answer) where
   -- where each step leads to what is to be shown at the session's number
-  by-moves : (j : ℕ) → ((step : ConnectStep) (phase : Phase) → Answers x x.phase a phase step → ConnectOut u x.request.session phase j) → ConnectAfter u x a j
+  by-moves : (j : ℕ) → ((step : ConnectStep) (phase : Phase) → ConnectAnswers x x.phase a phase step → ConnectOut u x.request.session phase j) → ConnectAfter u x a j
   by-moves j f = λ step new t. subst (λ id. ConnectOut u id new.phase j) (sym (same-session x new (Some a) step t)) (f step new.phase t.moves)
 
   on-life : (id : ℤ) (v : View) (j : ℕ) → u ≡ s → Agrees v (present s) → 1 ≤ j → (seen : ℤ) (life : LeaseRec) → SawLifeAt v id seen life → ConnectOut u id (Attaching seen life) j
   on-life id v j same agrees h seen life saw = subst (λ y. ConnectOut y id (Attaching seen life) j) (sym same) (omega (arith, h, ap attach_again (life-holds s v id seen life agrees saw)))
 
-  connect-after : (p : Phase) (q : Ask) (k : ℕ) → x.phase ≡ p → asked_in x p ≡ Some q → carry s q ≡ Some (u, a) → ConnectOut s x.request.session p k → Done k (ConnectAfter u x a)
+  connect-after : (p : Phase) (q : Ask) (k : ℕ) → x.phase ≡ p → asked_in_phase x p ≡ Some q → carry s q ≡ Some (u, a) → ConnectOut s x.request.session p k → Done k (ConnectAfter u x a)
   connect-after Unasked q k e o h n = absurd (none_some o)
   connect-after Over q k e o h n = absurd (none_some o)
   connect-after Looking q k e o h n = done-one k (ConnectAfter u x a) (omega (arith, n)) (λ j f. connect-most u x a j (omega (arith, n, f)))
   connect-after Granting q k e o h n = done-one k (ConnectAfter u x a) (omega (arith, n)) (λ j f. by-moves j (λ step phase m.
-      waits (λ y. ConnectOut u x.request.session y j) tt x phase step Creating (omega (arith, n, f)) (subst (λ y. Answers x y a phase step) e m)))
+      waits (λ y. ConnectOut u x.request.session y j) tt x phase step Creating (omega (arith, n, f)) (subst (λ y. ConnectAnswers x y a phase step) e m)))
   connect-after (Keeping seen life) q k e o h n = done-one k (ConnectAfter u x a) (omega (arith, n)) (λ j f. by-moves j (λ step phase m.
-      of_alive a _ (ConnectOut u x.request.session phase j) (subst (λ y. Answers x y a phase step) e m) (λ ttl g.
+      of_alive a _ (ConnectOut u x.request.session phase j) (subst (λ y. ConnectAnswers x y a phase step) e m) (λ ttl g.
       kept (λ y. ConnectOut u x.request.session y j) tt x phase step seen life ttl (omega (arith, n, f)) (omega (arith, n, f, attach-most (succeeds u (attach_txn x.request.session seen life)))) g)))
   connect-after LookingAgain q k e o h n =
       let ht : carry s (reading (pos 0) (attach_wants x.request.session)) ≡ Some (u, a) = ap (carry s) (some_is o) ∙ h in
@@ -277,17 +277,17 @@ module _ (s u : Store) (x : Connect) (a : Answer) where
       done-one k (ConnectAfter u x a) (omega (arith, n)) (λ j f. by-moves j (λ step phase m.
       resumes (λ y. ConnectOut u x.request.session y j) tt x phase step (viewed (revision u) (attach_wants x.request.session) d.parts) Attaching
       (on-life x.request.session (viewed (revision u) (attach_wants x.request.session) d.parts) j d.same (v.1).agrees (omega (arith, n, f)))
-      (let g : LookedAgain x (revision u) d.parts phase step = subst (λ y. Answers x LookingAgain y phase step) d.is (subst (λ y. Answers x y a phase step) e m) in g.1)))
+      (let g : ConnectLookedAgain x (revision u) d.parts phase step = subst (λ y. ConnectAnswers x LookingAgain y phase step) d.is (subst (λ y. ConnectAnswers x y a phase step) e m) in g.1)))
   connect-after Creating q k e o h n =
       let p : Plan = record { guards = new_session_guards x.fresh.id; success = (new_session_txn x.fresh (timeout_in x)).success; again = session_wants x.fresh.id; triggers = []; draft = reply.Good body.Empty } in
       let ht : carry s (transaction p) ≡ Some (u, a) = ap (carry s) (some_is o) ∙ h in
-      done-one k (ConnectAfter u x a) n (λ j f. by-moves j (λ step phase m. go p refl refl ht j step phase (subst (λ y. Answers x y a phase step) e m) (succeeds s (plan_txn p)) refl))
+      done-one k (ConnectAfter u x a) n (λ j f. by-moves j (λ step phase m. go p refl refl ht j step phase (subst (λ y. ConnectAnswers x y a phase step) e m) (succeeds s (plan_txn p)) refl))
     where
-      go : (p : Plan) → p.guards ≡ new_session_guards x.fresh.id → p.again ≡ session_wants x.fresh.id → carry s (transaction p) ≡ Some (u, a) → (j : ℕ) (step : ConnectStep) (phase : Phase) → Answers x Creating a phase step → (b : Bool) → succeeds s (plan_txn p) ≡ b → ConnectOut u x.request.session phase j
+      go : (p : Plan) → p.guards ≡ new_session_guards x.fresh.id → p.again ≡ session_wants x.fresh.id → carry s (transaction p) ≡ Some (u, a) → (j : ℕ) (step : ConnectStep) (phase : Phase) → ConnectAnswers x Creating a phase step → (b : Bool) → succeeds s (plan_txn p) ≡ b → ConnectOut u x.request.session phase j
       go p guards again ht j step phase m true g =
           let b = txn-answered s u (plan_txn p) a ht in
           created (λ y. ConnectOut u x.request.session y j) tt x phase step (revision u) true b.0 (λ bad. absurd (let t : true ≡ false = bad in cc))
-          (subst (λ y. Answers x Creating y phase step) (b.1 ∙ ap (λ y. answer.Txn (revision u) y b.0) g) m)
+          (subst (λ y. ConnectAnswers x Creating y phase step) (b.1 ∙ ap (λ y. answer.Txn (revision u) y b.0) g) m)
       go p guards again ht j step phase m false g =
           let d = is-again s u p a ht g in
           let v = viewed (revision u) (session_wants x.fresh.id) d.parts in
@@ -296,23 +296,23 @@ module _ (s u : Store) (x : Connect) (a : Answer) where
           let shown = λ (k : Key) (has : Contains (session_wants x.fresh.id) (key_want k)). wanted-shown (at_revision empty_view (revision u)) (session_wants x.fresh.id) d.parts (key_want k) long has in
           let taken = taken-now s (plan_txn p) x.fresh.id v guards agrees (shown (life_key x.fresh.id) (0, omega arith, refl)) (shown (nodes_key x.fresh.id) (1, omega arith, refl)) g in
           created (λ y. ConnectOut u x.request.session y j) tt x phase step (revision u) false d.parts (λ f not_taken. absurd (let t : true ≡ false = sym taken ∙ not_taken in cc))
-          (subst (λ y. Answers x Creating y phase step) d.is m)
+          (subst (λ y. ConnectAnswers x Creating y phase step) d.is m)
   connect-after (Attaching seen life) q k e o h n =
       let p : Plan = record { guards = attach_guards x.request.session seen; success = (attach_txn x.request.session seen life).success; again = attach_wants x.request.session; triggers = []; draft = reply.Good body.Empty } in
       let ht : carry s (transaction p) ≡ Some (u, a) = ap (carry s) (some_is o) ∙ h in
-      done-one k (ConnectAfter u x a) (omega (arith, n)) (λ j f. by-moves j (λ step phase m. go p refl ht j (omega (arith, f, n)) step phase (subst (λ y. Answers x y a phase step) e m) (succeeds s (plan_txn p)) refl))
+      done-one k (ConnectAfter u x a) (omega (arith, n)) (λ j f. by-moves j (λ step phase m. go p refl ht j (omega (arith, f, n)) step phase (subst (λ y. ConnectAnswers x y a phase step) e m) (succeeds s (plan_txn p)) refl))
     where
-      go : (p : Plan) → p.again ≡ attach_wants x.request.session → carry s (transaction p) ≡ Some (u, a) → (j : ℕ) → attach_again (succeeds s (plan_txn p)) ≤ j → (step : ConnectStep) (phase : Phase) → Answers x (Attaching seen life) a phase step → (b : Bool) → succeeds s (plan_txn p) ≡ b
+      go : (p : Plan) → p.again ≡ attach_wants x.request.session → carry s (transaction p) ≡ Some (u, a) → (j : ℕ) → attach_again (succeeds s (plan_txn p)) ≤ j → (step : ConnectStep) (phase : Phase) → ConnectAnswers x (Attaching seen life) a phase step → (b : Bool) → succeeds s (plan_txn p) ≡ b
           → ConnectOut u x.request.session phase j
       go p again ht j most step phase m true g =
           let b = txn-answered s u (plan_txn p) a ht in
           attached (λ y. ConnectOut u x.request.session y j) tt x phase step life (revision u) true b.0 (λ bad. absurd (let t : true ≡ false = bad in cc))
-          (subst (λ y. Answers x (Attaching seen life) y phase step) (b.1 ∙ ap (λ y. answer.Txn (revision u) y b.0) g) m)
+          (subst (λ y. ConnectAnswers x (Attaching seen life) y phase step) (b.1 ∙ ap (λ y. answer.Txn (revision u) y b.0) g) m)
       go p again ht j most step phase m false g =
           let d = is-again s u p a ht g in
           attached (λ y. ConnectOut u x.request.session y j) tt x phase step life (revision u) false d.parts
           (λ f. on-life x.request.session (viewed (revision u) (attach_wants x.request.session) d.parts) j d.same (subst (λ ws. Agrees (viewed (revision u) ws d.parts) (present s)) again d.agrees) (omega (arith, most, ap attach_again g)))
-          (subst (λ y. Answers x (Attaching seen life) y phase step) d.is m)
+          (subst (λ y. ConnectAnswers x (Attaching seen life) y phase step) d.is m)
 
 -- ---- whatever is out
 

@@ -49,8 +49,8 @@ use Rattle.zp_step.specs.Looking.{IfRecords, Looks, asks_for, change_by, decided
 use Rattle.zp_step.specs.Plans.{Committed, end_after, finishes}
 use Rattle.zp_step.specs.Replies.{Is, close_after, closed_by, is_due, replied, send_notices, stage_after, waits}
 use Rattle.zp_step.specs.Stages.{Core, Pending, Stage, Unconnected, Connecting, Ready, KeepingAlive, Checking, Reading, Committing, Waiting, Shut, is_shut, seen_by}
-use Rattle.zp_step.specs.Steps.{Answers, Comes, Goes, Handles, Steps, counted, queued, rests, takes}
-use Rattle.zp_step.specs.Taking.{Takes, TakesReadable, end_of_plain, plainly}
+use Rattle.zp_step.specs.Steps.{Answers, Comes, Goes, Handles, Steps, with_frame_counted, queued, rests, takes}
+use Rattle.zp_step.specs.Taking.{TakesFrame, TakesReadable, end_of_plain, plainly}
 use Rattle.zp_step.specs.declared.action.Action.{Action}
 use Rattle.zp_step.specs.declared.action.Action.TheVariants as action
 use Rattle.zp_step.specs.declared.input.Input.{Input}
@@ -226,12 +226,12 @@ module _ (damage : Bool) (now : ℕ) (c' : Core) (out : List Action) where
       go (inl y) = fine-is (decided (record c { views = y.views }) xid r y.view now (Planned y.plan)) (record { stage = tt; acts = tt }) y.is
       go (inr y) = fine-looks c xid r empty_view y
 
-  fine-takes : (c : Core) (bytes : List ℕ) → Takes c bytes now c' out → Finely damage c' out
+  fine-takes : (c : Core) (bytes : List ℕ) → TakesFrame c bytes now c' out → Finely damage c' out
   fine-takes c bytes h = fine-readable c (read_request bytes) (plain_reply no_watches (read_request bytes)) h
 
   fine-takes_up : (c : Core) (bytes : List ℕ) → TakesUp c bytes now c' out → Finely damage c' out
   fine-takes_up c bytes h =
-      either (is_alive_due c.kept now c.timeout) (Is (keeps_alive c bytes now) c' out) (Takes c bytes now c' out) (Finely damage c' out) h
+      either (is_alive_due c.kept now c.timeout) (Is (keeps_alive c bytes now) c' out) (TakesFrame c bytes now c' out) (Finely damage c' out) h
       (fine-is (keeps_alive c bytes now) (record { stage = tt; acts = tt }))
       (fine-takes c bytes)
 
@@ -241,7 +241,7 @@ module _ (damage : Bool) (now : ℕ) (c' : Core) (out : List Action) where
   fine-still c bytes v None h = fine-is (waits c (expired v (xid_of (read_request bytes)))) (fine-waits damage c (expired v (xid_of (read_request bytes))) refl) h
   fine-still c bytes v (Some kv) h =
       let p = moved c.who v kv.mod_revision (xid_of (read_request bytes)) in
-      either (int_eq kv.mod_revision c.who.mine) (Takes c bytes now c' out) (Is (waits c p) c' out) (Finely damage c' out) h (fine-takes c bytes) (fine-is (waits c p) (fine-waits damage c p refl))
+      either (int_eq kv.mod_revision c.who.mine) (TakesFrame c bytes now c' out) (Is (waits c p) c' out) (Finely damage c' out) h (fine-takes c bytes) (fine-is (waits c p) (fine-waits damage c p refl))
 
   fine-committed : (c : Core) (xid : ℤ) (r : Request) (u : View) (p : Plan) (z : ℤ) (b : Bool) (parts : List ActAns) → ((key value : Bytes) → CommitFinds p key value b parts → damage ≡ false) → Committed c xid r u p now c' out z b parts → Finely damage c' out
   fine-committed c xid r u p z true parts k h = fine-is (waits h.kept (finishes xid r p z parts)) (fine-waits damage h.kept (finishes xid r p z parts) (fine-end damage r)) h.is
@@ -254,7 +254,7 @@ module _ (damage : Bool) (now : ℕ) (c' : Core) (out : List Action) where
   fine-answers : (c : Core) (a : Answer) (st : Stage) → ((key value : Bytes) → FindsIn c a key value st → damage ≡ false) → Answers c a now c' out st → Finely damage c' out
   fine-answers c a (Connecting x) k h = fine-connects c x (Some a) k h
   fine-answers c a (KeepingAlive f) k h = of_alive a _ (Finely damage c' out) h (λ ttl g.
-      either (int_eq ttl (pos 0)) (Is (checks c f) c' out) (Takes c f now c' out) (Finely damage c' out) g (fine-is (checks c f) (record { stage = tt; acts = tt })) (fine-takes c f))
+      either (int_eq ttl (pos 0)) (Is (checks c f) c' out) (TakesFrame c f now c' out) (Finely damage c' out) g (fine-is (checks c f) (record { stage = tt; acts = tt })) (fine-takes c f))
   fine-answers c a (Checking f) k h = as_txn a _ (Finely damage c' out) h (λ z b parts e g.
       let v = viewed z (attach_wants c.who.session) parts in
       fine-records c (attach_wants c.who.session) parts (Looked c f now c' out v) (λ key value d. k key value (subst (λ y. FindsIn c y key value (Checking f)) (sym e) d)) (fine-still c f v (found_at v (life_key c.who.session))) g)
@@ -273,9 +273,9 @@ module _ (damage : Bool) (now : ℕ) (c' : Core) (out : List Action) where
   fine-queued c f fine h =
       either (has_header (read_request f)) (Is (queued c f, []) c' out) (Is (closed_by c (cause.NoHeader c.taken)) c' out) (Finely damage c' out) h (fine-is (queued c f, []) (record { stage = fine; acts = tt })) (fine-closed c (cause.NoHeader c.taken) refl)
 
-  fine-opens : (c : Core) (f : List ℕ) (fresh : Fresh) (o : Option ConnectRequest) → Opens (counted c f) c.taken fresh now c' out o → Finely damage c' out
-  fine-opens c f fresh None h = fine-closed (counted c f) (cause.NoHeader c.taken) refl h
-  fine-opens c f fresh (Some r) h = fine-connects (counted c f) (begun r fresh) None (λ key value d. absurd d) h
+  fine-opens : (c : Core) (f : List ℕ) (fresh : Fresh) (o : Option ConnectRequest) → Opens (with_frame_counted c f) c.taken fresh now c' out o → Finely damage c' out
+  fine-opens c f fresh None h = fine-closed (with_frame_counted c f) (cause.NoHeader c.taken) refl h
+  fine-opens c f fresh (Some r) h = fine-connects (with_frame_counted c f) (begun r fresh) None (λ key value d. absurd d) h
 
   fine-comes : (c : Core) (f : List ℕ) (st : Stage) → IsFineIn damage c.stage → Comes c f now c' out st → Finely damage c' out
   fine-comes c f (Unconnected fresh) fine h = fine-opens c f fresh (read_connect f) h

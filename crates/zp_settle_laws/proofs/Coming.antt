@@ -12,9 +12,9 @@ use Rattle.zn_view.specs.Asks.{plan_txn}
 use Rattle.zn_view.specs.Seen.{View}
 use Rattle.zn_view.specs.declared.plan.Who.{Who}
 use Rattle.zn_view.specs.declared.want.Want.{Want}
-use Rattle.zs_reap.specs.Steps.{AreFew}
+use Rattle.zs_reap.specs.Steps.{AreFewOwned}
 use Rattle.zs_session.specs.Answering.{viewed}
-use Rattle.zs_session.specs.Connecting.{Steps as ConnectSteps}
+use Rattle.zs_session.specs.Connecting.{ConnectSteps}
 use Rattle.zs_session.specs.Sessions.{attach_txn}
 use Rattle.zs_session.specs.declared.connect.Connect.{Connect}
 use Rattle.zs_session.specs.declared.connect.ConnectStep.{ConnectStep}
@@ -41,7 +41,7 @@ again_for true r = 0
 again_for false r = looks r + 1
 
 abbrev pub EndsIf : Request → Who → ℕ → View → Type 0
-EndsIf r who n v = AreFew who.session v → Ends r who n v
+EndsIf r who n v = AreFewOwned who.session v → Ends r who n v
 
 -- a round is out: after it come at most n more, and the plan
 pub record ReadsOut (s : Store) (who : Who) (r : Request) (v : View) (ws : List Want) (k : ℕ) : Type 0 where
@@ -119,7 +119,7 @@ pub record RemainsAfter (s : Store) (c : Core) (a : Answer) (n : ℕ) : Type 0 w
 
 -- what it holds is true of the store: a session has few nodes, and the guards of a plan on the present hold
 abbrev pub TruthIn : Store → Who → Stage → Type 0
-TruthIn s who (Reading xid r v ws) = AreFew who.session v
+TruthIn s who (Reading xid r v ws) = AreFewOwned who.session v
 TruthIn s who (Committing xid r v p time) = v.revision ≡ revision s → succeeds s (plan_txn p) ≡ true
 TruthIn s who _ = Unit {0}
 

@@ -20,7 +20,7 @@ use Rattle.zp_script.specs.Effects.{Does, EntersBy}
 use Rattle.zp_script.specs.Entries.{next_entry}
 use Rattle.zp_script.specs.Faults.{flight_at}
 use Rattle.zp_script.specs.Happens.{Settles, max_settling, entry_line, flight_line, is_waiting, settling, settling_conn}
-use Rattle.zp_script.specs.Worlds.{Actor, Closed, Conn, Connection, Reaper, World, conn_at, is_closed}
+use Rattle.zp_script.specs.Worlds.{Actor, Closed, Conn, Connection, Reaper, World, conn_at, is_closed_actor}
 use Rattle.zp_script.specs.declared.flight.Asking.{Asking}
 use Rattle.zp_script.specs.declared.flight.Flight.{Flight}
 use Rattle.zp_script.specs.declared.flight.Flight.TheVariants.{Out, Carried, Denied}
@@ -51,15 +51,15 @@ module _ (w : World) (c : ℕ) (x : Conn) (there : conn_at c w ≡ Some x) where
   here : settling c w ≡ settling_conn c w (Some x)
   here = ap (settling_conn c w) there
 
-  opened : (h : Happening) → settling c w ≡ Some h → is_closed x.actor ≡ false
-  opened h e = go (is_closed x.actor) refl (sym here ∙ e)
+  opened : (h : Happening) → settling c w ≡ Some h → is_closed_actor x.actor ≡ false
+  opened h e = go (is_closed_actor x.actor) refl (sym here ∙ e)
     where
-      go : (b : Bool) → is_closed x.actor ≡ b → (if b then None else flight_line c w x x.flight) ≡ Some h → b ≡ false
+      go : (b : Bool) → is_closed_actor x.actor ≡ b → (if b then None else flight_line c w x x.flight) ≡ Some h → b ≡ false
       go true f g = absurd (none_some g)
       go false f g = refl
 
   pub is-flight : (h : Happening) → settling c w ≡ Some h → flight_line c w x x.flight ≡ Some h
-  is-flight h e = go (is_closed x.actor) (sym here ∙ e)
+  is-flight h e = go (is_closed_actor x.actor) (sym here ∙ e)
     where
       go : (b : Bool) → (if b then None else flight_line c w x x.flight) ≡ Some h → flight_line c w x x.flight ≡ Some h
       go true g = absurd (none_some g)
@@ -88,7 +88,7 @@ module _ (w w' : World) (c j : ℕ) (k : IsAccounted w) (l : Left c w (suc j)) w
       by-flight (Some (Out a)) g p =
           let ex = subst (λ i. Does w i w') (sym (some_is p)) does in
           let same : x ≡ ex.conn = some_is (sym there ∙ ex.found) in
-          (executes-left w w' c j ex k (ap (λ (y : Conn). is_closed y.actor) (sym same) ∙ opened w c x there h e) l, exec-accounted w w' c ex k)
+          (executes-left w w' c j ex k (ap (λ (y : Conn). is_closed_actor y.actor) (sym same) ∙ opened w c x there h e) l, exec-accounted w w' c ex k)
       by-flight (Some (Carried a)) g p =
           let d = subst (λ i. Does w i w') (sym (some_is p)) does in
           let k' = acts-accounted w w' c k (answer-acts w w' c d k) in
@@ -115,7 +115,7 @@ module _ (w w' : World) (c j : ℕ) (k : IsAccounted w) (l : Left c w (suc j)) w
 -- ---- where it does something, some line is left
 
 module _ (w : World) (c n : ℕ) (k : IsAccounted w) (l : Left c w n) where
-  out-left : (x : Conn) (a : Asking) (b : Actor) → conn_at c w ≡ Some x → x.actor ≡ b → x.flight ≡ Some (Out a) → is_closed b ≡ false → LeftBy w x b n → 1 ≤ n
+  out-left : (x : Conn) (a : Asking) (b : Actor) → conn_at c w ≡ Some x → x.actor ≡ b → x.flight ≡ Some (Out a) → is_closed_actor b ≡ false → LeftBy w x b n → 1 ≤ n
   out-left x a (Connection core) there actor flight opens m =
       let y : ConnLeft w.store (length w.entries) core (Some (Out a)) n = subst (λ f. ConnLeft w.store (length w.entries) core f n) flight m in
       let r = y.left in
@@ -128,7 +128,7 @@ module _ (w : World) (c n : ℕ) (k : IsAccounted w) (l : Left c w n) where
       omega (arith, most, reap-some w.store r.session a.ask r.phase y.total known.asked y.left)
   out-left x a Closed there actor flight opens m = absurd (true-false opens)
 
-  answer-one : (x : Conn) (b : Actor) → conn_at c w ≡ Some x → x.actor ≡ b → answers_of x.flight ≡ 1 → is_closed b ≡ false → LeftBy w x b n → 1 ≤ n
+  answer-one : (x : Conn) (b : Actor) → conn_at c w ≡ Some x → x.actor ≡ b → answers_of x.flight ≡ 1 → is_closed_actor b ≡ false → LeftBy w x b n → 1 ≤ n
   answer-one x (Connection core) there actor one opens m = let most = m.most in omega (arith, most, one, told-most w c x core k there actor)
   answer-one x (Reaper r) there actor one opens m = let most = m.most in omega (arith, most, one)
   answer-one x Closed there actor one opens m = absurd (true-false opens)

@@ -31,7 +31,7 @@ use Rattle.zp_step.specs.Keepalives.{TakesUp, keeps_alive}
 use Rattle.zp_step.specs.Replies.{Is, is_due, replied}
 use Rattle.zp_step.specs.Stages.{Core, Pending, Stage, Unconnected, Connecting, Ready, KeepingAlive, Checking, Reading, Committing, Waiting, Shut, wanted_in, wants_of}
 use Rattle.zp_step.specs.Steps.{Goes, StepsOpen, rests, takes}
-use Rattle.zp_step.specs.Taking.{Takes, TakesReadable, plainly}
+use Rattle.zp_step.specs.Taking.{TakesFrame, TakesReadable, plainly}
 use Rattle.zp_step.specs.declared.action.Action.{Action}
 use Rattle.zp_step.specs.declared.input.Input.{Input}
 use Rattle.zp_step.specs.declared.input.Input.TheVariants as input
@@ -44,7 +44,7 @@ use Rattle.zp_script.specs.declared.flight.Flight.{Flight}
 use Rattle.zp_world_laws.proofs.Arrivals.{core-of}
 use Rattle.zp_world_laws.proofs.Entering.{next-true}
 use Rattle.zp_world_laws.specs.Accounting.{IsAccounted}
-use Rattle.zp_world_laws.specs.Connections.{IsServing}
+use Rattle.zp_world_laws.specs.Connections.{IsServingConn}
 use Rattle.zp_settle_laws.proofs.Answered.{entry-then}
 use Rattle.zp_settle_laws.proofs.Lasting.{ConnLeft, Left, LeftBy, left-at, still-served, step-left}
 
@@ -65,12 +65,12 @@ readable-cursor c c' now out (Asks xid r) None p h = go (first-or-anew c c' xid 
     go (inr (inl y)) = is-cursor (asks_for c xid r empty_view (take max_ranges y.lacking)) c c' out refl y.is
     go (inr (inr y)) = absurd (y.whole.enough refl p head_want (inl refl) refl)
 
-takes-cursor : (c c' : Core) (bytes : List ℕ) (now : ℕ) (out : List Action) → Takes c bytes now c' out → c'.cursor ≡ c.cursor
+takes-cursor : (c c' : Core) (bytes : List ℕ) (now : ℕ) (out : List Action) → TakesFrame c bytes now c' out → c'.cursor ≡ c.cursor
 takes-cursor c c' bytes now out h = readable-cursor c c' now out (read_request bytes) (plain_reply no_watches (read_request bytes)) refl h
 
 takes_up-cursor : (c c' : Core) (bytes : List ℕ) (now : ℕ) (out : List Action) → TakesUp c bytes now c' out → c'.cursor ≡ c.cursor
 takes_up-cursor c c' bytes now out h =
-    either (is_alive_due c.kept now c.timeout) (Is (keeps_alive c bytes now) c' out) (Takes c bytes now c' out) (c'.cursor ≡ c.cursor) h (is-cursor (keeps_alive c bytes now) c c' out refl) (takes-cursor c c' bytes now out)
+    either (is_alive_due c.kept now c.timeout) (Is (keeps_alive c bytes now) c' out) (TakesFrame c bytes now c' out) (c'.cursor ≡ c.cursor) h (is-cursor (keeps_alive c bytes now) c c' out refl) (takes-cursor c c' bytes now out)
 
 goes-cursor : (now : ℕ) (c c' : Core) (out : List Action) → Goes now c c' out → c'.cursor ≡ c.cursor
 goes-cursor now c c' out (rests why same none) = ap (λ (d : Core). d.cursor) same
@@ -82,7 +82,7 @@ same-due : (core : Core) (p : Pending) (b : Bool) → core.cursor ≡ p.number �
 same-due core p true e = refl
 same-due core p false e = (Decides-int_eq core.cursor p.number).1 e
 
-module _ (w : World) (c : ℕ) (core : Core) (flight : Option Flight) (h : IsAccounted w) (k : IsServing w.store w.lines c core flight) (e : Entry) (t : IsTrueEntry w.lines core e) where
+module _ (w : World) (c : ℕ) (core : Core) (flight : Option Flight) (h : IsAccounted w) (k : IsServingConn w.store w.lines c core flight) (e : Entry) (t : IsTrueEntry w.lines core e) where
   entered-on : nat_abs core.cursor + 1 ≤ nat_abs e.number
   entered-on =
       let at = placed w.lines core k.walker ((h.whole.holds).serves).legal (k.stands).matches in

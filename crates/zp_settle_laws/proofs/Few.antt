@@ -44,8 +44,8 @@ use Rattle.zp_step.specs.Looking.{IfRecords, Looks, asks_for, change_by, decided
 use Rattle.zp_step.specs.Plans.{Committed, finishes}
 use Rattle.zp_step.specs.Replies.{Is, closed_by, is_due, replied, stage_after, waits}
 use Rattle.zp_step.specs.Stages.{Core, Pending, Stage, Unconnected, Connecting, Ready, KeepingAlive, Checking, Reading, Committing, Waiting, Shut, is_shut}
-use Rattle.zp_step.specs.Steps.{Answers, Comes, Goes, Handles, Steps, counted, queued, rests, takes}
-use Rattle.zp_step.specs.Taking.{Takes, TakesReadable, end_of_plain, plainly}
+use Rattle.zp_step.specs.Steps.{Answers, Comes, Goes, Handles, Steps, with_frame_counted, queued, rests, takes}
+use Rattle.zp_step.specs.Taking.{TakesFrame, TakesReadable, end_of_plain, plainly}
 use Rattle.zp_step.specs.declared.action.Action.{Action}
 use Rattle.zp_step.specs.declared.input.Input.{Input}
 use Rattle.zp_step.specs.declared.input.Input.TheVariants as input
@@ -108,12 +108,12 @@ module _ (now : ℕ) (c' : Core) (out : List Action) where
       go (inl y) = few-is (decided (record c { views = y.views }) xid r y.view now (Planned y.plan)) tt y.is
       go (inr y) = few-looks c xid r empty_view y
 
-  few-takes : (c : Core) (bytes : List ℕ) → Takes c bytes now c' out → AsksFew c'.stage
+  few-takes : (c : Core) (bytes : List ℕ) → TakesFrame c bytes now c' out → AsksFew c'.stage
   few-takes c bytes h = few-readable c (read_request bytes) (plain_reply no_watches (read_request bytes)) h
 
   few-takes_up : (c : Core) (bytes : List ℕ) → TakesUp c bytes now c' out → AsksFew c'.stage
   few-takes_up c bytes h =
-      either (is_alive_due c.kept now c.timeout) (Is (keeps_alive c bytes now) c' out) (Takes c bytes now c' out) (AsksFew c'.stage) h
+      either (is_alive_due c.kept now c.timeout) (Is (keeps_alive c bytes now) c' out) (TakesFrame c bytes now c' out) (AsksFew c'.stage) h
       (few-is (keeps_alive c bytes now) tt)
       (few-takes c bytes)
 
@@ -123,7 +123,7 @@ module _ (now : ℕ) (c' : Core) (out : List Action) where
   few-still c bytes v None h = few-is (waits c (expired v (xid_of (read_request bytes)))) (few-waits c (expired v (xid_of (read_request bytes)))) h
   few-still c bytes v (Some kv) h =
       let p = moved c.who v kv.mod_revision (xid_of (read_request bytes)) in
-      either (int_eq kv.mod_revision c.who.mine) (Takes c bytes now c' out) (Is (waits c p) c' out) (AsksFew c'.stage) h (few-takes c bytes) (few-is (waits c p) (few-waits c p))
+      either (int_eq kv.mod_revision c.who.mine) (TakesFrame c bytes now c' out) (Is (waits c p) c' out) (AsksFew c'.stage) h (few-takes c bytes) (few-is (waits c p) (few-waits c p))
 
   few-committed : (c : Core) (xid : ℤ) (r : Request) (u : View) (p : Plan) (z : ℤ) (b : Bool) (parts : List ActAns) → Committed c xid r u p now c' out z b parts → AsksFew c'.stage
   few-committed c xid r u p z true parts h = few-is (waits h.kept (finishes xid r p z parts)) (few-waits h.kept (finishes xid r p z parts)) h.is
@@ -135,7 +135,7 @@ module _ (now : ℕ) (c' : Core) (out : List Action) where
 
   few-answers : (c : Core) (a : Answer) (st : Stage) → Answers c a now c' out st → AsksFew c'.stage
   few-answers c a (Connecting x) h = few-connects c x (Some a) h
-  few-answers c a (KeepingAlive f) h = of_alive a _ (AsksFew c'.stage) h (λ ttl g. either (int_eq ttl (pos 0)) (Is (checks c f) c' out) (Takes c f now c' out) (AsksFew c'.stage) g (few-is (checks c f) tt) (few-takes c f))
+  few-answers c a (KeepingAlive f) h = of_alive a _ (AsksFew c'.stage) h (λ ttl g. either (int_eq ttl (pos 0)) (Is (checks c f) c' out) (TakesFrame c f now c' out) (AsksFew c'.stage) g (few-is (checks c f) tt) (few-takes c f))
   few-answers c a (Checking f) h = of_txn a _ (AsksFew c'.stage) h (λ z b parts g.
       let v = viewed z (attach_wants c.who.session) parts in
       few-records c (attach_wants c.who.session) parts (Looked c f now c' out v) (few-still c f v (found_at v (life_key c.who.session))) g)
@@ -152,9 +152,9 @@ module _ (now : ℕ) (c' : Core) (out : List Action) where
   few-queued c f few h =
       either (has_header (read_request f)) (Is (queued c f, []) c' out) (Is (closed_by c (cause.NoHeader c.taken)) c' out) (AsksFew c'.stage) h (few-is (queued c f, []) few) (few-closed c (cause.NoHeader c.taken))
 
-  few-opens : (c : Core) (f : List ℕ) (fresh : _) (o : Option ConnectRequest) → Opens (counted c f) c.taken fresh now c' out o → AsksFew c'.stage
-  few-opens c f fresh None h = few-closed (counted c f) (cause.NoHeader c.taken) h
-  few-opens c f fresh (Some r) h = few-connects (counted c f) (begun r fresh) None h
+  few-opens : (c : Core) (f : List ℕ) (fresh : _) (o : Option ConnectRequest) → Opens (with_frame_counted c f) c.taken fresh now c' out o → AsksFew c'.stage
+  few-opens c f fresh None h = few-closed (with_frame_counted c f) (cause.NoHeader c.taken) h
+  few-opens c f fresh (Some r) h = few-connects (with_frame_counted c f) (begun r fresh) None h
 
   few-comes : (c : Core) (f : List ℕ) (st : Stage) → AsksFew c.stage → Comes c f now c' out st → AsksFew c'.stage
   few-comes c f (Unconnected fresh) few h = few-opens c f fresh (read_connect f) h

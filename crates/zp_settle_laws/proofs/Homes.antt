@@ -26,7 +26,7 @@ use Rattle.zp_laws.proofs.Revisions.{since-at}
 use Rattle.zp_laws.specs.Standing.{IsMoment, Matches}
 use Rattle.zp_step.specs.Stages.{Core}
 use Rattle.zp_world_laws.proofs.Commits.{stands-now}
-use Rattle.zp_world_laws.specs.Serving.{Serves}
+use Rattle.zp_world_laws.specs.Serving.{StoreServes}
 use Rattle.zp_settle_laws.specs.Staying.{IsAttachedHere}
 
 -- ---- by the record of its life
@@ -35,7 +35,7 @@ use Rattle.zp_settle_laws.specs.Staying.{IsAttachedHere}
 abbrev pub HasLife : Store → Who → ℕ → Type 0
 HasLife s who n = mod_of (at (store_at s n) (life_key who.session)) ≡ who.mine
 
-pub home-life : (s : Store) (lines : List TranscriptLine) (who : Who) → Serves s lines → pos 1 ≤ℤ who.session → IsAttachedHere lines who → HasLife s who (length s.revisions)
+pub home-life : (s : Store) (lines : List TranscriptLine) (who : Who) → StoreServes s lines → pos 1 ≤ℤ who.session → IsAttachedHere lines who → HasLife s who (length s.revisions)
 home-life s lines who serves least h = go (at (present s) (life_key who.session)) refl (session-lives (present s) (after lines) who.session least (stands-now s lines serves))
   where
     lives : live (session_at who.session (after lines)) ≡ Some h.session

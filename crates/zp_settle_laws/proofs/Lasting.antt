@@ -19,7 +19,7 @@ use Rattle.zn_layout.specs.declared.entry.Entry.{Entry}
 use Rattle.zn_view.specs.declared.plan.Who.{Who}
 use Rattle.zs_reap.specs.declared.reap.Phase.{Phase as ReapPhase}
 use Rattle.zs_reap.specs.declared.reap.Phase.TheVariants as reap
-use Rattle.zs_session.specs.Connecting.{asked_in}
+use Rattle.zs_session.specs.Connecting.{asked_in_phase}
 use Rattle.zs_session.specs.declared.connect.Connect.{Connect}
 use Rattle.zs_session.specs.declared.connect.Phase.{Phase}
 use Rattle.zs_session.specs.declared.connect.Phase.TheVariants.{Attaching, Creating, Granting, Keeping, Looking, LookingAgain, Over, Unasked}
@@ -47,7 +47,7 @@ use Rattle.zp_script.specs.Faults.{flight_at}
 use Rattle.zp_script.specs.Handing.{AnswerComes, AnswerComesTo, FailureComes, FailureComesTo, Handed, Reaps}
 use Rattle.zp_script.specs.Kinds.{kind_asked}
 use Rattle.zp_script.specs.StepOutcomes.{StepOutcome, acts, acts_all, ended_by, leaves, quiet, reap_acts}
-use Rattle.zp_script.specs.Worlds.{Actor, Closed, Conn, Connection, Reaper, World, after_reap, after_step, conn_at, is_closed, is_over, with_conn, zxid_at}
+use Rattle.zp_script.specs.Worlds.{Actor, Closed, Conn, Connection, Reaper, World, after_reap, after_step, conn_at, is_closed_actor, is_over, with_conn, zxid_at}
 use Rattle.zp_script.specs.declared.flight.Asking.{Asking}
 use Rattle.zp_script.specs.declared.flight.Flight.{Flight}
 use Rattle.zp_script.specs.declared.flight.Flight.TheVariants.{Out, Carried, Denied}
@@ -60,7 +60,7 @@ use Rattle.zp_world_laws.proofs.Lives.{known-at}
 use Rattle.zp_world_laws.proofs.Numbers.{conn-here}
 use Rattle.zp_world_laws.specs.Accounting.{IsAccounted}
 use Rattle.zp_world_laws.specs.Connecting.{IsConnecting, IsInStage}
-use Rattle.zp_world_laws.specs.Connections.{IsFlying, IsServing}
+use Rattle.zp_world_laws.specs.Connections.{IsFlying, IsServingConn}
 use Rattle.zp_world_laws.specs.Counting.{HasFrames}
 use Rattle.zp_world_laws.specs.Reaping.{IsReapAsk, IsReapFlight}
 use Rattle.zp_settle_laws.proofs.Answered.{Then, answer-then}
@@ -127,7 +127,7 @@ at-left c w x n there l = subst (λ o. LeftOf w o n) (sym there) l
 
 -- ---- an attached connection was told no more than there is
 
-told-serving : (w : World) (c : ℕ) (core : Core) (f : Option Flight) → IsAccounted w → IsServing w.store w.lines c core f → nat_abs core.cursor ≤ length w.entries
+told-serving : (w : World) (c : ℕ) (core : Core) (f : Option Flight) → IsAccounted w → IsServingConn w.store w.lines c core f → nat_abs core.cursor ≤ length w.entries
 told-serving w c core f h k =
     let legal = ((h.whole.holds).serves).legal in
     let at = placed w.lines core k.walker legal (k.stands).matches in
@@ -356,7 +356,7 @@ delivers-left w w' c j d k k' l = go (conn_at c w) refl d
 -- ---- it is carried out
 
 -- where something is out, some ask is left
-pub connect-some : (s : Store) (id : ℤ) (x : Connect) (p : Phase) (q : Ask) (k : ℕ) → asked_in x p ≡ Some q → ConnectOut s id p k → 1 ≤ k
+pub connect-some : (s : Store) (id : ℤ) (x : Connect) (p : Phase) (q : Ask) (k : ℕ) → asked_in_phase x p ≡ Some q → ConnectOut s id p k → 1 ≤ k
 connect-some s id x Unasked q k e h = absurd (none_some e)
 connect-some s id x Looking q k e h = omega (arith, h)
 connect-some s id x Granting q k e h = omega (arith, h)
@@ -462,11 +462,11 @@ module _ (w w' : World) (c j : ℕ) (ex : Executes c w w') (k : IsAccounted w) w
       let most = l.most in
       left-by (Reaper r) actor (Carried b) carried (record { total = d.left; left = subst (λ s. ReapAfter s r b d.left) (sym at_u) d.after; most = omega (arith, most, d.is) })
 
-  pub executes-left : is_closed ex.conn.actor ≡ false → Left c w (suc j) → Left c w' j
+  pub executes-left : is_closed_actor ex.conn.actor ≡ false → Left c w (suc j) → Left c w' j
   executes-left opens l = go ex.conn.actor refl (left-at c w ex.conn (suc j) ex.found l)
     where
       go : (b : Actor) → ex.conn.actor ≡ b → LeftBy w ex.conn b (suc j) → Left c w' j
       go (Connection core) e h = core-carried core e (subst (λ f. ConnLeft w.store (length w.entries) core f (suc j)) ex.out h) (carry w.store ex.asking.ask) refl ex.carries
       go (Reaper r) e h =
           reaper-carried r e (subst (IsReapFlight w.store r) ex.out (known-at w c ex.conn (Reaper r) k.known ex.found e)) (subst (λ f. ReaperLeft w.store r f (suc j)) ex.out h) (carry w.store ex.asking.ask) refl ex.carries
-      go Closed e h = absurd (true-false (sym (ap is_closed e) ∙ opens))
+      go Closed e h = absurd (true-false (sym (ap is_closed_actor e) ∙ opens))

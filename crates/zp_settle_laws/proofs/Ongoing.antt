@@ -18,7 +18,7 @@ use Rattle.zk_transcript.specs.declared.transcript.Cause.{Cause}
 use Rattle.zk_transcript.specs.declared.transcript.TranscriptLine.TheVariants.{Frame as FrameLine}
 use Rattle.zk_transcript.specs.declared.transcript.TranscriptLine.{TranscriptLine}
 use Rattle.zn_layout.specs.declared.entry.Entry.{Entry}
-use Rattle.zs_session.specs.Connecting.{Answers as ConnectAnswers, Ends, IsFaultIn, attached as attached_step, timeout_in}
+use Rattle.zs_session.specs.Connecting.{ConnectAnswers, ConnectEnds, IsFaultOfConnect, attached as attached_step, timeout_in}
 use Rattle.zs_session.specs.declared.connect.Connect.{Connect}
 use Rattle.zs_session.specs.declared.connect.ConnectStep.{ConnectStep}
 use Rattle.zs_session.specs.declared.connect.Phase.TheVariants.{Attaching, Creating, Granting, Keeping, Looking, LookingAgain, Over, Unasked}
@@ -45,7 +45,7 @@ use Rattle.zp_script.specs.Handing.{AnswerComes, AnswerComesTo, Handed, landed}
 use Rattle.zp_script.specs.Happens.{Settles, settling}
 use Rattle.zp_script.specs.Kinds.{kind_asked}
 use Rattle.zp_script.specs.StepOutcomes.{acts_all}
-use Rattle.zp_script.specs.Worlds.{Closed, Conn, Connection, World, after_step, conn_at, is_closed, is_open_conn, with_conn, zxid_at}
+use Rattle.zp_script.specs.Worlds.{Closed, Conn, Connection, World, after_step, conn_at, is_closed_actor, is_open_conn, with_conn, zxid_at}
 use Rattle.zp_script.specs.declared.flight.Asking.{Asking}
 use Rattle.zp_script.specs.declared.flight.Flight.TheVariants.{Carried, Denied, Out}
 use Rattle.zp_script.specs.declared.flight.Flight.{Flight}
@@ -57,7 +57,7 @@ use Rattle.zp_world_laws.proofs.Numbers.{conn-here}
 use Rattle.zp_world_laws.proofs.Running.{Settling, SettlesOn, answers, carries, enters, settling-is}
 use Rattle.zp_world_laws.specs.Bounds.{attachment}
 use Rattle.zp_world_laws.specs.Connecting.{HasOwnLine, IsConnectFlight, IsConnecting, IsInStage}
-use Rattle.zp_world_laws.specs.Connections.{IsServing}
+use Rattle.zp_world_laws.specs.Connections.{IsServingConn}
 use Rattle.zp_world_laws.specs.Counting.{HasFrames}
 use Rattle.zp_settle_laws.proofs.Arriving.{one-stays}
 use Rattle.zp_settle_laws.proofs.Begun.{serving-lasts, waiting-lasting, waits-least}
@@ -104,7 +104,7 @@ pub record IsReady (core mid : Core) : Type 0 where
   pub waiting : mid.waiting ≡ core.waiting
 
 module _ (lines : List TranscriptLine) (c : ℕ) (core mid : Core) (x : Connect) (now : ℕ) (first : List Action) (place : ℕ × Attachment) (attached : attach_of c lines ≡ Some place) where
-  welcomed : (new : Connect) (step : ConnectStep) (r id timeout : ℤ) (passwd : List ℕ) (parts : List ActAns) → Ends (attached_step x.request id timeout passwd r parts) new.phase step → Is (connected core now new step) mid first → IsReady core mid
+  welcomed : (new : Connect) (step : ConnectStep) (r id timeout : ℤ) (passwd : List ℕ) (parts : List ActAns) → ConnectEnds (attached_step x.request id timeout passwd r parts) new.phase step → Is (connected core now new step) mid first → IsReady core mid
   welcomed new step r id timeout passwd parts (over, is) i = record {
     stage = ap (λ (d : Core). d.stage) i.0 ∙ ap (λ st. (connected core now new st).0.stage) is;
     waiting = ap (λ (d : Core). d.waiting) i.0 ∙ ap (λ st. (connected core now new st).0.waiting) is;
@@ -114,13 +114,13 @@ module _ (lines : List TranscriptLine) (c : ℕ) (core mid : Core) (x : Connect)
   no-line none = absurd (none_some (sym none ∙ attached))
 
   greets : (ph : Phase) (a : Answer) → x.phase ≡ ph → HasOwnLine lines c x ph a → Connects core x (Some a) now mid first → IsReady core mid
-  greets Creating (answer.Txn r true parts) e own (inl f) = absurd (subst (λ q. IsFaultIn x q (answer.Txn r true parts) (faults.Damaged f.key f.value)) e f.found)
+  greets Creating (answer.Txn r true parts) e own (inl f) = absurd (subst (λ q. IsFaultOfConnect x q (answer.Txn r true parts) (faults.Damaged f.key f.value)) e f.found)
   greets Creating (answer.Txn r true parts) e own (inr s) = welcomed s.new s.step r x.fresh.id (timeout_in x) x.fresh.passwd parts (subst (λ q. ConnectAnswers x q (answer.Txn r true parts) s.new.phase s.step) e (s.steps).moves) s.is
   greets Creating (answer.Txn r false parts) e own h = no-line own
   greets Creating (answer.Range r q) e own h = no-line own
   greets Creating (answer.Granted r q t) e own h = no-line own
   greets Creating (answer.Alive r q t) e own h = no-line own
-  greets (Attaching seen life) (answer.Txn r true parts) e own (inl f) = absurd (subst (λ q. IsFaultIn x q (answer.Txn r true parts) (faults.Damaged f.key f.value)) e f.found)
+  greets (Attaching seen life) (answer.Txn r true parts) e own (inl f) = absurd (subst (λ q. IsFaultOfConnect x q (answer.Txn r true parts) (faults.Damaged f.key f.value)) e f.found)
   greets (Attaching seen life) (answer.Txn r true parts) e own (inr s) = welcomed s.new s.step r x.request.session life.timeout life.passwd parts (subst (λ q. ConnectAnswers x q (answer.Txn r true parts) s.new.phase s.step) e (s.steps).moves) s.is
   greets (Attaching seen life) (answer.Txn r false parts) e own h = no-line own
   greets (Attaching seen life) (answer.Range r q) e own h = no-line own
@@ -201,10 +201,10 @@ module _ (c p : ℕ) (place : ℕ) (own : Attachment) (last : World) (kept : Non
     legal-here = ((((k.accounted).whole).holds).serves).legal
 
     module _ (x : Conn) (core : Core) (there : conn_at c w ≡ Some x) (actor : x.actor ≡ Connection core) where
-      serves : is_served core.stage ≡ true → IsServing w.store w.lines c core x.flight
+      serves : is_served core.stage ≡ true → IsServingConn w.store w.lines c core x.flight
       serves served = ((k.accounted).whole).serving c x core there actor served
 
-      held : (s : IsServing w.store w.lines c core x.flight) → NoneAfter (takes_session core.who.session) s.place w.lines
+      held : (s : IsServingConn w.store w.lines c core x.flight) → NoneAfter (takes_session core.who.session) s.place w.lines
       held s =
           let same : ◌≡◌ {A = ℕ × Attachment} (place, own) (s.place, attachment core.who) = some_is (sym attached ∙ s.attached) in
           subst (λ (o : ℕ × Attachment). NoneAfter (takes_session o.1.session) o.0 w.lines) same (kept-here w g)
@@ -315,7 +315,7 @@ module _ (c p : ℕ) (place : ℕ) (own : Attachment) (last : World) (kept : Non
       by (waits core y actor stage) = (core, actor)
 
   open-now : (w : World) (x : Conn) → IsTaking c w x → is_open_conn (conn_at c w) ≡ true
-  open-now w x t = let o = taking-open w x t in ap is_open_conn t.there ∙ ap (λ a. not (is_closed a)) o.1
+  open-now w x t = let o = taking-open w x t in ap is_open_conn t.there ∙ ap (λ a. not (is_closed_actor a)) o.1
 
   as-then : (x y z : Conn) → IsAs x y → IsAs y z → IsAs x z
   as-then x y z a b = record { rest = b.rest ∙ a.rest; proxy = b.proxy ∙ a.proxy }

@@ -1,6 +1,6 @@
 -- Each line of a script leaves the store and the transcript as they were, or longer; and but for a restart it leaves all connections
 -- as they were but one.
-use Rattle.ev_types.specs.Denials.{carry, has_lease, is_denied, is_full}
+use Rattle.ev_types.specs.Denials.{carry, has_lease, is_denied, is_full_store}
 use Rattle.ev_types.specs.Lapses.{foreign, lapse, leased_keys, removals}
 use Rattle.ev_types.specs.Store.{Change, Puts, Store, carried_out, chosen, grown, revision, succeeds, txn_done, worked}
 use Rattle.ev_types.specs.declared.answer.Answer.{Answer}
@@ -88,13 +88,13 @@ if-floor false s x u same e = ap (λ (y : Store). y.floor) (sym (some_is e)) ∙
 lapse-later : (s u : Store) (id : ℤ) → lapse s id ≡ Some u → Later s u
 unfolding lapse
 lapse-later s u id h = record {
-  floor = if-floor (not (has_lease s id) || is_full s (removals (leased_keys s id))) s _ u (grown-floor _ (removals (leased_keys s id))) h;
+  floor = if-floor (not (has_lease s id) || is_full_store s (removals (leased_keys s id))) s _ u (grown-floor _ (removals (leased_keys s id))) h;
   before = (lapse-precedes s u id h).0;
 }
 
 foreign-later : (s u : Store) (k v : List ℕ) → foreign s k v ≡ Some u → Later s u
 unfolding foreign
-foreign-later s u k v h = record { floor = if-floor (is_full s (Puts k v (pos 0) ∷ [])) s _ u (grown-floor s (Puts k v (pos 0) ∷ [])) h; before = foreign-precedes s u k v h }
+foreign-later s u k v h = record { floor = if-floor (is_full_store s (Puts k v (pos 0) ∷ [])) s _ u (grown-floor s (Puts k v (pos 0) ∷ [])) h; before = foreign-precedes s u k v h }
 
 -- ---- a world
 

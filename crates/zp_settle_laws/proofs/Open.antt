@@ -39,7 +39,7 @@ use Rattle.zp_script.specs.Handing.{AnswerComes, AnswerComesTo, FailureComes, Fa
 use Rattle.zp_script.specs.Happens.{Settles, flight_line, settling, settling_conn}
 use Rattle.zp_script.specs.Kinds.{kind_asked, kind_in_stage, kind_of_request}
 use Rattle.zp_script.specs.StepOutcomes.{StepOutcome, acts, acts_all, quiet}
-use Rattle.zp_script.specs.Worlds.{Closed, Conn, Connection, World, after_step, conn_at, is_closed, with_conn, zxid_at}
+use Rattle.zp_script.specs.Worlds.{Closed, Conn, Connection, World, after_step, conn_at, is_closed_actor, with_conn, zxid_at}
 use Rattle.zp_script.specs.declared.flight.Asking.{Asking}
 use Rattle.zp_script.specs.declared.flight.Flight.TheVariants.{Carried, Denied, Out}
 use Rattle.zp_script.specs.declared.flight.Flight.{Flight}
@@ -53,7 +53,7 @@ use Rattle.zp_world_laws.proofs.Kept.{true-false}
 use Rattle.zp_world_laws.proofs.Lives.{answer-acts, entry-acts}
 use Rattle.zp_world_laws.proofs.Numbers.{conn-here}
 use Rattle.zp_world_laws.specs.Accounting.{IsAccounted}
-use Rattle.zp_world_laws.specs.Connections.{IsFlying, IsServing}
+use Rattle.zp_world_laws.specs.Connections.{IsFlying, IsServingConn}
 use Rattle.zp_world_laws.specs.Serving.{kind_lines, update_lines}
 use Rattle.zp_settle_laws.proofs.Ending.{is-entry, is-flight, some-there}
 use Rattle.zp_settle_laws.proofs.Shown.{answer-shows}
@@ -164,7 +164,7 @@ module _ (w w' : World) (c : ℕ) (s : StaysOpen c w) (k : IsAccounted w) where
   served : is_served s.core.stage ≡ true
   served = lasting-served s.core.stage (s.lasting).work
 
-  serves : IsServing w.store w.lines c s.core s.conn.flight
+  serves : IsServingConn w.store w.lines c s.core s.conn.flight
   serves = (k.whole).serving c s.conn s.core s.there s.actor served
 
   -- ---- an answer
@@ -177,7 +177,7 @@ module _ (w w' : World) (c : ℕ) (s : StaysOpen c w) (k : IsAccounted w) where
       let stepped : CoreSteps s.core (input.Answer a) w.clock hd.next hd.out = subst (λ (q : Core). CoreSteps q (input.Answer a) w.clock hd.next hd.out) (sym is_core) hd.stepped in
       let opens = (k.whole).unshut c s.conn s.core s.there s.actor in
       let flies = subst (IsFlying w.store w.lines c s.core serves.walker serves.looked) flight serves.flies in
-      let carried : IsServing w.store w.lines c s.core (Some (Carried a)) = subst (IsServing w.store w.lines c s.core) flight serves in
+      let carried : IsServingConn w.store w.lines c s.core (Some (Carried a)) = subst (IsServingConn w.store w.lines c s.core) flight serves in
       let shows = answer-shows w.store w.lines c s.core a ((k.whole.holds).serves) s.here carried in
       let lasting = answer-lasting s.core hd.next a w.clock hd.out serves.rises shows s.lasting (steps-open s.core hd.next (input.Answer a) w.clock hd.out opens stepped) in
       let who = who-same w c s.conn s.core hd.next (input.Answer a) hd.out k s.there s.actor served flies stepped in
@@ -194,7 +194,7 @@ module _ (w w' : World) (c : ℕ) (s : StaysOpen c w) (k : IsAccounted w) where
       record {
         conn = record (hd.conn) { actor = after_step hd.next; flight = o.flight };
         there = ap (conn_at c) hd.result ∙ conn-here w1 c (record (hd.conn) { actor = after_step hd.next; flight = o.flight });
-        closed = ap (λ st. is_closed (if is_shut st then Closed else Connection hd.next)) e.0;
+        closed = ap (λ st. is_closed_actor (if is_shut st then Closed else Connection hd.next)) e.0;
         shown = subst (λ l. Contains l (Close c (ended.Cause cause.LinkFault))) (sym (ap (λ (u : World). u.lines) hd.result ∙ ap (λ l. w.lines ++ (acts_all c (kind_asked c (Connection hd.next)) [] hd.conn.flight l).lines) e.1))
             (Contains-append_right w.lines (Close c (ended.Cause cause.LinkFault) ∷ []) (Close c (ended.Cause cause.LinkFault)) (0, omega arith, refl));
       }

@@ -2,7 +2,7 @@
 use Rattle.std.proofs.Common.{Bool, List, [], ap, false, inl, inr, refl, subst, sym, true, ℕ, ℤ, pos, ◌++◌, ◌+◌, ◌-◌, ◌∙◌, ◌∷◌, ◌≡◌, length}
 use Rattle.std.specs.Prelude.{MatchBool, None, Option, Some, if◌then◌else◌, is_none, is_some, not, slice_set, ◌||◌, option_and_then}
 use Rattle.std.specs.Ordering.{int_eq}
-use Rattle.ev_types.specs.Denials.{carry, has_lease, is_full}
+use Rattle.ev_types.specs.Denials.{carry, has_lease, is_full_store}
 use Rattle.ev_types.specs.Lapses.{foreign, lapse, leased_keys, removals}
 use Rattle.ev_types.specs.Store.{Puts, Store, mod_of, present, revision}
 use Rattle.ev_types.specs.declared.answer.Answer.{Answer}
@@ -17,7 +17,7 @@ use Rattle.zn_layout.specs.Keys.{HeadKey}
 use Rattle.zn_layout.specs.StandsFor.{HeadMeans, at}
 use Rattle.zn_layout.specs.declared.entry.Entry.{Entry}
 use Rattle.zn_view.specs.Asks.{reading}
-use Rattle.zs_reap.specs.Steps.{first_wants}
+use Rattle.zs_reap.specs.Steps.{reaper_wants}
 use Rattle.zs_reap.specs.declared.reap.Phase.TheVariants.{Looking}
 use Rattle.zs_reap.specs.declared.reap.ReapStep.TheVariants as reaped
 use Rattle.zt_text.specs.declared.script.Happening.TheVariants as line
@@ -32,14 +32,14 @@ use Rattle.zp_step.specs.declared.action.Action.TheVariants as action
 use Rattle.zp_step.specs.declared.action.Action.{Action}
 use Rattle.zp_step.specs.declared.input.Input.TheVariants as input
 use Rattle.zp_step.specs.declared.input.Input.{Input}
-use Rattle.zp_script.specs.Carrying.{CarriedBy, CarriesOut, Executes, ExecutesStray, HasStore, ShowsUpdate, update_line}
+use Rattle.zp_script.specs.Carrying.{CarriedBy, CarriesOut, Executes, ExecutesStray, HasStore, ShowsUpdate, update_line_of}
 use Rattle.zp_script.specs.Effects.{EndsBy, LagsBy, LapsesTo, PutTo, new_reap, new_reaper, opened, restarted}
-use Rattle.zp_script.specs.Entries.{IsEntryOf, cursor_at, entry_after, is_lagging, max_kept, next_entry}
+use Rattle.zp_script.specs.Entries.{IsEntryOf, cursor_at, entry_after, is_lagging, max_kept_entries, next_entry}
 use Rattle.zp_script.specs.Faults.{carry_fault, connection_fault, entry_fault, fault, flight_at, full_fault, if_fails, is_kept_key, is_reaper_at, is_to_carry_out, left_at, open_fault}
 use Rattle.zp_script.specs.Handing.{FailureComes, FailureComesTo, Handed, Reaps, landed}
 use Rattle.zp_script.specs.Kinds.{kind_asked}
 use Rattle.zp_script.specs.StepOutcomes.{acts_all, ended_by, leaves, reap_acts}
-use Rattle.zp_script.specs.Worlds.{Actor, Closed, Conn, Connection, Reaper, World, after_reap, after_step, conn_at, is_closed, is_reaper, with_conn, zxid_at}
+use Rattle.zp_script.specs.Worlds.{Actor, Closed, Conn, Connection, Reaper, World, after_reap, after_step, conn_at, is_closed_actor, is_reaper, with_conn, zxid_at}
 use Rattle.zp_script.specs.declared.flight.Asking.{Asking}
 use Rattle.zp_script.specs.declared.flight.Flight.TheVariants.{Carried, Denied, Out}
 use Rattle.zp_script.specs.declared.flight.Flight.{Flight}
@@ -50,7 +50,7 @@ use Rattle.zp_world_laws.proofs.Ends.{landed-is}
 use Rattle.zp_world_laws.proofs.Happenings.{passes}
 use Rattle.zp_world_laws.proofs.Numbers.{conn-here}
 use Rattle.zp_world_laws.specs.Holding.{Holds, Left, Of, Source, air, out_in, out_of}
-use Rattle.zp_world_laws.specs.Serving.{Serves, kind_lines, update_lines}
+use Rattle.zp_world_laws.specs.Serving.{StoreServes, kind_lines, update_lines}
 use Rattle.zp_settle_laws.specs.Possible.{PossibleLinesHappen}
 
 -- ---- tests that pass
@@ -58,15 +58,15 @@ use Rattle.zp_settle_laws.specs.Possible.{PossibleLinesHappen}
 record IsThere (c : ℕ) (w : World) (later : Option Why) : Type 0 where
   conn : Conn
   there : conn_at c w ≡ Some conn
-  alive : is_closed conn.actor ≡ false
+  alive : is_closed_actor conn.actor ≡ false
   rest : later ≡ None
 
 open-there : (c : ℕ) (w : World) (later : Option Why) → open_fault c w later ≡ None → IsThere c w later
 open-there c w later h = go (conn_at c w) refl h
   where
-    go : (o : Option Conn) → conn_at c w ≡ o → ◌≡◌ {A = Option Why} (elim o [ None ↦ Some why.NoSuchConnection | Some x ↦ if_fails (is_closed x.actor) why.ConnectionClosed later ]) None → IsThere c w later
+    go : (o : Option Conn) → conn_at c w ≡ o → ◌≡◌ {A = Option Why} (elim o [ None ↦ Some why.NoSuchConnection | Some x ↦ if_fails (is_closed_actor x.actor) why.ConnectionClosed later ]) None → IsThere c w later
     go None e f = absurd (some_none f)
-    go (Some x) e f = let p = passes (is_closed x.actor) why.ConnectionClosed later f in record { conn = x; there = e; alive = p.0; rest = p.1 }
+    go (Some x) e f = let p = passes (is_closed_actor x.actor) why.ConnectionClosed later f in record { conn = x; there = e; alive = p.0; rest = p.1 }
 
 record IsHere (c : ℕ) (w : World) (later : Option Why) : Type 0 where
   conn : Conn
@@ -88,7 +88,7 @@ connection-there c w later h = by-actor t.conn.actor refl t.alive (here (conn_at
     here None e f = absurd (none_some (sym e ∙ t.there))
     here (Some x) e f = subst (λ (y : Conn). is_reaper y.actor ≡ false) (some_is (sym e ∙ t.there)) f
 
-    by-actor : (a : Actor) → t.conn.actor ≡ a → is_closed a ≡ false → is_reaper t.conn.actor ≡ false → IsHere c w later
+    by-actor : (a : Actor) → t.conn.actor ≡ a → is_closed_actor a ≡ false → is_reaper t.conn.actor ≡ false → IsHere c w later
     by-actor (Connection core) e alive other = record { conn = t.conn; core = core; there = t.there; actor = e; rest = p.1 }
     by-actor (Reaper r) e alive other = (let f : true ≡ false = sym (ap is_reaper e) ∙ other in absurd (cc))
     by-actor Closed e alive other = absurd (cc)
@@ -125,17 +125,17 @@ handed-somehow : (c : ℕ) (w : World) (x : Conn) (core : Core) (i : Input) → 
 handed-somehow c w x core i there actor s =
     (leaves c w x (after_step s.next) (acts_all c (kind_asked c (Connection s.next)) [] x.flight s.out), record { conn = x; core = core; found = there; serving = actor; next = s.next; out = s.out; stepped = s.stepped; result = refl })
 
-fails-somehow : (c : ℕ) (w : World) (x : Conn) (a : Actor) → x.actor ≡ a → conn_at c w ≡ Some x → is_closed a ≡ false → (w' : World) × FailureComesTo c w x w' a
+fails-somehow : (c : ℕ) (w : World) (x : Conn) (a : Actor) → x.actor ≡ a → conn_at c w ≡ Some x → is_closed_actor a ≡ false → (w' : World) × FailureComesTo c w x w' a
 fails-somehow c w x (Connection core) e there alive = handed-somehow c w x core input.Failed there e (ends-somehow core input.Failed cause.LinkFault w.clock (refl, refl))
 fails-somehow c w x (Reaper r) e there alive = (leaves c w x Closed (ended_by c cause.LinkFault x.flight), refl)
 fails-somehow c w x Closed e there alive = absurd (cc)
 
-fails-at : (c : ℕ) (w : World) (x : Conn) → conn_at c w ≡ Some x → is_closed x.actor ≡ false → (w' : World) × FailureComes c w w'
+fails-at : (c : ℕ) (w : World) (x : Conn) → conn_at c w ≡ Some x → is_closed_actor x.actor ≡ false → (w' : World) × FailureComes c w w'
 fails-at c w x there alive = let f = fails-somehow c w x x.actor refl there alive in (f.0, (x, there, f.1))
 
 -- ---- an ask is carried out
 
-entry-somehow : (n : ℕ) (s : Store) (lines : List TranscriptLine) → Serves s lines → (e : Entry) × IsEntryOf n (at (present s) HeadKey) e
+entry-somehow : (n : ℕ) (s : Store) (lines : List TranscriptLine) → StoreServes s lines → (e : Entry) × IsEntryOf n (at (present s) HeadKey) e
 entry-somehow n s lines serves = go (at (present s) HeadKey) (stands-now s lines serves).head
   where
     go : (o : Option Kv) → HeadMeans o (after lines) → (e : Entry) × IsEntryOf n o e
@@ -151,7 +151,7 @@ no-lines l e = cc
 module _ (w : World) (h : Holds w) (src : Source) (x : Asking) (was : air w src ≡ Some x) where
   update-somehow : (s : Store) (a : Answer) (kind : UpdateKind) → carry w.store x.ask ≡ Some (s, a) → x.kind ≡ Some kind → int_eq (zxid_at w.store) (zxid_at s) ≡ false → (e : Entry) × IsEntryOf (length w.entries + 1) (at (present s) HeadKey) e
   update-somehow s a kind done of_kind moved = elim (air-outcome w src x s a h was done) [
-    | inl still ↦ absurd (no-lines (update_line s kind) (sym (ap (λ b. if b then [] else kind_lines s (Some kind)) moved) ∙ sym (ap (update_lines w.store s) of_kind) ∙ still.lines))
+    | inl still ↦ absurd (no-lines (update_line_of s kind) (sym (ap (λ b. if b then [] else kind_lines s (Some kind)) moved) ∙ sym (ap (update_lines w.store s) of_kind) ∙ still.lines))
     | inr updated ↦ entry-somehow (length w.entries + 1) s _ (updated.done).serves
   ]
 
@@ -162,7 +162,7 @@ module _ (w : World) (h : Holds w) (src : Source) (x : Asking) (was : air w src 
       by-kind moved None e = (record w { store = s }, refl)
       by-kind moved (Some kind) e =
           let y = update-somehow s a kind done e moved in
-          (record w { store = s; lines = w.lines ++ update_line s kind ∷ []; entries = w.entries ++ y.0 ∷ [] }, (y.0, y.1, refl))
+          (record w { store = s; lines = w.lines ++ update_line_of s kind ∷ []; entries = w.entries ++ y.0 ∷ [] }, (y.0, y.1, refl))
 
       go : (b : Bool) → int_eq (zxid_at w.store) (zxid_at s) ≡ b → (mid : World) × MatchBool b (mid ≡ record w { store = s }) (ShowsUpdate w s x.kind mid)
       go true e = (record w { store = s }, refl)
@@ -231,7 +231,7 @@ lags-somehow c w free = go (cursor_at c w) refl
     go : (o : Option ℤ) → cursor_at c w ≡ o → (w' : World) × LagsBy c w w' o
     go None e = (let f : true ≡ false = sym (ap (λ o. is_none (option_and_then (entry_after w.entries) o)) e) ∙ p in absurd (cc))
     go (Some z) e =
-        handed-somehow c w t.conn t.core (input.Lagged z (pos (length w.entries - max_kept))) t.there t.actor (ends-somehow t.core (input.Lagged z (pos (length w.entries - max_kept))) (cause.Lagged z (pos (length w.entries - max_kept))) w.clock (refl, refl))
+        handed-somehow c w t.conn t.core (input.Lagged z (pos (length w.entries - max_kept_entries))) t.there t.actor (ends-somehow t.core (input.Lagged z (pos (length w.entries - max_kept_entries))) (cause.Lagged z (pos (length w.entries - max_kept_entries))) w.clock (refl, refl))
 
 ends-line : (c : ℕ) (w : World) → connection_fault c w None ≡ None → (w' : World) × EndsBy c w w' (conn_at c w)
 ends-line c w free =
@@ -244,8 +244,8 @@ lapses-somehow : (id : ℤ) (w : World) → if_fails (not (has_lease w.store id)
 unfolding lapse
 lapses-somehow id w free =
     let p = passes (not (has_lease w.store id)) why.NoSuchLease (full_fault w.store (removals (leased_keys w.store id))) free in
-    let q = passes (is_full w.store (removals (leased_keys w.store id))) why.StoreFull None p.1 in
-    go (not (has_lease w.store id) || is_full w.store (removals (leased_keys w.store id))) (ap (λ b. b || is_full w.store (removals (leased_keys w.store id))) p.0 ∙ q.0) _
+    let q = passes (is_full_store w.store (removals (leased_keys w.store id))) why.StoreFull None p.1 in
+    go (not (has_lease w.store id) || is_full_store w.store (removals (leased_keys w.store id))) (ap (λ b. b || is_full_store w.store (removals (leased_keys w.store id))) p.0 ∙ q.0) _
   where
     go : (b : Bool) → b ≡ false → (s : Store) → (w' : World) × LapsesTo id w w' (if b then None else Some s)
     go false e s = (record w { store = s; lines = w.lines ++ LapseLine (revision s) id ∷ [] }, refl)
@@ -255,8 +255,8 @@ puts-somehow : (k v : Bytes) (w : World) → if_fails (is_kept_key k) why.KeyKep
 unfolding foreign
 puts-somehow k v w free =
     let p = passes (is_kept_key k) why.KeyKept (full_fault w.store (Puts k v (pos 0) ∷ [])) free in
-    let q = passes (is_full w.store (Puts k v (pos 0) ∷ [])) why.StoreFull None p.1 in
-    go (is_full w.store (Puts k v (pos 0) ∷ [])) q.0 _
+    let q = passes (is_full_store w.store (Puts k v (pos 0) ∷ [])) why.StoreFull None p.1 in
+    go (is_full_store w.store (Puts k v (pos 0) ∷ [])) q.0 _
   where
     go : (b : Bool) → b ≡ false → (s : Store) → (w' : World) × PutTo w w' (if b then None else Some s)
     go false e s = (record w { store = s }, refl)
@@ -264,8 +264,8 @@ puts-somehow k v w free =
 
 reaps-somehow : (c p : ℕ) (id : ℤ) (w : World) → (w' : World) × Reaps c w None w' (new_reaper p id) (new_reap id)
 reaps-somehow c p id w = (
-  leaves c w (new_reaper p id) (after_reap (record { session = id; phase = Looking })) (reap_acts c (kind_asked c (Reaper (record { session = id; phase = Looking }))) None (reaped.Ask (reading (pos 0) (first_wants id)))),
-  inr (record { step = reaped.Ask (reading (pos 0) (first_wants id)); next = record { session = id; phase = Looking }; stepped = record { same = refl; moves = (refl, refl) }; result = refl }),
+  leaves c w (new_reaper p id) (after_reap (record { session = id; phase = Looking })) (reap_acts c (kind_asked c (Reaper (record { session = id; phase = Looking }))) None (reaped.Ask (reading (pos 0) (reaper_wants id)))),
+  inr (record { step = reaped.Ask (reading (pos 0) (reaper_wants id)); next = record { session = id; phase = Looking }; stepped = record { same = refl; moves = (refl, refl) }; result = refl }),
 )
 
 -- ---- each line

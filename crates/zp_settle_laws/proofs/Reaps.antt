@@ -37,7 +37,7 @@ use Rattle.zs_close.specs.Reaping.{IfReaped, IsReapPlan, whose}
 use Rattle.zs_close.specs.declared.reap.Reaping.{Reaping}
 use Rattle.zs_close.specs.declared.reap.Reaping.TheVariants.{Gone, Kept, Planned, TooMany}
 use Rattle.zs_close.specs.Wanting.{own_keys}
-use Rattle.zs_reap.specs.Steps.{Answered, Decides, Ends, Follows, IsCounted, IsLookedAt, IsTested, LacksSome, Looked, LookedAgain, Steps as ReapSteps, first_wants}
+use Rattle.zs_reap.specs.Steps.{Answered, ReaperDecides, ReaperEnds, ReaperFollows, IsReaperCounted, IsLookedAt, IsReaperTested, LacksSome, ReaperLooked, ReaperLookedAgain, ReaperSteps as ReapSteps, reaper_wants}
 use Rattle.zs_reap.specs.declared.reap.Phase.{Phase}
 use Rattle.zs_reap.specs.declared.reap.Phase.TheVariants.{Counting, Looking, Over, Removing, Unasked}
 use Rattle.zs_reap.specs.declared.reap.Reap.{Reap}
@@ -68,7 +68,7 @@ is_done_now s _ = true
 pub record Covers (s : Store) (id revision_ : ℤ) (ws : List Want) : Type 0 where
   pub real : int_lt id (pos 1) ≡ false
   pub now : revision_ ≡ revision s
-  pub own : (w : Want) → Contains (first_wants id) w → Contains ws w
+  pub own : (w : Want) → Contains (reaper_wants id) w → Contains ws w
   pub counts : (kv : Kv) (ps : List Bytes) (p q : Bytes) → get (present s) (key_bytes (SessionKey (nat_abs id))) ≡ Some kv → IsSessionRec ps → kv.value ≡ session_value ps → Contains ps p → parent p ≡ Some q → Contains ws (key_want (CountsKey q))
 
 abbrev pub ReapOut : Store → ℤ → Phase → Ask → ℕ → Type 0
@@ -89,10 +89,10 @@ ReapAfter s r a k = (step : ReapStep) (next : Reap) → ReapSteps r (Some a) ste
 
 -- ---- what is looked up first
 
-first-own : (id : ℤ) → int_lt id (pos 1) ≡ false → first_wants id ≡ map key_want (own_keys id)
+first-own : (id : ℤ) → int_lt id (pos 1) ≡ false → reaper_wants id ≡ map key_want (own_keys id)
 first-own id real = ap (λ b. cond b (head_want ∷ []) (map key_want (own_keys id))) real
 
-in-first : (id : ℤ) (w : Want) → int_lt id (pos 1) ≡ false → Contains (map key_want (own_keys id)) w → Contains (first_wants id) w
+in-first : (id : ℤ) (w : Want) → int_lt id (pos 1) ≡ false → Contains (map key_want (own_keys id)) w → Contains (reaper_wants id) w
 in-first id w real has = subst (λ ws. Contains ws w) (sym (first-own id real)) has
 
 -- ---- what was seen was wanted
@@ -131,17 +131,17 @@ module _ (s : Store) (id : ℤ) (v : View) (phase : Phase) (step : ReapStep) (k 
   asks-then next q o h = subst (λ t. ReapThen s id t phase k) (sym h.1) (subst (λ p. ReapOut s id p q k) (sym h.0) o)
 
   -- a decision asks for a plan, or ends it
-  decides-then : ((p : Plan) → IsReapPlan id v p → 1 + look_again (succeeds s (plan_txn p)) ≤ k) → Decides id v phase step → ReapThen s id step phase k
+  decides-then : ((p : Plan) → IsReapPlan id v p → 1 + look_again (succeeds s (plan_txn p)) ≤ k) → ReaperDecides id v phase step → ReapThen s id step phase k
   decides-then f d = go d.reaping d.plan d.follows
     where
-      go : (r : Reaping) → IfReaped (IsReapPlan id v) r → Follows v r phase step → ReapThen s id step phase k
+      go : (r : Reaping) → IfReaped (IsReapPlan id v) r → ReaperFollows v r phase step → ReapThen s id step phase k
       go (Planned p) plan h = asks-then (Removing p.again) (transaction p) (f p plan) h
       go Kept plan h = subst (λ t. ReapThen s id t phase k) (sym h.1) h.0
       go Gone plan h = subst (λ t. ReapThen s id t phase k) (sym h.1) h.0
       go TooMany plan h = absurd h
 
   looked-at-then : 3 ≤ k → IsLookedAt id v phase step → ReapThen s id step phase k
-  looked-at-then le l = asks-then Looking (reading (pos 0) (first_wants id)) le l.asks
+  looked-at-then le l = asks-then Looking (reading (pos 0) (reaper_wants id)) le l.asks
 
 look-most : (b : Bool) → look_again b ≤ 3
 look-most true = omega arith
@@ -157,23 +157,23 @@ module _ (s : Store) (r : Reap) (k : ℕ) (le : 5 ≤ k) where
   any-phase (Removing again) q = omega (arith, le, look-most (is_done_now s q))
   any-phase Over q = tt
 
-  looked-again-most : (ws : List Want) (z : ℤ) (parts : List ActAns) (phase : Phase) (step : ReapStep) → LookedAgain r.session ws z parts phase step → ReapThen s r.session step phase k
+  looked-again-most : (ws : List Want) (z : ℤ) (parts : List ActAns) (phase : Phase) (step : ReapStep) → ReaperLookedAgain r.session ws z parts phase step → ReapThen s r.session step phase k
   looked-again-most ws z parts phase step h = elim h.1 [
     | inl d ↦ decides-then s r.session (viewed z ws parts) phase step k (λ p plan. omega (arith, le, look-most (succeeds s (plan_txn p)))) d
     | inr l ↦ looked-at-then s r.session (viewed z ws parts) phase step k (omega (arith, le)) l
   ]
 
-  looked-most : (ws : List Want) (z : ℤ) (parts : List ActAns) (phase : Phase) (step : ReapStep) → Looked r.session ws z parts phase step → ReapThen s r.session step phase k
+  looked-most : (ws : List Want) (z : ℤ) (parts : List ActAns) (phase : Phase) (step : ReapStep) → ReaperLooked r.session ws z parts phase step → ReapThen s r.session step phase k
   looked-most ws z parts phase step h = by (int_lt r.session (pos 1)) h
     where
-      by : (below : Bool) → MatchBool below (AreRecords ws parts × Ends (reaped.Gone z) phase step) (IsTested r.session ws z parts × (Decides r.session (viewed z ws parts) phase step ⊎ IsCounted r.session (viewed z ws parts) phase step)) → ReapThen s r.session step phase k
+      by : (below : Bool) → MatchBool below (AreRecords ws parts × ReaperEnds (reaped.Gone z) phase step) (IsReaperTested r.session ws z parts × (ReaperDecides r.session (viewed z ws parts) phase step ⊎ IsReaperCounted r.session (viewed z ws parts) phase step)) → ReapThen s r.session step phase k
       by true g = subst (λ t. ReapThen s r.session t phase k) (sym g.1.1) g.1.0
       by false (tested, inl d) = decides-then s r.session (viewed z ws parts) phase step k (λ p plan. omega (arith, le, look-most (succeeds s (plan_txn p)))) d
-      by false (tested, inr c) = asks-then s r.session (viewed z ws parts) phase step k (Counting (viewed z ws parts).revision (first_wants r.session ++ c.wants)) (reading (viewed z ws parts).revision (first_wants r.session ++ c.wants)) (inr le) c.asks
+      by false (tested, inr c) = asks-then s r.session (viewed z ws parts) phase step k (Counting (viewed z ws parts).revision (reaper_wants r.session ++ c.wants)) (reading (viewed z ws parts).revision (reaper_wants r.session ++ c.wants)) (inr le) c.asks
 
   answered-most : (p : Phase) (z : ℤ) (b : Bool) (parts : List ActAns) (phase : Phase) (step : ReapStep) → Answered r.session p z b parts phase step → ReapThen s r.session step phase k
   answered-most Unasked z b parts phase step h = absurd h
-  answered-most Looking z b parts phase step h = looked-most (first_wants r.session) z parts phase step h
+  answered-most Looking z b parts phase step h = looked-most (reaper_wants r.session) z parts phase step h
   answered-most (Counting first ws) z b parts phase step h = looked-again-most ws first parts phase step h
   answered-most (Removing again) z true parts phase step h = subst (λ t. ReapThen s r.session t phase k) (sym h.1) h.0
   answered-most (Removing again) z false parts phase step h = looked-again-most again z parts phase step h
@@ -198,34 +198,34 @@ module _ (s u : Store) (r : Reap) (a : Answer) where
   by-steps z b parts p j is e f = λ step next t. f next.phase step (subst (λ y. Answered r.session y z b parts next.phase step) e (subst (λ y. OfTxn y (λ m c ps. Answered r.session r.phase m c ps next.phase step)) is t.moves))
 
   -- the first look: what it asks for next is all that is read
-  covered : (z : ℤ) (parts : List ActAns) (ws : List Want) → int_lt r.session (pos 1) ≡ false → z ≡ revision s → length parts ≡ length (first_wants r.session) → Agrees (viewed z (first_wants r.session) parts) (present s) → AreNeeds req.Close (whose r.session) (viewed z (first_wants r.session) parts) ws
-      → Covers s r.session (viewed z (first_wants r.session) parts).revision (first_wants r.session ++ ws)
+  covered : (z : ℤ) (parts : List ActAns) (ws : List Want) → int_lt r.session (pos 1) ≡ false → z ≡ revision s → length parts ≡ length (reaper_wants r.session) → Agrees (viewed z (reaper_wants r.session) parts) (present s) → AreNeeds req.Close (whose r.session) (viewed z (reaper_wants r.session) parts) ws
+      → Covers s r.session (viewed z (reaper_wants r.session) parts).revision (reaper_wants r.session ++ ws)
   unfolding plain_request
   covered z parts ws real now long agrees needs = record {
     real = real;
-    now = revision-kept (at_revision empty_view z) (first_wants r.session) parts ∙ now;
-    own = λ w has. Contains-append_left (first_wants r.session) ws w has;
+    now = revision-kept (at_revision empty_view z) (reaper_wants r.session) parts ∙ now;
+    own = λ w has. Contains-append_left (reaper_wants r.session) ws w has;
     counts = λ kv ps p q there within value has e. by-seen kv ps p q there within value has e (seen v (key_bytes (CountsKey q))) refl;
   }
     where
       v : View
-      v = viewed z (first_wants r.session) parts
+      v = viewed z (reaper_wants r.session) parts
 
       nodes : Bytes
       nodes = key_bytes (SessionKey (nat_abs r.session))
 
       looked : (o : Option (Option Kv)) → seen v nodes ≡ o → (kv : Kv) → get (present s) nodes ≡ Some kv → seen v nodes ≡ Some (Some kv)
-      looked None e kv there = absurd (wanted-shown (at_revision empty_view z) (first_wants r.session) parts (key_want (SessionKey (nat_abs r.session))) (omega (arith, long)) (in-first r.session (key_want (SessionKey (nat_abs r.session))) real (2, omega arith, refl)) e)
+      looked None e kv there = absurd (wanted-shown (at_revision empty_view z) (reaper_wants r.session) parts (key_want (SessionKey (nat_abs r.session))) (omega (arith, long)) (in-first r.session (key_want (SessionKey (nat_abs r.session))) real (2, omega arith, refl)) e)
       looked (Some f) e kv there = e ∙ ap Some (sym (agrees-seen v (present s) nodes f agrees e) ∙ there)
 
       by-seen : (kv : Kv) (ps : List Bytes) (p q : Bytes) → get (present s) nodes ≡ Some kv → IsSessionRec ps → kv.value ≡ session_value ps → Contains ps p → parent p ≡ Some q → (o : Option (Option Kv)) → seen v (key_bytes (CountsKey q)) ≡ o
-          → Contains (first_wants r.session ++ ws) (key_want (CountsKey q))
+          → Contains (reaper_wants r.session ++ ws) (key_want (CountsKey q))
       by-seen kv ps p q there within value has e None f =
-          Contains-append_right (first_wants r.session) ws (key_want (CountsKey q))
+          Contains-append_right (reaper_wants r.session) ws (key_want (CountsKey q))
           (needs.all refl (key_want (CountsKey q)) (inr (inr (inr (ps, p, q, (within, (kv, looked (seen v nodes) refl kv there, value)), has, e, refl)))) f)
-      by-seen kv ps p q there within value has e (Some o) f = elim (seen-wanted (at_revision empty_view z) (first_wants r.session) parts (key_bytes (CountsKey q)) o f) [
+      by-seen kv ps p q there within value has e (Some o) f = elim (seen-wanted (at_revision empty_view z) (reaper_wants r.session) parts (key_bytes (CountsKey q)) o f) [
         | inl none ↦ absurd (none_some none)
-        | inr m ↦ Contains-append_left (first_wants r.session) ws (key_want (CountsKey q)) (in_contains (key_want (CountsKey q)) (first_wants r.session) m)
+        | inr m ↦ Contains-append_left (reaper_wants r.session) ws (key_want (CountsKey q)) (in_contains (key_want (CountsKey q)) (reaper_wants r.session) m)
       ]
 
   -- where all is covered, nothing is lacking
@@ -258,36 +258,36 @@ module _ (s u : Store) (r : Reap) (a : Answer) where
           shown (subst (Contains ws) (sym is) (cover.counts kv ps p q (agrees-seen v (present s) (key_bytes (SessionKey (nat_abs r.session))) (Some kv) agrees saw.1.1) saw.0 saw.1.2 has e))
 
   -- a decision on the present
-  decides-now : (v : View) (phase : Phase) (step : ReapStep) (j : ℕ) → 1 ≤ j → u ≡ s → Agrees v (present s) → Decides r.session v phase step → ReapThen u r.session step phase j
+  decides-now : (v : View) (phase : Phase) (step : ReapStep) (j : ℕ) → 1 ≤ j → u ≡ s → Agrees v (present s) → ReaperDecides r.session v phase step → ReapThen u r.session step phase j
   decides-now v phase step j le same agrees d = decides-then u r.session v phase step j (λ p plan. (
       let holds_now : succeeds u (plan_txn p) ≡ true = ap (λ y. succeeds y (plan_txn p)) same ∙ reap-now s r.session v p plan agrees in
       omega (arith, le, ap look_again holds_now)
       )) d
 
   -- the first look at the present
-  looked-now : (z : ℤ) (parts : List ActAns) (phase : Phase) (step : ReapStep) (j : ℕ) → 2 ≤ j → u ≡ s → z ≡ revision s → length parts ≡ length (first_wants r.session) → Agrees (viewed z (first_wants r.session) parts) (present s)
-      → Looked r.session (first_wants r.session) z parts phase step → ReapThen u r.session step phase j
+  looked-now : (z : ℤ) (parts : List ActAns) (phase : Phase) (step : ReapStep) (j : ℕ) → 2 ≤ j → u ≡ s → z ≡ revision s → length parts ≡ length (reaper_wants r.session) → Agrees (viewed z (reaper_wants r.session) parts) (present s)
+      → ReaperLooked r.session (reaper_wants r.session) z parts phase step → ReapThen u r.session step phase j
   looked-now z parts phase step j le same now long agrees h = by (int_lt r.session (pos 1)) refl h
     where
       v : View
-      v = viewed z (first_wants r.session) parts
+      v = viewed z (reaper_wants r.session) parts
 
       all : List Want → List Want
-      all ws = first_wants r.session ++ ws
+      all ws = reaper_wants r.session ++ ws
 
       by : (below : Bool) → int_lt r.session (pos 1) ≡ below
-          → MatchBool below (AreRecords (first_wants r.session) parts × Ends (reaped.Gone z) phase step) (IsTested r.session (first_wants r.session) z parts × (Decides r.session v phase step ⊎ IsCounted r.session v phase step))
+          → MatchBool below (AreRecords (reaper_wants r.session) parts × ReaperEnds (reaped.Gone z) phase step) (IsReaperTested r.session (reaper_wants r.session) z parts × (ReaperDecides r.session v phase step ⊎ IsReaperCounted r.session v phase step))
           → ReapThen u r.session step phase j
       by true real g = subst (λ t. ReapThen u r.session t phase j) (sym g.1.1) g.1.0
       by false real (tested, inl d) = decides-now v phase step j (omega (arith, le)) same agrees d
       by false real (tested, inr c) = asks-then u r.session v phase step j (Counting v.revision (all c.wants)) (reading v.revision (all c.wants))
           (inl (subst (λ t. Covers t r.session v.revision (all c.wants)) (sym same) (covered z parts c.wants real now long agrees (c.lacking).needs), le)) c.asks
 
-  looking-after : (k : ℕ) (q : Ask) → r.phase ≡ Looking → q ≡ reading (pos 0) (first_wants r.session) → carry s q ≡ Some (u, a) → 3 ≤ k → Done k (ReapAfter u r a)
+  looking-after : (k : ℕ) (q : Ask) → r.phase ≡ Looking → q ≡ reading (pos 0) (reaper_wants r.session) → carry s q ≡ Some (u, a) → 3 ≤ k → Done k (ReapAfter u r a)
   looking-after k q e is h n =
-      let ht : carry s (reading (pos 0) (first_wants r.session)) ≡ Some (u, a) = ap (carry s) (sym is) ∙ h in
-      let d = is-read s u (pos 0) (first_wants r.session) a ht in
-      let v = first-shown s u (first_wants r.session) (revision u) true d.parts (ht ∙ ap (λ y. Some (u, y)) d.is) in
+      let ht : carry s (reading (pos 0) (reaper_wants r.session)) ≡ Some (u, a) = ap (carry s) (sym is) ∙ h in
+      let d = is-read s u (pos 0) (reaper_wants r.session) a ht in
+      let v = first-shown s u (reaper_wants r.session) (revision u) true d.parts (ht ∙ ap (λ y. Some (u, y)) d.is) in
       done-one k (ReapAfter u r a) (omega (arith, n)) (λ j f. by-steps (revision u) true d.parts Looking j d.is e (λ phase step h.
       looked-now (revision u) d.parts phase step j (omega (arith, n, f)) d.same (ap revision d.same) d.long (v.1).agrees h))
 

@@ -11,7 +11,7 @@ use Rattle.std.proofs.lemmas.Int.{ints}
 use Rattle.std.proofs.lemmas.List.Elements.{All-contains}
 use Rattle.std.proofs.lemmas.List.Sums.{AllPass-from_list_all}
 use Rattle.ev_types.proofs.Allowed.{both_false, plain-not_denied}
-use Rattle.ev_types.specs.Denials.{carry, is_compacted, is_denied, is_full, is_future, names_missing, writes_twice}
+use Rattle.ev_types.specs.Denials.{carry, is_compacted, is_denied, is_full_store, is_future, names_missing, writes_twice}
 use Rattle.ev_types.specs.Ranges.{Keys}
 use Rattle.ev_types.specs.Store.{Store, acts_from, carried_out, holds, last_revision, mod_of, new_store, revision, store_at, worked}
 use Rattle.ev_types.specs.declared.answer.Kv.{Kv}
@@ -44,8 +44,8 @@ use Rattle.zp_step.specs.Stages.{Core, Stage, Unconnected, Connecting, Ready, Ke
 use Rattle.zp_script.specs.declared.flight.Flight.{Flight}
 use Rattle.zp_world_laws.proofs.Arrivals.{nat-either}
 use Rattle.zp_world_laws.proofs.Kept.{true-false}
-use Rattle.zp_world_laws.specs.Connections.{IsServing}
-use Rattle.zp_world_laws.specs.Serving.{Serves, moment_of}
+use Rattle.zp_world_laws.specs.Connections.{IsServingConn}
+use Rattle.zp_world_laws.specs.Serving.{StoreServes, moment_of}
 use Rattle.zp_settle_laws.proofs.Truths.{found-holds}
 
 -- ---- the store of a script: nothing was compacted, and it began as a new one
@@ -85,7 +85,7 @@ unfolding after
 front-nothing lines m b n = quiet-front [] nothing_yet lines m b n
 
 -- so the state of each revision is sound
-pub sound-at : (s : Store) (lines : List TranscriptLine) (n : ℕ) → Serves s lines → 2 ≤ n → n ≤ length s.revisions → IsSound (state_at lines (moment_of lines (pos n)))
+pub sound-at : (s : Store) (lines : List TranscriptLine) (n : ℕ) → StoreServes s lines → 2 ≤ n → n ≤ length s.revisions → IsSound (state_at lines (moment_of lines (pos n)))
 sound-at s lines n w lo hi = go (begins (take (moment_of lines (pos n)) lines)) refl
   where
     by-head : (o : Option Kv) → at (store_at s n) HeadKey ≡ o → HeadMeans o (state_at lines (moment_of lines (pos n))) → state_at lines (moment_of lines (pos n)) ≡ nothing_yet → ⊥
@@ -141,7 +141,7 @@ module _ (s : Store) (floor : s.floor ≡ pos 0) (n : ℕ) (le : n ≤ length s.
     failure_once = refl;
     success_named = ranges-named ws;
     failure_named = refl;
-    room = ap (is_full s) (worked-still s (pos n) ws);
+    room = ap (is_full_store s) (worked-still s (pos n) ws);
   })
 
 alive-allowed : (s : Store) (id : ℤ) → is_denied s (ask.Alive id) ≡ false
@@ -167,7 +167,7 @@ module _ (s : Store) (who : Who) (r : Request) (v : View) (p : Plan) (time : ℕ
       go None e = absurd (let zero_is : pos 0 ≡ who.mine = sym (ap mod_of e) ∙ life in omega (arith, ints, rises, zero_is))
       go (Some kv) e = later-there s b.number (lease_guard who).key kv o e
 
-  plan-allowed : (lines : List TranscriptLine) → Serves s lines → IsOfScript s → pos 1 ≤ℤ who.mine → revision s <ℤ last_revision → is_denied s (transaction p) ≡ false
+  plan-allowed : (lines : List TranscriptLine) → StoreServes s lines → IsOfScript s → pos 1 ≤ℤ who.mine → revision s <ℤ last_revision → is_denied s (transaction p) ≡ false
   plan-allowed lines w o rises room =
       let n = b.number in
       let lo = plan-number o rises in
@@ -181,7 +181,7 @@ abbrev pub AsksFew : Stage → Type 0
 AsksFew (Reading xid r v ws) = length ws ≤ max_ranges
 AsksFew _ = Unit {0}
 
-module _ (s : Store) (lines : List TranscriptLine) (c : ℕ) (core : Core) (flight : Option Flight) (w : Serves s lines) (o : IsOfScript s) (room : revision s <ℤ last_revision) (k : IsServing s lines c core flight) where
+module _ (s : Store) (lines : List TranscriptLine) (c : ℕ) (core : Core) (flight : Option Flight) (w : StoreServes s lines) (o : IsOfScript s) (room : revision s <ℤ last_revision) (k : IsServingConn s lines c core flight) where
   reads-allowed : (v : View) (n : ℕ) (ws : List Want) → v.revision ≡ pos n → n ≤ length s.revisions → length ws ≤ max_ranges → is_denied s (reading v.revision ws) ≡ false
   reads-allowed v n ws e le few = subst (λ z. is_denied s (reading z ws) ≡ false) (sym e) (reading-allowed s o.floor n le ws few)
 

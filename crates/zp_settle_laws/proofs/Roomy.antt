@@ -62,7 +62,7 @@ use Rattle.zp_world_laws.proofs.Numbers.{conn-here, conn-there, either-number}
 use Rattle.zp_world_laws.proofs.Running.{Settling, SettlesOn, answers, carries, enters, happens-accounted, first-accounted, settling-is, within-before, runs-grown}
 use Rattle.zp_world_laws.specs.Accounting.{IsAccounted, IsWithinCounts, OffersSession}
 use Rattle.zp_world_laws.specs.Connecting.{IsInStage}
-use Rattle.zp_world_laws.specs.Connections.{IsServing}
+use Rattle.zp_world_laws.specs.Connections.{IsServingConn}
 use Rattle.zp_settle_laws.proofs.Bytes.{ended-out}
 use Rattle.zp_settle_laws.proofs.Few.{few-steps}
 use Rattle.zp_settle_laws.proofs.Onward.{Grows, Later, carried-on, carry-later, effect-grows}
@@ -293,8 +293,8 @@ module _ (w w' : World) (c : ℕ) (ex : Executes c w w') (k : IsAccounted w) (r 
   at : IsRoomyAt w.store ex.conn core
   at = r.conns c ex.conn core ex.found actor
 
-  out-serving : is_served core.stage ≡ true → IsServing w.store w.lines c core (Some (Out ex.asking))
-  out-serving served = subst (IsServing w.store w.lines c core) ex.out ((k.whole).serving c ex.conn core ex.found actor served)
+  out-serving : is_served core.stage ≡ true → IsServingConn w.store w.lines c core (Some (Out ex.asking))
+  out-serving served = subst (IsServingConn w.store w.lines c core) ex.out ((k.whole).serving c ex.conn core ex.found actor served)
 
   served-busy : is_served core.stage ≡ true → is_busy core.stage ≡ true
   served-busy served = let s = out-serving served in asked-busy core core.stage ex.asking.ask (s.flies).asked

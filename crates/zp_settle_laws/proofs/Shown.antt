@@ -34,15 +34,15 @@ use Rattle.zp_laws.specs.Standing.{IsNoView, IsViewAt, Knows}
 use Rattle.zp_step.specs.Stages.{Core, Stage, Unconnected, Connecting, Ready, KeepingAlive, Checking, Reading, Committing, Waiting, Shut, asked_of}
 use Rattle.zp_script.specs.declared.flight.Flight.TheVariants.{Carried}
 use Rattle.zp_world_laws.proofs.Transactions.{txn-answered}
-use Rattle.zp_world_laws.specs.Connections.{IsServing}
-use Rattle.zp_world_laws.specs.Serving.{Serves}
+use Rattle.zp_world_laws.specs.Connections.{IsServingConn}
+use Rattle.zp_world_laws.specs.Serving.{StoreServes}
 use Rattle.zp_settle_laws.proofs.Carried.{is-again, is-read}
 use Rattle.zp_settle_laws.proofs.Homes.{HasLife, home-life, life-since, moment-since}
 use Rattle.zp_settle_laws.proofs.Places.{view_on}
 use Rattle.zp_settle_laws.proofs.Staying.{SeesLife, Shows, ShowsLife}
 use Rattle.zp_settle_laws.specs.Staying.{IsAttachedHere}
 
-module _ (store : Store) (lines : List TranscriptLine) (c : ℕ) (core : Core) (a : Answer) (serves : Serves store lines) (home : IsAttachedHere lines core.who) (k : IsServing store lines c core (Some (Carried a))) where
+module _ (store : Store) (lines : List TranscriptLine) (c : ℕ) (core : Core) (a : Answer) (serves : StoreServes store lines) (home : IsAttachedHere lines core.who) (k : IsServingConn store lines c core (Some (Carried a))) where
   t : IsTrueAnswer store lines c core k.walker k.looked a
   t = k.flies
 

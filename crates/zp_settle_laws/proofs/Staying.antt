@@ -51,7 +51,7 @@ use Rattle.zp_step.specs.Plans.{CommitAnswered, Committed, ReadOn, end_after, fi
 use Rattle.zp_step.specs.Replies.{Is, is_due, replied, stage_after, waits}
 use Rattle.zp_step.specs.Stages.{Core, Pending, Stage, Unconnected, Connecting, Ready, KeepingAlive, Checking, Reading, Committing, Waiting, Shut}
 use Rattle.zp_step.specs.Steps.{Answers, Goes, StepsOpen, rests, takes}
-use Rattle.zp_step.specs.Taking.{Takes, TakesReadable, end_of_plain, plainly}
+use Rattle.zp_step.specs.Taking.{TakesFrame, TakesReadable, end_of_plain, plainly}
 use Rattle.zp_step.specs.declared.action.Action.{Action}
 use Rattle.zp_step.specs.declared.input.Input.TheVariants as input
 use Rattle.zp_world_laws.proofs.Kept.{true-false}
@@ -149,12 +149,12 @@ module _ (c' : Core) (out : List Action) where
       go (inr (inl y)) = is-lasting (asks_for c xid r empty_view (take max_ranges y.lacking)) c' out (record { work = stays; waiting = w }) y.is
       go (inr (inr y)) = absurd (y.whole.enough refl p head_want (inl refl) refl)
 
-  takes-lasting : (c : Core) (bytes : List ℕ) (now : ℕ) → closes_after (read_request bytes) ≡ false → AreLasting c.waiting → Takes c bytes now c' out → IsLasting c'
+  takes-lasting : (c : Core) (bytes : List ℕ) (now : ℕ) → closes_after (read_request bytes) ≡ false → AreLasting c.waiting → TakesFrame c bytes now c' out → IsLasting c'
   takes-lasting c bytes now k w h = readable-lasting c now (read_request bytes) (plain_reply no_watches (read_request bytes)) refl k w h
 
   takes_up-lasting : (c : Core) (bytes : List ℕ) (now : ℕ) → closes_after (read_request bytes) ≡ false → AreLasting c.waiting → TakesUp c bytes now c' out → IsLasting c'
   takes_up-lasting c bytes now k w h =
-      either (is_alive_due c.kept now c.timeout) (Is (keeps_alive c bytes now) c' out) (Takes c bytes now c' out) (IsLasting c') h
+      either (is_alive_due c.kept now c.timeout) (Is (keeps_alive c bytes now) c' out) (TakesFrame c bytes now c' out) (IsLasting c') h
       (is-lasting (keeps_alive c bytes now) c' out (record { work = k; waiting = w }))
       (takes-lasting c bytes now k w)
 
@@ -164,7 +164,7 @@ module _ (c' : Core) (out : List Action) where
   still-lasting c bytes v now None s k w h = absurd (none_some s.there)
   still-lasting c bytes v now (Some kv) s k w h = go (int_eq kv.mod_revision c.who.mine) ((Decides-int_eq kv.mod_revision c.who.mine).1 (ap (λ (y : Kv). y.mod_revision) (some_is s.there) ∙ s.own)) h
     where
-      go : (b : Bool) → b ≡ true → MatchBool b (Takes c bytes now c' out) (Is (waits c (moved c.who v kv.mod_revision (xid_of (read_request bytes)))) c' out) → IsLasting c'
+      go : (b : Bool) → b ≡ true → MatchBool b (TakesFrame c bytes now c' out) (Is (waits c (moved c.who v kv.mod_revision (xid_of (read_request bytes)))) c' out) → IsLasting c'
       go true f t = takes-lasting c bytes now k w t
       go false f t = absurd (true-false (sym f))
 
@@ -178,7 +178,7 @@ module _ (c' : Core) (out : List Action) where
 
   alive-lasting : (c : Core) (bytes : List ℕ) (now : ℕ) (a : Answer) → closes_after (read_request bytes) ≡ false → AreLasting c.waiting → KeptAlive c bytes now c' out a → IsLasting c'
   alive-lasting c bytes now a k w h = of_alive a _ (IsLasting c') h (λ ttl f.
-      either (int_eq ttl (pos 0)) (Is (checks c bytes) c' out) (Takes c bytes now c' out) (IsLasting c') f
+      either (int_eq ttl (pos 0)) (Is (checks c bytes) c' out) (TakesFrame c bytes now c' out) (IsLasting c') f
       (is-lasting (checks c bytes) c' out (record { work = k; waiting = w }))
       (takes-lasting c bytes now k w))
 

@@ -22,7 +22,7 @@ use Rattle.zn_view.specs.declared.plan.Plan.{Plan}
 use Rattle.zn_view.specs.declared.plan.Who.{Who}
 use Rattle.zn_view.specs.declared.snapshot.SeenKey.{SeenKey}
 use Rattle.zs_close.proofs.EndPlans.{agrees-for, nodes-few}
-use Rattle.zs_reap.specs.Steps.{AreFew}
+use Rattle.zs_reap.specs.Steps.{AreFewOwned}
 use Rattle.zx_base.proofs.Options.{none_some}
 use Rattle.zx_base.specs.Maps.{same}
 use Rattle.zp_laws.proofs.Attached.{moored}
@@ -30,16 +30,16 @@ use Rattle.zp_laws.proofs.Deciding.{attached-then}
 use Rattle.zp_laws.specs.Standing.{IsNoView, Knows}
 use Rattle.zp_step.specs.Stages.{Core, Stage, Unconnected, Connecting, Ready, KeepingAlive, Checking, Reading, Committing, Waiting, Shut}
 use Rattle.zp_script.specs.declared.flight.Flight.{Flight}
-use Rattle.zp_world_laws.specs.Connections.{IsServing}
-use Rattle.zp_world_laws.specs.Serving.{Serves}
+use Rattle.zp_world_laws.specs.Connections.{IsServingConn}
+use Rattle.zp_world_laws.specs.Serving.{StoreServes}
 use Rattle.zp_settle_laws.proofs.Coming.{IsTruthful, TruthIn}
 
 -- ---- a session's nodes
 
-pub few-of : (v : View) (id : ℤ) (m : Keys) (s : State) → pos 1 ≤ℤ id → IsSound s → StandsFor m s → Agrees v m → AreFew id v
+pub few-of : (v : View) (id : ℤ) (m : Keys) (s : State) → pos 1 ≤ℤ id → IsSound s → StandsFor m s → Agrees v m → AreFewOwned id v
 few-of v id m s real sound stands agrees = λ kv ps saw nodes. nodes-few v id real m s stands ps (agrees-for v id ps m agrees) kv saw nodes sound
 
-unseen-few : (v : View) (id : ℤ) → IsNoView v → AreFew id v
+unseen-few : (v : View) (id : ℤ) → IsNoView v → AreFewOwned id v
 unseen-few v id none = λ kv ps saw nodes. absurd (none_some (sym (ap (seen_in (key_bytes (SessionKey (nat_abs id)))) none.1) ∙ saw))
 
 -- ---- guards
@@ -65,7 +65,7 @@ planned-now s who v p asked agrees = ap (list_all (holds (present s))) asked.gua
 
 -- ---- an attached connection
 
-module _ (s : Store) (lines : List TranscriptLine) (c : ℕ) (core : Core) (flight : Option Flight) (serves : Serves s lines) (k : IsServing s lines c core flight) where
+module _ (s : Store) (lines : List TranscriptLine) (c : ℕ) (core : Core) (flight : Option Flight) (serves : StoreServes s lines) (k : IsServingConn s lines c core flight) where
   truth-in : (st : Stage) → Knows s lines c core k.walker k.looked st → TruthIn s core.who st
   truth-in (Reading xid r v ws) (tree, inl none) = unseen-few v core.who.session none
   truth-in (Reading xid r v ws) (tree, inr view) =

@@ -31,12 +31,12 @@ use Rattle.zn_view.specs.Seen.{View, empty_view}
 use Rattle.zn_view.specs.Views.{Agrees}
 use Rattle.zn_view.specs.declared.plan.Plan.{Plan}
 use Rattle.zn_view.specs.declared.want.Want.{Want}
-use Rattle.zs_reap.specs.Steps.{AreFew, IsFaultIn as IsReapFaultIn, IsReadFault, IsReapFault, first_wants as first_looked}
+use Rattle.zs_reap.specs.Steps.{AreFewOwned, IsFaultOfReaper as IsReapFaultIn, IsReadFault, IsReapFault, reaper_wants as first_looked}
 use Rattle.zs_reap.specs.declared.reap.Phase.TheVariants as reaping
 use Rattle.zs_reap.specs.declared.reap.Phase.{Phase as ReapPhase}
 use Rattle.zs_reap.specs.declared.reap.Reap.{Reap}
 use Rattle.zs_session.specs.Answering.{viewed}
-use Rattle.zs_session.specs.Connecting.{IsConnectFault, IsFaultIn, asked_in, timeout_in}
+use Rattle.zs_session.specs.Connecting.{IsConnectFault, IsFaultOfConnect, asked_in_phase, timeout_in}
 use Rattle.zs_session.specs.Sessions.{attach_guards, attach_txn, attach_wants, first_wants, new_session_guards, new_session_txn, session_wants}
 use Rattle.zs_session.specs.declared.connect.Connect.{Connect}
 use Rattle.zs_session.specs.declared.connect.Phase.TheVariants.{Attaching, Creating, Granting, Keeping, Looking, LookingAgain, Over, Unasked}
@@ -58,10 +58,10 @@ use Rattle.zp_world_laws.proofs.Running.{first-accounted, runs-grown, within-bef
 use Rattle.zp_world_laws.proofs.Transactions.{txn-answered}
 use Rattle.zp_world_laws.specs.Accounting.{IsWithinCounts, OffersSession}
 use Rattle.zp_world_laws.specs.Connecting.{IsConnectAnswer, IsConnectFlight, IsInStage}
-use Rattle.zp_world_laws.specs.Connections.{IsServing}
+use Rattle.zp_world_laws.specs.Connections.{IsServingConn}
 use Rattle.zp_world_laws.specs.Counting.{HasFrames}
 use Rattle.zp_world_laws.specs.Reaping.{IsReapAnswer, IsReapAsk, IsReapFlight}
-use Rattle.zp_world_laws.specs.Serving.{Serves, moment_of}
+use Rattle.zp_world_laws.specs.Serving.{StoreServes, moment_of}
 use Rattle.zp_settle_laws.proofs.Carried.{is-again, is-read}
 use Rattle.zp_settle_laws.proofs.Causes.{FindsIn}
 use Rattle.zp_settle_laws.proofs.Replays.{IsFineLine, IsFineWorld, IsSoundWorld, first-fine, happens-fine}
@@ -114,38 +114,38 @@ module _ (s u : Store) (a : Answer) (x : State) where
 -- ---- a connect
 
 module _ (store : Store) (lines : List TranscriptLine) (c place : ℕ) (x : Connect) (a : Answer) (k : IsConnectAnswer store lines c place x a) (key value : Bytes) where
-  asks : (p : Phase) → x.phase ≡ p → asked_in x p ≡ Some k.asked
-  asks p e = sym (ap (asked_in x) e) ∙ k.out
+  asks : (p : Phase) → x.phase ≡ p → asked_in_phase x p ≡ Some k.asked
+  asks p e = sym (ap (asked_in_phase x) e) ∙ k.out
 
-  granting-none : (b : Answer) → IsFaultIn x Granting b (faults.Damaged key value) → ⊥
+  granting-none : (b : Answer) → IsFaultOfConnect x Granting b (faults.Damaged key value) → ⊥
   granting-none (answer.Txn z b parts) f = f
   granting-none (answer.Range z found) f = f
   granting-none (answer.Granted z id ttl) f = f
   granting-none (answer.Alive z id ttl) f = f
 
-  keeping-none : (seen : ℤ) (life : _) (b : Answer) → IsFaultIn x (Keeping seen life) b (faults.Damaged key value) → ⊥
+  keeping-none : (seen : ℤ) (life : _) (b : Answer) → IsFaultOfConnect x (Keeping seen life) b (faults.Damaged key value) → ⊥
   keeping-none seen life (answer.Txn z b parts) f = f
   keeping-none seen life (answer.Range z found) f = f
   keeping-none seen life (answer.Granted z id ttl) f = f
   keeping-none seen life (answer.Alive z id ttl) f = f
 
-  in-phase : (p : Phase) → x.phase ≡ p → IsFaultIn x p a (faults.Damaged key value) → ⊥
+  in-phase : (p : Phase) → x.phase ≡ p → IsFaultOfConnect x p a (faults.Damaged key value) → ⊥
   in-phase Unasked e f = none_some (asks Unasked e)
   in-phase Looking e f =
       let r = read-shown k.before k.then_store a (state_at lines k.looked) (first_wants x.request) (ap (carry k.before) (some_is (asks Looking e)) ∙ k.carried_out) k.stands in
-      records-sound (first_wants x.request) r.0 key value r.2 (subst (λ y. IsFaultIn x Looking y (faults.Damaged key value)) r.1 f)
+      records-sound (first_wants x.request) r.0 key value r.2 (subst (λ y. IsFaultOfConnect x Looking y (faults.Damaged key value)) r.1 f)
   in-phase Granting e f = granting-none a f
   in-phase Creating e f =
       let p : Plan = record { guards = new_session_guards x.fresh.id; success = (new_session_txn x.fresh (timeout_in x)).success; again = session_wants x.fresh.id; triggers = []; draft = reply.Good body.Empty } in
-      plan-sound k.before k.then_store a (state_at lines k.looked) p (λ y. IsFaultIn x Creating y (faults.Damaged key value)) (ap (carry k.before) (some_is (asks Creating e)) ∙ k.carried_out) k.stands
+      plan-sound k.before k.then_store a (state_at lines k.looked) p (λ y. IsFaultOfConnect x Creating y (faults.Damaged key value)) (ap (carry k.before) (some_is (asks Creating e)) ∙ k.carried_out) k.stands
       (λ parts g. g) (λ parts all g. records-sound (session_wants x.fresh.id) parts key value all g) f
   in-phase (Keeping seen life) e f = keeping-none seen life a f
   in-phase LookingAgain e f =
       let r = read-shown k.before k.then_store a (state_at lines k.looked) (attach_wants x.request.session) (ap (carry k.before) (some_is (asks LookingAgain e)) ∙ k.carried_out) k.stands in
-      records-sound (attach_wants x.request.session) r.0 key value r.2 (subst (λ y. IsFaultIn x LookingAgain y (faults.Damaged key value)) r.1 f)
+      records-sound (attach_wants x.request.session) r.0 key value r.2 (subst (λ y. IsFaultOfConnect x LookingAgain y (faults.Damaged key value)) r.1 f)
   in-phase (Attaching seen life) e f =
       let p : Plan = record { guards = attach_guards x.request.session seen; success = (attach_txn x.request.session seen life).success; again = attach_wants x.request.session; triggers = []; draft = reply.Good body.Empty } in
-      plan-sound k.before k.then_store a (state_at lines k.looked) p (λ y. IsFaultIn x (Attaching seen life) y (faults.Damaged key value)) (ap (carry k.before) (some_is (asks (Attaching seen life) e)) ∙ k.carried_out) k.stands
+      plan-sound k.before k.then_store a (state_at lines k.looked) p (λ y. IsFaultOfConnect x (Attaching seen life) y (faults.Damaged key value)) (ap (carry k.before) (some_is (asks (Attaching seen life) e)) ∙ k.carried_out) k.stands
       (λ parts g. g) (λ parts all g. records-sound (attach_wants x.request.session) parts key value all g) f
   in-phase Over e f = none_some (asks Over e)
 
@@ -154,7 +154,7 @@ module _ (store : Store) (lines : List TranscriptLine) (c place : ℕ) (x : Conn
 
 -- ---- a connection with a session
 
-module _ (store : Store) (lines : List TranscriptLine) (c : ℕ) (core : Core) (a : Answer) (k : IsServing store lines c core (Some (Carried a))) (key value : Bytes) where
+module _ (store : Store) (lines : List TranscriptLine) (c : ℕ) (core : Core) (a : Answer) (k : IsServingConn store lines c core (Some (Carried a))) (key value : Bytes) where
   asked-so : (st : Stage) → core.stage ≡ st → asked_of core.who st ≡ Some (k.flies).asked
   asked-so st e = sym (ap (asked_of core.who) e) ∙ (k.flies).out
 
@@ -198,7 +198,7 @@ module _ (store : Store) (lines : List TranscriptLine) (c : ℕ) (core : Core) (
 -- ---- a reaper
 
 -- at each revision whose keys stand for a state a session has few nodes
-module _ (store : Store) (lines : List TranscriptLine) (begun : IsOfScript store) (serves : Serves store lines) (n : ℕ) (known : n ≤ length store.revisions) (x : State) (stands : StandsFor (store_at store n) x) (v : View) (agrees : Agrees v (store_at store n)) where
+module _ (store : Store) (lines : List TranscriptLine) (begun : IsOfScript store) (serves : StoreServes store lines) (n : ℕ) (known : n ≤ length store.revisions) (x : State) (stands : StandsFor (store_at store n) x) (v : View) (agrees : Agrees v (store_at store n)) where
   late : 2 ≤ n
   late = go (at (store_at store n) HeadKey) refl stands.head
     where
@@ -206,11 +206,11 @@ module _ (store : Store) (lines : List TranscriptLine) (begun : IsOfScript store
       go None e h = absurd h
       go (Some kv) e h = later-there store n (key_bytes HeadKey) kv begun e
 
-  few-above : (m : ℕ) → AreFew (pos (suc m)) v
+  few-above : (m : ℕ) → AreFewOwned (pos (suc m)) v
   few-above m = few-of v (pos (suc m)) (store_at store n) (state_at lines (moment_of lines (pos n))) (omega (arith, ints)) (sound-at store lines n serves late known) (serves.stands n late known) agrees
 
   -- no session has the number 0
-  few-zero : AreFew (pos 0) v
+  few-zero : AreFewOwned (pos 0) v
   few-zero kv ps saw nodes = absurd (go (session_at (pos 0) (state_at lines (moment_of lines (pos n)))) refl (subst (λ o. NodesMean (session_at (pos 0) s0) (owned s0.tree (pos 0)) (stored_of o)) there ((serves.stands n late known).each (SessionKey 0))))
     where
       s0 : State
@@ -223,19 +223,19 @@ module _ (store : Store) (lines : List TranscriptLine) (begun : IsOfScript store
       go None e h = h
       go (Some y) e h = (let least = (sound-at store lines n serves late known).numbered (pos 0) y e in omega (arith, ints, least))
 
-  few-number : (m : ℕ) → AreFew (pos m) v
+  few-number : (m : ℕ) → AreFewOwned (pos m) v
   few-number zero = few-zero
   few-number (suc m) = few-above m
 
-  few-here : (id : ℤ) → AreFew id v
+  few-here : (id : ℤ) → AreFewOwned id v
   few-here id = few-number (nat_abs id)
 
 -- what was read is records, and of few nodes
-fault-free : (id : ℤ) (ws : List Want) (z : ℤ) (parts : List ActAns) (key value : Bytes) → AreRecords ws parts → AreFew id (viewed z ws parts) → IsReadFault id ws z parts (faults.Damaged key value) → ⊥
+fault-free : (id : ℤ) (ws : List Want) (z : ℤ) (parts : List ActAns) (key value : Bytes) → AreRecords ws parts → AreFewOwned id (viewed z ws parts) → IsReadFault id ws z parts (faults.Damaged key value) → ⊥
 fault-free id ws z parts key value all few (inl f) = records-sound ws parts key value all f
 fault-free id ws z parts key value all few (inr (same, many)) = (let le = few many.kv many.paths many.saw many.nodes in let lt = many.many in omega (arith, le, lt))
 
-module _ (store : Store) (lines : List TranscriptLine) (begun : IsOfScript store) (serves : Serves store lines) (r : Reap) (a : Answer) (k : IsReapAnswer store r a) (key value : Bytes) where
+module _ (store : Store) (lines : List TranscriptLine) (begun : IsOfScript store) (serves : StoreServes store lines) (r : Reap) (a : Answer) (k : IsReapAnswer store r a) (key value : Bytes) where
   abbrev Finding : ReapPhase → Answer → Type 0
   Finding p (answer.Txn z b parts) = IsReapFaultIn r.session p z b parts (faults.Damaged key value)
   Finding p _ = ⊥
@@ -256,7 +256,7 @@ module _ (store : Store) (lines : List TranscriptLine) (begun : IsOfScript store
   then-keys : store_at store (length (k.then_store).revisions) ≡ present k.then_store
   then-keys = (k.is).same (length (k.then_store).revisions) (omega arith)
 
-  few-then : (v : View) → Agrees v (present k.then_store) → AreFew r.session v
+  few-then : (v : View) → Agrees v (present k.then_store) → AreFewOwned r.session v
   few-then v agrees =
       few-here store lines begun serves (length (k.then_store).revisions) (k.is).longer k.state (subst (λ m. StandsFor m k.state) (sym then-keys) k.stands) v (subst (Agrees v) (sym then-keys) agrees) r.session
 
@@ -318,7 +318,7 @@ module _ (w : World) (h : IsKept w) where
       served-so : (st : Stage) → core.stage ≡ st → is_served st ≡ true → FindsIn core a key value st → ⊥
       served-so st e served g =
           let k = ((h.accounted).whole).serving c x core there actor (ap is_served e ∙ served) in
-          serving-sound w.store w.lines c core a (subst (IsServing w.store w.lines c core) flight k) key value st e served g
+          serving-sound w.store w.lines c core a (subst (IsServingConn w.store w.lines c core) flight k) key value st e served g
 
       by-stage : (st : Stage) → core.stage ≡ st → IsInStage w.store w.lines c core x.flight st → FindsIn core a key value st → ⊥
       by-stage (Unconnected fresh) e n g = g

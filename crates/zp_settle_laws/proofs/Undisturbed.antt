@@ -14,7 +14,7 @@ use Rattle.zp_script.specs.Entries.{next_entry}
 use Rattle.zp_script.specs.Faults.{fault, flight_at, if_fails, open_fault}
 use Rattle.zp_script.specs.Happens.{Effect, Happens, Settles, max_settling}
 use Rattle.zp_script.specs.Runs.{RunsFrom}
-use Rattle.zp_script.specs.Worlds.{Conn, World, conn_at, is_closed, is_open_conn}
+use Rattle.zp_script.specs.Worlds.{Conn, World, conn_at, is_closed_actor, is_open_conn}
 use Rattle.zt_text.specs.declared.script.Happening.TheVariants as line
 use Rattle.zt_text.specs.declared.script.Happening.{Happening}
 use Rattle.zt_text.specs.declared.script.Why.TheVariants as why
@@ -33,12 +33,12 @@ use Rattle.zp_settle_laws.specs.Undisturbed.{HasMildFrames, UndisturbedStayOpen,
 -- ---- a line of another number
 
 -- the tests of a line pass for an open number alone
-open-live : (d : ℕ) (w : World) (later : Option Why) (y : Conn) → open_fault d w later ≡ None → conn_at d w ≡ Some y → is_closed y.actor ≡ true → ⊥
+open-live : (d : ℕ) (w : World) (later : Option Why) (y : Conn) → open_fault d w later ≡ None → conn_at d w ≡ Some y → is_closed_actor y.actor ≡ true → ⊥
 open-live d w later y free there closed = none_some (sym free ∙ by (conn_at d w) there)
   where
-    by : (o : Option Conn) → o ≡ Some y → ◌≡◌ {A = Option Why} (elim o [ None ↦ Some why.NoSuchConnection | Some x ↦ if_fails (is_closed x.actor) why.ConnectionClosed later ]) (Some why.ConnectionClosed)
+    by : (o : Option Conn) → o ≡ Some y → ◌≡◌ {A = Option Why} (elim o [ None ↦ Some why.NoSuchConnection | Some x ↦ if_fails (is_closed_actor x.actor) why.ConnectionClosed later ]) (Some why.ConnectionClosed)
     by None e = absurd (none_some e)
-    by (Some x) e = ap (λ b. if_fails b why.ConnectionClosed later) (ap (λ (u : Conn). is_closed u.actor) (some_is e) ∙ closed)
+    by (Some x) e = ap (λ b. if_fails b why.ConnectionClosed later) (ap (λ (u : Conn). is_closed_actor u.actor) (some_is e) ∙ closed)
 
 module _ (c : ℕ) (w w' : World) (x : Conn) (there : conn_at c w ≡ Some x) where
   others : (d : ℕ) → (d ≡ c → ⊥) → Onward d w w' → conn_at c w' ≡ conn_at c w
@@ -54,7 +54,7 @@ module _ (c : ℕ) (w w' : World) (x : Conn) (there : conn_at c w ≡ Some x) wh
 
   -- ---- one that has ended stays as it is
 
-  module _ (closed : is_closed x.actor ≡ true) where
+  module _ (closed : is_closed_actor x.actor ≡ true) where
     live-apart : (d : ℕ) (later : Option Why) → open_fault d w later ≡ None → d ≡ c → ⊥
     live-apart d later free e = open-live d w later x free (ap (λ n. conn_at n w) e ∙ there) closed
 
@@ -79,7 +79,7 @@ module _ (c : ℕ) (w w' : World) (x : Conn) (there : conn_at c w ≡ Some x) wh
     closed-stays (line.Tick n) free h = away (effect-on w w' (line.Tick n) h)
 
 ended-stays : (c : ℕ) (n : ℤ) (w w' : World) (h : Happening) → Happens w h w' → IsEndedBadly c n w → IsEndedBadly c n w'
-ended-stays c n w w' h p e = record { conn = e.conn; there = closed-stays c w w' e.conn e.there (ap is_closed e.closed) h p.possible p.effect ∙ e.there; closed = e.closed; bad = e.bad }
+ended-stays c n w w' h p e = record { conn = e.conn; there = closed-stays c w w' e.conn e.there (ap is_closed_actor e.closed) h p.possible p.effect ∙ e.there; closed = e.closed; bad = e.bad }
 
 runs-ended : (c : ℕ) (n : ℤ) (w w' : World) (hs : List Happening) (ticks : List Tick) → RunsFrom w hs ticks w' → IsEndedBadly c n w → IsEndedBadly c n w'
 runs-ended c n w w' [] ticks (none, same) e = subst (IsEndedBadly c n) (sym same) e
@@ -123,7 +123,7 @@ module _ (c p : ℕ) (place : ℕ) (own : Attachment) (last : World) (kept : Non
     effect-open (line.Lag d) free h calm = by-number d (effect-on w w' (line.Lag d) h) (spared d calm)
     effect-open (line.End d) free h calm = by-number d (effect-on w w' (line.End d) h) (spared d calm)
     effect-open (line.Restart q) free h calm =
-        let others_proxy : is_open_at q o.conn ≡ false = ap (λ n. (q == n) && not (is_closed o.conn.actor)) o.proxy ∙ ap (λ b. b && not (is_closed o.conn.actor)) calm in
+        let others_proxy : is_open_at q o.conn ≡ false = ap (λ n. (q == n) && not (is_closed_actor o.conn.actor)) o.proxy ∙ ap (λ b. b && not (is_closed_actor o.conn.actor)) calm in
         still-open (ap (conn_at c) h ∙ restart-still q c w o.conn o.there others_proxy)
     effect-open (line.Stray n) free h calm = still-open (away c w w' o.conn o.there (effect-on w w' (line.Stray n) h))
     effect-open (line.Lapse id) free h calm = still-open (away c w w' o.conn o.there (effect-on w w' (line.Lapse id) h))
@@ -149,4 +149,4 @@ pub undisturbed-stay-open : UndisturbedStayOpen
 undisturbed-stay-open before hs ticks later w w' c offered offers within run more a u =
     let k : IsKept w = every-run-kept before ticks w offered (within-before w w' (runs-grown w w' hs later more) within) run in
     let o = runs-open c a.conn.proxy a.place a.own w' u.session u.frames u.room w hs later more offers u.script within u.lengths k a.attached (record { conn = a.conn; core = a.core; there = a.there; actor = a.actor; proxy = refl }) in
-    ap is_open_conn o.there ∙ ap (λ x. not (is_closed x)) o.actor
+    ap is_open_conn o.there ∙ ap (λ x. not (is_closed_actor x)) o.actor

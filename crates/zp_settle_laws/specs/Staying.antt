@@ -14,7 +14,7 @@ use Rattle.zk_transcript.specs.declared.transcript.TranscriptLine.{TranscriptLin
 use Rattle.zn_view.specs.declared.plan.Who.{Who}
 use Rattle.zp_script.specs.Arriving.{Arrives}
 use Rattle.zp_script.specs.Happens.{Settles}
-use Rattle.zp_script.specs.Worlds.{Conn, Connection, World, conn_at, is_closed}
+use Rattle.zp_script.specs.Worlds.{Conn, Connection, World, conn_at, is_closed_actor}
 use Rattle.zp_world_laws.specs.Accounting.{IsAccounted}
 use Rattle.zp_step.specs.Stages.{Checking, Committing, Connecting, Core, KeepingAlive, Reading, Ready, Shut, Stage, Unconnected, Waiting}
 
@@ -80,7 +80,7 @@ pub record StaysOpen (c : ℕ) (w : World) : Type 0 where
 pub record IsDenied (c : ℕ) (w : World) : Type 0 where
   pub conn : Conn
   pub there : conn_at c w ≡ Some conn
-  pub closed : is_closed conn.actor ≡ true
+  pub closed : is_closed_actor conn.actor ≡ true
   pub shown : Contains w.lines (Close c (ended.Cause cause.LinkFault))
 
 -- it stays so through a settle, however many lines that does, or is denied what it asks

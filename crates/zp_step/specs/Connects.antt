@@ -11,7 +11,7 @@ use Rattle.zk_transcript.specs.Conversations.{refusal}
 use Rattle.zk_transcript.specs.declared.transcript.Cause.TheVariants as cause
 use Rattle.zx_base.specs.Maps.{Bytes}
 use Rattle.zn_view.specs.declared.plan.Who.{Who}
-use Rattle.zs_session.specs.Connecting.{Steps, IsConnectFault}
+use Rattle.zs_session.specs.Connecting.{ConnectSteps, IsConnectFault}
 use Rattle.zs_session.specs.declared.connect.Connect.{Connect}
 use Rattle.zs_session.specs.declared.connect.ConnectStep.{ConnectStep}
 use Rattle.zs_session.specs.declared.connect.ConnectStep.TheVariants as steps
@@ -46,7 +46,7 @@ connected c now new (steps.Taken revision) = closed_by c (cause.Taken revision)
 pub record StepsConnect (c : Core) (connect : Connect) (a : Option Answer) (now : ℕ) (c' : Core) (out : List Action) : Type 0 where
   pub step : ConnectStep
   pub new : Connect
-  pub steps : Steps connect a step new
+  pub steps : ConnectSteps connect a step new
   pub is : Is (connected c now new step) c' out
 
 -- a value was found that is no record, and the connection ends

@@ -19,14 +19,14 @@ use Rattle.zp_step.specs.declared.action.Action.TheVariants as action
 use Rattle.zp_step.specs.Looking.{IfRecords, expired, moved}
 use Rattle.zp_step.specs.Replies.{Is, waits}
 use Rattle.zp_step.specs.Stages.{Core, KeepingAlive, Checking}
-use Rattle.zp_step.specs.Taking.{Takes}
+use Rattle.zp_step.specs.Taking.{TakesFrame}
 
 abbrev pub keeps_alive : Core → List ℕ → ℕ → Core × List Action
 keeps_alive c bytes now = (record c { stage = KeepingAlive bytes; kept = now }, action.Ask (ask.Alive c.who.session) ∷ [])
 
 -- a frame is taken up, or a keepalive goes before it
 abbrev pub TakesUp : Core → List ℕ → ℕ → Core → List Action → Type 0
-TakesUp c bytes now c' out = MatchBool (is_alive_due c.kept now c.timeout) (Is (keeps_alive c bytes now) c' out) (Takes c bytes now c' out)
+TakesUp c bytes now c' out = MatchBool (is_alive_due c.kept now c.timeout) (Is (keeps_alive c bytes now) c' out) (TakesFrame c bytes now c' out)
 
 -- ---- the answer to the keepalive
 
@@ -34,7 +34,7 @@ abbrev pub checks : Core → List ℕ → Core × List Action
 checks c bytes = (record c { stage = Checking bytes }, action.Ask (reading (pos 0) (attach_wants c.who.session)) ∷ [])
 
 abbrev pub KeptAlive : Core → List ℕ → ℕ → Core → List Action → Answer → Type 0
-KeptAlive c bytes now c' out a = OfAlive a (λ seconds. MatchBool (int_eq seconds (pos 0)) (Is (checks c bytes) c' out) (Takes c bytes now c' out))
+KeptAlive c bytes now c' out a = OfAlive a (λ seconds. MatchBool (int_eq seconds (pos 0)) (Is (checks c bytes) c' out) (TakesFrame c bytes now c' out))
 
 -- ---- the look at the session
 
@@ -42,7 +42,7 @@ KeptAlive c bytes now c' out a = OfAlive a (λ seconds. MatchBool (int_eq second
 abbrev pub StillMine : Core → List ℕ → View → ℕ → Core → List Action → Option Kv → Type 0
 StillMine c bytes v now c' out None = Is (waits c (expired v (xid_of (read_request bytes)))) c' out
 StillMine c bytes v now c' out (Some kv) =
-    MatchBool (int_eq kv.mod_revision c.who.mine) (Takes c bytes now c' out) (Is (waits c (moved c.who v kv.mod_revision (xid_of (read_request bytes)))) c' out)
+    MatchBool (int_eq kv.mod_revision c.who.mine) (TakesFrame c bytes now c' out) (Is (waits c (moved c.who v kv.mod_revision (xid_of (read_request bytes)))) c' out)
 
 abbrev pub Looked : Core → List ℕ → ℕ → Core → List Action → View → Type 0
 Looked c bytes now c' out v = StillMine c bytes v now c' out (found_at v (life_key c.who.session))

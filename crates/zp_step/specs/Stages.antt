@@ -14,7 +14,7 @@ use Rattle.zn_view.specs.declared.plan.Arm.{Arm}
 use Rattle.zn_view.specs.declared.plan.Plan.{Plan}
 use Rattle.zn_view.specs.declared.plan.Who.{Who}
 use Rattle.zn_view.specs.declared.want.Want.{Want}
-use Rattle.zs_session.specs.Connecting.{asked_in}
+use Rattle.zs_session.specs.Connecting.{asked_in_phase}
 use Rattle.zs_session.specs.Sessions.{attach_wants}
 use Rattle.zs_session.specs.declared.connect.Connect.{Connect}
 use Rattle.zs_session.specs.declared.connect.Fresh.{Fresh}
@@ -126,7 +126,7 @@ counted_up n = min n max_count
 -- the ask that is out in a stage, of a connection with this session
 abbrev pub asked_of : Who → Stage → Option Ask
 asked_of who (Unconnected fresh) = None
-asked_of who (Connecting connect) = asked_in connect connect.phase
+asked_of who (Connecting connect) = asked_in_phase connect connect.phase
 asked_of who Ready = None
 asked_of who (KeepingAlive frame) = Some (ask.Alive who.session)
 asked_of who (Checking frame) = Some (reading (pos 0) (attach_wants who.session))

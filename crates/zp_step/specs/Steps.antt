@@ -67,15 +67,15 @@ Answers c a now c' out (Committing xid r v p time) = CommitAnswered c xid r v p 
 Answers c a now c' out _ = ⊥
 
 -- the frame's bytes are counted, and the four of the length before it
-abbrev pub counted : Core → List ℕ → Core
-counted c bytes = record c { taken = counted_up (c.taken + 4 + length bytes) }
+abbrev pub with_frame_counted : Core → List ℕ → Core
+with_frame_counted c bytes = record c { taken = counted_up (c.taken + 4 + length bytes) }
 
 abbrev pub queued : Core → List ℕ → Core
-queued c bytes = let d = counted c bytes in record d { waiting = d.waiting ++ bytes ∷ [] }
+queued c bytes = let d = with_frame_counted c bytes in record d { waiting = d.waiting ++ bytes ∷ [] }
 
 -- the first frame is the connect; a later one waits, unless it has no header: then the connection ends as soon as it comes
 abbrev pub Comes : Core → List ℕ → ℕ → Core → List Action → Stage → Type 0
-Comes c bytes now c' out (Unconnected fresh) = Opens (counted c bytes) c.taken fresh now c' out (read_connect bytes)
+Comes c bytes now c' out (Unconnected fresh) = Opens (with_frame_counted c bytes) c.taken fresh now c' out (read_connect bytes)
 Comes c bytes now c' out _ = MatchBool (has_header (read_request bytes)) (Is (queued c bytes, []) c' out) (Is (closed_by c (cause.NoHeader c.taken)) c' out)
 
 abbrev pub Handles : Core → Input → ℕ → Core → List Action → Type 0

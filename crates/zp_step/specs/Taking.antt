@@ -87,5 +87,5 @@ TakesReadable c now c' out x (Some t) = Is (plainly c (xid_of x) t.reply) c' out
 TakesReadable c now c' out (Asks xid r) None = LooksFirst c xid r now c' out (update_path r)
 TakesReadable c now c' out _ None = ⊥
 
-abbrev pub Takes : Core → List ℕ → ℕ → Core → List Action → Type 0
-Takes c bytes now c' out = let x = read_request bytes in TakesReadable c now c' out x (plain_reply no_watches x)
+abbrev pub TakesFrame : Core → List ℕ → ℕ → Core → List Action → Type 0
+TakesFrame c bytes now c' out = let x = read_request bytes in TakesReadable c now c' out x (plain_reply no_watches x)

@@ -13,9 +13,9 @@ use Rattle.zk_transcript.specs.declared.transcript.Cause.TheVariants as cause
 use Rattle.zk_transcript.specs.declared.transcript.Ended.TheVariants as ended
 use Rattle.zk_transcript.specs.declared.transcript.UpdateKind.{UpdateKind}
 use Rattle.zn_layout.specs.declared.entry.Entry.{Entry}
-use Rattle.zp_script.specs.Carrying.{CarriedBy, CarriesOut, Executes, ExecutesStray, HasStore, ShowsUpdate, update_line}
+use Rattle.zp_script.specs.Carrying.{CarriedBy, CarriesOut, Executes, ExecutesStray, HasStore, ShowsUpdate, update_line_of}
 use Rattle.zp_script.specs.Effects.{Delivers, EndsBy, EntersBy, IsEntry, LagsBy}
-use Rattle.zp_script.specs.Entries.{cursor_at, cursor_of, cursor_wanted, entry_after, max_kept, next_entry}
+use Rattle.zp_script.specs.Entries.{cursor_at, cursor_of, cursor_wanted, entry_after, max_kept_entries, next_entry}
 use Rattle.zp_script.specs.Faults.{flight_at}
 use Rattle.zp_script.specs.Handing.{AnswerComesTo, FailureComes, FailureComesTo, Reaps, landed, landed_conn}
 use Rattle.zp_script.specs.Kinds.{kind_asked}
@@ -37,7 +37,7 @@ use Rattle.zp_step.specs.declared.input.Input.{Input}
 use Rattle.zp_step.specs.declared.wants.Wants.TheVariants as wants
 use Rattle.zp_world_laws.proofs.Acting.{ends-own, is_own}
 use Rattle.zs_reap.proofs.Waiting.{step-waits}
-use Rattle.zs_reap.specs.Steps.{IsAsked, IsWaiting}
+use Rattle.zs_reap.specs.Steps.{IsAsked, IsReaperWaiting}
 use Rattle.zs_reap.specs.declared.reap.Phase.TheVariants.{Counting, Looking, Over, Removing, Unasked}
 use Rattle.zs_reap.specs.declared.reap.Phase.{Phase}
 use Rattle.zs_reap.specs.declared.reap.Reap.{Reap}
@@ -55,7 +55,7 @@ stored-same w mid s e = others-proceed Free w mid [] (ap (λ (v : World). v.conn
 
 shows-proceeds : (w mid : World) (s : Store) (kind : Option UpdateKind) → ShowsUpdate w s kind mid → Proceeds Free w mid
 shows-proceeds w mid s None h = stored-same w mid s h
-shows-proceeds w mid s (Some kind) (e, of, is) = others-proceed Free w mid (update_line s kind ∷ []) (ap (λ (v : World). v.conns) is) (ap (λ (v : World). v.clock) is) (ap (λ (v : World). v.lines) is) (λ p. one-line (update_line s kind) tt)
+shows-proceeds w mid s (Some kind) (e, of, is) = others-proceed Free w mid (update_line_of s kind ∷ []) (ap (λ (v : World). v.conns) is) (ap (λ (v : World). v.clock) is) (ap (λ (v : World). v.lines) is) (λ p. one-line (update_line_of s kind) tt)
     (λ k. subst (All IsNaturalEntry) (sym (ap (λ (v : World). v.entries) is)) (All-append IsNaturalEntry w.entries (e ∷ []) k.entries (All-cons IsNaturalEntry e [] (subst IsNatural (sym of.number) (natural (length w.entries + 1))) (All-nil IsNaturalEntry)))) (λ c p. refl)
 
 stored-proceeds : (w mid : World) (s : Store) (kind : Option UpdateKind) → HasStore w s kind mid → Proceeds Free w mid
@@ -123,7 +123,7 @@ reap-own c kind f (reaped.Reaped z) = ends-own c [] (ended.Reaped z) (quiet f) r
 reap-own c kind f (reaped.Kept z) = ends-own c [] (ended.Kept z) (quiet f) refl refl
 reap-own c kind f (reaped.Gone z) = ends-own c [] (ended.Gone z) (quiet f) refl refl
 
-reap-in_step : (w : World) (c frames : ℕ) (kind : Option UpdateKind) (f : Option Flight) (r next : Reap) (step : ReapStep) → IsWaiting step next.phase → IsInStep w.lines c frames (Reaper r) → IsInStep (w.lines ++ (reap_acts c kind f step).lines) c frames (after_reap next)
+reap-in_step : (w : World) (c frames : ℕ) (kind : Option UpdateKind) (f : Option Flight) (r next : Reap) (step : ReapStep) → IsReaperWaiting step next.phase → IsInStep w.lines c frames (Reaper r) → IsInStep (w.lines ++ (reap_acts c kind f step).lines) c frames (after_reap next)
 reap-in_step w c frames kind f r next (reaped.Ask a) waits t = subst (λ b. IsInStep (w.lines ++ []) c frames (if b then Closed else Reaper next)) (sym (asked-open next.phase waits.0)) (in_step-aside w.lines [] c frames (Reaper next) (λ p. refl) t)
 reap-in_step w c frames kind f r next (reaped.Reaped z) over t = subst (λ p. IsInStep (w.lines ++ (reap_acts c kind f (reaped.Reaped z)).lines) c frames (if is_over p then Closed else Reaper next)) (sym over) (in_step-ends w c frames (Reaper r) (ended.Reaped z) (λ e. cc) t)
 reap-in_step w c frames kind f r next (reaped.Kept z) over t = subst (λ p. IsInStep (w.lines ++ (reap_acts c kind f (reaped.Kept z)).lines) c frames (if is_over p then Closed else Reaper next)) (sym over) (in_step-ends w c frames (Reaper r) (ended.Kept z) (λ e. cc) t)
@@ -255,7 +255,7 @@ cursor-natural w c z e k = by-conn (conn_at c w) refl e
 
 pub lags-proceed : (w w' : World) (c : ℕ) (o : Option ℤ) → cursor_at c w ≡ o → LagsBy c w w' o → Proceeds Free w w'
 lags-proceed w w' c None e h = absurd h
-lags-proceed w w' c (Some z) e hd = handed-proceeds Free w w' c [] _ hd refl no-lines (λ p k. (cursor-natural w c z e k, natural (length w.entries - max_kept))) (none-indexed c hd.conn.frames)
+lags-proceed w w' c (Some z) e hd = handed-proceeds Free w w' c [] _ hd refl no-lines (λ p k. (cursor-natural w c z e k, natural (length w.entries - max_kept_entries))) (none-indexed c hd.conn.frames)
 
 pub ends-proceed : (w w' : World) (c : ℕ) (o : Option Conn) → EndsBy c w w' o → Proceeds Free w w'
 ends-proceed w w' c None h = absurd h

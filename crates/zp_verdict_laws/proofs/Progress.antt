@@ -6,7 +6,7 @@ use Rattle.zk_legal.specs.Formed.{frames_of, is_frame_of}
 use Rattle.zk_model.specs.Limits.{max_frame}
 use Rattle.zk_transcript.specs.declared.transcript.TranscriptLine.TheVariants.{Close, Frame as FrameLine, Lapse, Open, Send, Update}
 use Rattle.zk_transcript.specs.declared.transcript.TranscriptLine.{TranscriptLine}
-use Rattle.zp_world_laws.specs.Naming.{is_unnamed, names}
+use Rattle.zp_world_laws.specs.Naming.{is_unnamed, names_conn}
 
 -- no line is its own yet; it is open, and so many frames came; it has ended; or a line stands where none of its kind may
 pub data Progress : Type 0 where
@@ -95,7 +95,7 @@ skipped : (b : Bool) (p q : Progress) → not b ≡ true → (if b then p else q
 skipped true p q h = absurd (cc)
 skipped false p q h = refl
 
-unnamed-line : (c : ℕ) (p : Progress) (l : TranscriptLine) → not (names c l) ≡ true → progressed c p l ≡ p
+unnamed-line : (c : ℕ) (p : Progress) (l : TranscriptLine) → not (names_conn c l) ≡ true → progressed c p l ≡ p
 unnamed-line c p (Open d proxy id passwd) h = skipped (c == d) (opens p) p h
 unnamed-line c p (FrameLine d i zxid bytes) h = skipped (c == d) (takes i bytes p) p h
 unnamed-line c p (Send d bytes) h = skipped (c == d) (sends p) p h
@@ -106,7 +106,7 @@ unnamed-line c p (Lapse revision id) h = refl
 pub unnamed-aside : (c : ℕ) (ls : List TranscriptLine) → is_unnamed c ls ≡ true → LeaveAlone c ls
 unnamed-aside c [] h p = refl
 unnamed-aside c (l ∷ ls) h p =
-    let q = and_parts (not (names c l)) (is_unnamed c ls) h in
+    let q = and_parts (not (names_conn c l)) (is_unnamed c ls) h in
     ap (λ r. progress_from c r ls) (unnamed-line c p l q.0) ∙ unnamed-aside c ls q.1 p
 
 pub progress-aside : (c : ℕ) (xs ys : List TranscriptLine) → LeaveAlone c ys → progress c (xs ++ ys) ≡ progress c xs

@@ -10,7 +10,7 @@ use Rattle.zn_view.specs.Asks.{reading, transaction}
 use Rattle.zn_view.specs.declared.want.Want.{Want}
 use Rattle.zs_close.specs.declared.reap.Reaping.TheVariants.{Gone, Kept, Planned, TooMany}
 use Rattle.zs_close.specs.declared.reap.Reaping.{Reaping}
-use Rattle.zs_reap.specs.Steps.{Answered as ReapAnswered, Asks, Decides, Ends as ReapEnds, Follows, IsCounted, IsTested, LookedAgain as ReapLookedAgain, Steps as ReapSteps, first_wants as first_looked}
+use Rattle.zs_reap.specs.Steps.{Answered as ReapAnswered, Asks, ReaperDecides, ReaperEnds as ReapEnds, ReaperFollows, IsReaperCounted, IsReaperTested, ReaperLookedAgain as ReapLookedAgain, ReaperSteps as ReapSteps, reaper_wants as first_looked}
 use Rattle.zs_reap.specs.declared.reap.Phase.TheVariants as reaping
 use Rattle.zs_reap.specs.declared.reap.Phase.{Phase as ReapPhase}
 use Rattle.zs_reap.specs.declared.reap.Reap.{Reap}
@@ -45,7 +45,7 @@ module _ (phase : ReapPhase) (step : ReapStep) where
   reap-ends : (end : ReapStep) → IsNaturalReap end → ReapEnds end phase step → NaturallyReaps phase step
   reap-ends end n e = record { phase_is = subst IsNaturalPhase (sym e.0) tt; step_is = subst IsNaturalReap (sym e.1) n }
 
-  reap-follows : (v : View) (r : Reaping) → IsNaturalView v → Follows v r phase step → NaturallyReaps phase step
+  reap-follows : (v : View) (r : Reaping) → IsNaturalView v → ReaperFollows v r phase step → NaturallyReaps phase step
   reap-follows v (Planned p) n h = reap-asks (reaping.Removing p.again) (transaction p) tt h
   reap-follows v Kept n h = reap-ends (reaped.Kept v.revision) n.revision h
   reap-follows v Gone n h = reap-ends (reaped.Gone v.revision) n.revision h
@@ -56,7 +56,7 @@ module _ (phase : ReapPhase) (step : ReapStep) where
   reap-again id ws z parts n all (t, inr h) = reap-asks reaping.Looking (reading (pos 0) (first_looked id)) tt h.asks
 
   reap-looked : (id z : ℤ) (parts : List ActAns) (below : Bool) → IsNatural z → AreNaturalParts parts
-      → MatchBool below (AreRecords (first_looked id) parts × ReapEnds (reaped.Gone z) phase step) (IsTested id (first_looked id) z parts × (Decides id (viewed z (first_looked id) parts) phase step ⊎ IsCounted id (viewed z (first_looked id) parts) phase step))
+      → MatchBool below (AreRecords (first_looked id) parts × ReapEnds (reaped.Gone z) phase step) (IsReaperTested id (first_looked id) z parts × (ReaperDecides id (viewed z (first_looked id) parts) phase step ⊎ IsReaperCounted id (viewed z (first_looked id) parts) phase step))
       → NaturallyReaps phase step
   reap-looked id z parts true n all h = reap-ends (reaped.Gone z) n h.1
   reap-looked id z parts false n all (t, inl h) = reap-follows (viewed z (first_looked id) parts) h.reaping (viewed-natural z (first_looked id) parts n all) h.follows

@@ -8,15 +8,15 @@ use Rattle.zk_transcript.specs.declared.transcript.Cause.TheVariants as cause
 use Rattle.zk_transcript.specs.declared.transcript.Ended.TheVariants as ended
 use Rattle.zp_script.specs.Effects.{is_open_at, restarted, stopped}
 use Rattle.zp_script.specs.StepOutcomes.{ended_by, leaves}
-use Rattle.zp_script.specs.Worlds.{Closed, Conn, World, conn_at, is_closed}
+use Rattle.zp_script.specs.Worlds.{Closed, Conn, World, conn_at, is_closed_actor}
 use Rattle.zp_verdict_laws.proofs.Handing.{ended-proceeds}
 use Rattle.zp_verdict_laws.proofs.Tidy.{Free, Proceeds, proceeds-same, proceeds-then}
 use Rattle.zp_world_laws.proofs.Restarting.{Distinct, Gives, all-found, gives-as, gives-others, is-true, sorted-distinct}
 
 not-closed : (p : ℕ) (x : Conn) → is_open_at p x ≡ true → x.actor ≡ Closed → ⊥
-not-closed p x h e = closed-open (sym (ap is_closed e)) ((and_parts (p == x.proxy) (not (is_closed x.actor)) h).1)
+not-closed p x h e = closed-open (sym (ap is_closed_actor e)) ((and_parts (p == x.proxy) (not (is_closed_actor x.actor)) h).1)
   where
-    closed-open : true ≡ is_closed x.actor → not (is_closed x.actor) ≡ true → ⊥
+    closed-open : true ≡ is_closed_actor x.actor → not (is_closed_actor x.actor) ≡ true → ⊥
     closed-open f g = absurd (cc)
 
 stopped-proceeds : (p : ℕ) (w : World) (es : List (ℕ × Conn)) → Distinct es → Gives (λ k. conn_at k w) es → Proceeds Free w (fold (stopped p) w es)

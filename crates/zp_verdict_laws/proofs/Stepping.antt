@@ -50,8 +50,8 @@ use Rattle.zp_step.specs.Looking.{IfRecords, Looks, asks_for, change_by, decided
 use Rattle.zp_step.specs.Plans.{Committed, end_after, finishes}
 use Rattle.zp_step.specs.Replies.{Is, close_after, closed_by, is_due, replied, send_notices, stage_after, waits}
 use Rattle.zp_step.specs.Stages.{Checking, Committing, Connecting, Core, KeepingAlive, Pending, Reading, Ready, Shut, Stage, Unconnected, Waiting, is_shut, seen_by}
-use Rattle.zp_step.specs.Steps.{Answers, Comes, Goes, Handles, Steps, counted, queued, rests, takes}
-use Rattle.zp_step.specs.Taking.{Takes, TakesReadable, end_of_plain, plainly}
+use Rattle.zp_step.specs.Steps.{Answers, Comes, Goes, Handles, Steps, with_frame_counted, queued, rests, takes}
+use Rattle.zp_step.specs.Taking.{TakesFrame, TakesReadable, end_of_plain, plainly}
 use Rattle.zp_step.specs.declared.action.Action.TheVariants as action
 use Rattle.zp_step.specs.declared.action.Action.{Action}
 use Rattle.zp_step.specs.declared.input.Input.TheVariants as input
@@ -235,12 +235,12 @@ module _ (now : ℕ) (c' : Core) (out : List Action) where
       go (inl y) = natural-is (decided (record c { views = y.views }) xid r y.view now (Planned y.plan)) (record { core = record { stage = e; cursor = k.cursor; mine = k.mine }; acts = tt }) y.is
       go (inr y) = natural-looks c xid r empty_view e k empty-natural y
 
-  natural-takes : (c : Core) (bytes : List ℕ) → IsNaturalCore c → Takes c bytes now c' out → Naturally c' out
+  natural-takes : (c : Core) (bytes : List ℕ) → IsNaturalCore c → TakesFrame c bytes now c' out → Naturally c' out
   natural-takes c bytes k h = natural-readable c (read_request bytes) (plain_reply no_watches (read_request bytes)) refl k h
 
   natural-takes_up : (c : Core) (bytes : List ℕ) → IsNaturalCore c → TakesUp c bytes now c' out → Naturally c' out
   natural-takes_up c bytes k h =
-      either (is_alive_due c.kept now c.timeout) (Is (keeps_alive c bytes now) c' out) (Takes c bytes now c' out) (Naturally c' out) h
+      either (is_alive_due c.kept now c.timeout) (Is (keeps_alive c bytes now) c' out) (TakesFrame c bytes now c' out) (Naturally c' out) h
       (natural-is (keeps_alive c bytes now) (record { core = record { stage = tt; cursor = k.cursor; mine = k.mine }; acts = tt }))
       (natural-takes c bytes k)
 
@@ -251,7 +251,7 @@ module _ (now : ℕ) (c' : Core) (out : List Action) where
   natural-still c bytes v (Some kv) e k n h =
       let p = moved c.who v kv.mod_revision (xid_of (read_request bytes)) in
       let shown : IsNaturalKv kv = found-natural v (life_key c.who.session) kv n e in
-      either (int_eq kv.mod_revision c.who.mine) (Takes c bytes now c' out) (Is (waits c p) c' out) (Naturally c' out) h
+      either (int_eq kv.mod_revision c.who.mine) (TakesFrame c bytes now c' out) (Is (waits c p) c' out) (Naturally c' out) h
       (natural-takes c bytes k)
       (natural-is (waits c p) (natural-waits c p k (record { number = view-number v n; ends = (k.mine, shown.revision) })))
 
@@ -271,7 +271,7 @@ module _ (now : ℕ) (c' : Core) (out : List Action) where
   natural-answers : (c : Core) (a : Answer) (st : Stage) → IsNaturalAnswer a → IsNaturalCore c → IsNaturalIn st → Answers c a now c' out st → Naturally c' out
   natural-answers c a (Connecting x) n k i h = natural-connects c x (Some a) (λ b e. subst IsNaturalAnswer (some_is e) n) k h
   natural-answers c a (KeepingAlive f) n k i h = of_alive a _ (Naturally c' out) h (λ ttl g.
-      either (int_eq ttl (pos 0)) (Is (checks c f) c' out) (Takes c f now c' out) (Naturally c' out) g (natural-is (checks c f) (record { core = staged c (Checking f) k tt; acts = tt })) (natural-takes c f k))
+      either (int_eq ttl (pos 0)) (Is (checks c f) c' out) (TakesFrame c f now c' out) (Naturally c' out) g (natural-is (checks c f) (record { core = staged c (Checking f) k tt; acts = tt })) (natural-takes c f k))
   natural-answers c (answer.Txn z b parts) (Checking f) n k i h =
       let v = viewed z (attach_wants c.who.session) parts in
       natural-records c (attach_wants c.who.session) parts _ k (natural-still c f v (found_at v (life_key c.who.session)) refl k (viewed-natural z (attach_wants c.who.session) parts n.0 n.1)) h
@@ -301,9 +301,9 @@ module _ (now : ℕ) (c' : Core) (out : List Action) where
       (natural-is (queued c f, []) (record { core = record { stage = k.stage; cursor = k.cursor; mine = k.mine }; acts = tt }))
       (natural-closed c (cause.NoHeader c.taken) k tt)
 
-  natural-opens : (c : Core) (f : List ℕ) (fresh : Fresh) (o : Option ConnectRequest) → IsNaturalCore c → Opens (counted c f) c.taken fresh now c' out o → Naturally c' out
-  natural-opens c f fresh None k h = natural-closed (counted c f) (cause.NoHeader c.taken) (record { stage = k.stage; cursor = k.cursor; mine = k.mine }) tt h
-  natural-opens c f fresh (Some r) k h = natural-connects (counted c f) (begun r fresh) None (λ b e. absurd (none_some e)) (record { stage = k.stage; cursor = k.cursor; mine = k.mine }) h
+  natural-opens : (c : Core) (f : List ℕ) (fresh : Fresh) (o : Option ConnectRequest) → IsNaturalCore c → Opens (with_frame_counted c f) c.taken fresh now c' out o → Naturally c' out
+  natural-opens c f fresh None k h = natural-closed (with_frame_counted c f) (cause.NoHeader c.taken) (record { stage = k.stage; cursor = k.cursor; mine = k.mine }) tt h
+  natural-opens c f fresh (Some r) k h = natural-connects (with_frame_counted c f) (begun r fresh) None (λ b e. absurd (none_some e)) (record { stage = k.stage; cursor = k.cursor; mine = k.mine }) h
 
   natural-comes : (c : Core) (f : List ℕ) (st : Stage) → IsNaturalCore c → Comes c f now c' out st → Naturally c' out
   natural-comes c f (Unconnected fresh) k h = natural-opens c f fresh (read_connect f) k h

@@ -8,7 +8,7 @@ use Rattle.std.specs.Ordering.{int_eq, nat_cmp}
 use Rattle.std.specs.Prelude.{All, int_lt, nat_abs, ◌+ℤ◌, ◌≤ℤ◌}
 use Rattle.ev_types.specs.Denials.{carry, is_denied}
 use Rattle.ev_types.specs.Ranges.{Keys, found, in_range, is_within, shown}
-use Rattle.ev_types.specs.Store.{Change, Puts, Removes, Store, acts_from, after_changes, carried_out, changed, chosen, keys_from, looked_at, one_act, present, put_over, removal, revision, store_at, succeeds, txn_done, worked}
+use Rattle.ev_types.specs.Store.{Change, Puts, Removes, Store, acts_from, after_changes, carried_out, changed, chosen, keys_from, looked_at, one_act, present, put_over, key_removal, revision, store_at, succeeds, txn_done, worked}
 use Rattle.ev_types.specs.declared.answer.ActAns.{ActAns}
 use Rattle.ev_types.specs.declared.answer.Answer.TheVariants as answer
 use Rattle.ev_types.specs.declared.answer.Answer.{Answer}
@@ -125,7 +125,7 @@ looked-natural s m r now = go (int_eq r (pos 0))
 one-part : (a : ActAns) → IsNaturalPart a → AreNaturalParts (a ∷ [])
 one-part a h = All-cons IsNaturalPart a [] h (All-nil IsNaturalPart)
 
-removal-natural : (k : Bytes) (o : Option Kv) → AreNaturalParts (removal k o).parts
+removal-natural : (k : Bytes) (o : Option Kv) → AreNaturalParts (key_removal k o).parts
 removal-natural k None = one-part _ (All-nil IsNaturalKv)
 removal-natural k (Some kv) = one-part _ (All-nil IsNaturalKv)
 

@@ -3,7 +3,7 @@ use Rattle.std.specs.List.{AllByRecursion}
 use Rattle.std.specs.Prelude.{All, List, None, [], length, pos, ℕ, ℤ, ◌++◌, ◌≡◌, ◌≤ℤ◌, ◌≤◌, ◌⊎◌}
 use Rattle.zk_judge.specs.Verdicts.{IsVerdict}
 use Rattle.zk_judge.specs.declared.verdict.Verdict.TheVariants.{Lawful}
-use Rattle.zt_lines.specs.Readable.{FitsLength, FitsLine, FitsNumber, FitsPassword, FitsPlace, IsLastLine}
+use Rattle.zt_lines.specs.Readable.{FitsFrameLength, FitsLine, FitsNumber, FitsPassword, FitsPlace, IsLastLine}
 use Rattle.zt_lines.specs.Transcripts.{transcript}
 use Rattle.zk_model.specs.Limits.{max_long}
 use Rattle.zk_transcript.specs.Legal.{Tick}
@@ -36,41 +36,41 @@ NamesSession _ = Unit {0}
 -- ---- what the types of a line's fields say: no number passes its type's end, and bytes are bytes
 
 -- a signed number of 64 bits
-abbrev pub IsLong : ℤ → Type 0
-IsLong z = z ≤ℤ max_long
+abbrev pub IsInLong : ℤ → Type 0
+IsInLong z = z ≤ℤ max_long
 
 abbrev pub IsTypedKind : UpdateKind → Type 0
 IsTypedKind (kind.Begin now) = FitsPlace now
-IsTypedKind (kind.Session id c) = IsLong id × FitsNumber c
-IsTypedKind (kind.Attach id c) = IsLong id × FitsNumber c
+IsTypedKind (kind.Session id c) = IsInLong id × FitsNumber c
+IsTypedKind (kind.Attach id c) = IsInLong id × FitsNumber c
 IsTypedKind (kind.Asked c i now) = FitsNumber c × FitsPlace i × FitsPlace now
-IsTypedKind (kind.Closed id c i) = IsLong id × FitsNumber c × FitsPlace i
-IsTypedKind (kind.Reaped id) = IsLong id
+IsTypedKind (kind.Closed id c i) = IsInLong id × FitsNumber c × FitsPlace i
+IsTypedKind (kind.Reaped id) = IsInLong id
 
 abbrev pub IsTypedCause : Cause → Type 0
 IsTypedCause (cause.ClientEnd place) = FitsPlace place
-IsTypedCause (cause.BadLength place size) = FitsPlace place × FitsLength size
+IsTypedCause (cause.BadLength place size) = FitsPlace place × FitsFrameLength size
 IsTypedCause (cause.NoHeader place) = FitsPlace place
-IsTypedCause (cause.ZxidAhead client head) = IsLong client × IsLong head
-IsTypedCause (cause.Taken rev) = IsLong rev
-IsTypedCause (cause.Expired rev) = IsLong rev
-IsTypedCause (cause.Moved mine found) = IsLong mine × IsLong found
-IsTypedCause (cause.Lagged cursor floor) = IsLong cursor × IsLong floor
+IsTypedCause (cause.ZxidAhead client head) = IsInLong client × IsInLong head
+IsTypedCause (cause.Taken rev) = IsInLong rev
+IsTypedCause (cause.Expired rev) = IsInLong rev
+IsTypedCause (cause.Moved mine found) = IsInLong mine × IsInLong found
+IsTypedCause (cause.Lagged cursor floor) = IsInLong cursor × IsInLong floor
 IsTypedCause (cause.Damaged key value) = AreBytes key × AreBytes value
 IsTypedCause _ = Unit {0}
 
 abbrev pub IsTypedEnd : Ended → Type 0
 IsTypedEnd (ended.Cause x) = IsTypedCause x
-IsTypedEnd (ended.Reaped z) = IsLong z
-IsTypedEnd (ended.Kept rev) = IsLong rev
-IsTypedEnd (ended.Gone rev) = IsLong rev
+IsTypedEnd (ended.Reaped z) = IsInLong z
+IsTypedEnd (ended.Kept rev) = IsInLong rev
+IsTypedEnd (ended.Gone rev) = IsInLong rev
 
 abbrev pub IsTyped : TranscriptLine → Type 0
-IsTyped (shown.Update u) = IsLong u.zxid × IsTypedKind u.kind
-IsTyped (shown.Open c p id passwd) = FitsNumber c × FitsNumber p × IsLong id × FitsPassword passwd
-IsTyped (shown.Frame c i z bytes) = FitsNumber c × FitsPlace i × IsLong z × AreBytes bytes
+IsTyped (shown.Update u) = IsInLong u.zxid × IsTypedKind u.kind
+IsTyped (shown.Open c p id passwd) = FitsNumber c × FitsNumber p × IsInLong id × FitsPassword passwd
+IsTyped (shown.Frame c i z bytes) = FitsNumber c × FitsPlace i × IsInLong z × AreBytes bytes
 IsTyped (shown.Send c bytes) = FitsNumber c × AreBytes bytes
-IsTyped (shown.Lapse rev id) = IsLong rev × IsLong id
+IsTyped (shown.Lapse rev id) = IsInLong rev × IsInLong id
 IsTyped (shown.Close c end) = FitsNumber c × IsTypedEnd end
 
 abbrev pub AreTyped : List TranscriptLine → Type 0

@@ -1,8 +1,8 @@
 //! What the types say of a transcript's lines.
 
 ghost use Rattle.zt_text.specs.Transcripts.{AreBytes};
-ghost use Rattle.zt_lines.specs.Readable.{FitsLength, FitsNumber, FitsPassword, FitsPlace};
-ghost use Rattle.zp_verdict_laws.specs.Written.{AreTyped, IsLong, IsTyped, IsTypedCause, IsTypedEnd, IsTypedKind};
+ghost use Rattle.zt_lines.specs.Readable.{FitsFrameLength, FitsNumber, FitsPassword, FitsPlace};
+ghost use Rattle.zp_verdict_laws.specs.Written.{AreTyped, IsInLong, IsTyped, IsTypedCause, IsTypedEnd, IsTypedKind};
 
 use zk_transcript::{Cause, Ended, TranscriptLine, UpdateKind};
 
@@ -163,13 +163,13 @@ fn is_place(place: u64)
 /// Proof only: a zxid, a revision or a session's number has 64 bits, one of them for the sign.
 #[tactic(auto, using(std::proofs::lemmas::Int::ints))]
 fn is_long(number: i64)
-    ensures { IsLong number }
+    ensures { IsInLong number }
 {}
 
 /// Proof only: a length has 32 bits, one of them for the sign.
 #[tactic(auto, using(std::proofs::lemmas::Int::ints))]
 fn is_length(length: i32)
-    ensures { FitsLength length }
+    ensures { FitsFrameLength length }
 {}
 
 /// Proof only: every byte is below 256.

@@ -24,7 +24,7 @@ use Rattle.zt_text.specs.declared.script.Happening.TheVariants as line
 use Rattle.zt_text.specs.declared.script.Why.{Why}
 use Rattle.zt_text.specs.declared.script.Why.TheVariants as why
 use Rattle.zp_script.specs.Faults.{fault, if_fails, is_to_carry_out, left_at}
-use Rattle.zp_script.specs.Worlds.{Actor, Conn, Conns, Connection, Reaper, Closed, World, conn_at, is_closed, with_conn, zxid_at}
+use Rattle.zp_script.specs.Worlds.{Actor, Conn, Conns, Connection, Reaper, Closed, World, conn_at, is_closed_actor, with_conn, zxid_at}
 use Rattle.zp_script.specs.declared.flight.Asking.{Asking}
 use Rattle.zp_script.specs.declared.flight.Flight.{Flight}
 use Rattle.zp_script.specs.declared.flight.Flight.TheVariants.{Out, Carried, Denied}
@@ -152,7 +152,7 @@ module _ (w : World) (conns : Conns) (strays : List (Option Asking)) (mid : Worl
 abbrev exec_test : Option Conn → Option Why
 exec_test None = Some why.NoSuchConnection
 exec_test (Some x) =
-    if_fails (is_closed x.actor) why.ConnectionClosed (if_fails (is_none x.flight) why.NoRequestOut (if_fails (not (is_to_carry_out x.flight)) why.AlreadyCarriedOut None))
+    if_fails (is_closed_actor x.actor) why.ConnectionClosed (if_fails (is_none x.flight) why.NoRequestOut (if_fails (not (is_to_carry_out x.flight)) why.AlreadyCarriedOut None))
 
 exec-tests : (w : World) (c : ℕ) → fault w (line.Exec c) ≡ exec_test (conn_at c w)
 unfolding fault
@@ -160,11 +160,11 @@ exec-tests w c = go (conn_at c w) (conn_at c w) refl
   where
     go : (o p : Option Conn) → p ≡ o → (elim o [
       | None ↦ Some why.NoSuchConnection
-      | Some x ↦ if_fails (is_closed x.actor) why.ConnectionClosed (if_fails (is_none (option_and_then (λ (y : Conn). y.flight) p)) why.NoRequestOut
+      | Some x ↦ if_fails (is_closed_actor x.actor) why.ConnectionClosed (if_fails (is_none (option_and_then (λ (y : Conn). y.flight) p)) why.NoRequestOut
           (if_fails (not (is_to_carry_out (option_and_then (λ (y : Conn). y.flight) p))) why.AlreadyCarriedOut None))
     ]) ≡ exec_test o
     go None p e = refl
-    go (Some x) p e = ap (λ (r : Option Conn). if_fails (is_closed x.actor) why.ConnectionClosed (if_fails (is_none (option_and_then (λ (y : Conn). y.flight) r)) why.NoRequestOut
+    go (Some x) p e = ap (λ (r : Option Conn). if_fails (is_closed_actor x.actor) why.ConnectionClosed (if_fails (is_none (option_and_then (λ (y : Conn). y.flight) r)) why.NoRequestOut
         (if_fails (not (is_to_carry_out (option_and_then (λ (y : Conn). y.flight) r))) why.AlreadyCarriedOut None))) e
 
 pub exec-there : (w : World) (c : ℕ) → fault w (line.Exec c) ≡ None → conn_at c w ≡ None → ⊥
@@ -179,7 +179,7 @@ exec-flight false (Some (Carried a)) h = absurd (some_none h)
 exec-flight false (Some Denied) h = absurd (some_none h)
 
 pub exec-out : (w : World) (c : ℕ) (x : Conn) → fault w (line.Exec c) ≡ None → conn_at c w ≡ Some x → is_to_carry_out x.flight ≡ true
-exec-out w c x possible there = exec-flight (is_closed x.actor) x.flight (sym (exec-tests w c ∙ ap exec_test there) ∙ possible)
+exec-out w c x possible there = exec-flight (is_closed_actor x.actor) x.flight (sym (exec-tests w c ∙ ap exec_test there) ∙ possible)
 
 pub none-out : (f : Option Flight) → asked_out f ≡ None → is_to_carry_out f ≡ true → ⊥
 none-out None none out = absurd cc

@@ -4,7 +4,7 @@ use Rattle.std.specs.Prelude.{Option, Some, ℤ, not}
 use Rattle.zx_base.proofs.Options.{some_is}
 use Rattle.zp_script.specs.Arriving.{EndsBadly}
 use Rattle.zp_script.specs.Handing.{Handed}
-use Rattle.zp_script.specs.Worlds.{Actor, Closed, Conn, Conns, Connection, Reaper, World, conn_at, is_closed, is_open_conn, is_reaper, with_conn}
+use Rattle.zp_script.specs.Worlds.{Actor, Closed, Conn, Conns, Connection, Reaper, World, conn_at, is_closed_actor, is_open_conn, is_reaper, with_conn}
 use Rattle.zp_step.specs.Stages.{Core}
 use Rattle.zp_step.specs.declared.input.Input.TheVariants as input
 use Rattle.std.specs.FinMap.{insert, remove}
@@ -21,7 +21,7 @@ pub ends-open : (c : ℕ) (w w' : World) (place : ℕ) (n : ℤ) → is_open_con
     → ((x : Conn) (core : Core) → conn_at c w ≡ Some x → x.actor ≡ Connection core → Handed c [] w (input.BadLength place n) w') → EndsBadly c w place (Some n) w'
 ends-open c w w' place n opened at handed = rw opened (go at.conn.actor refl at.served (sym (ap is_open_conn at.found) ∙ opened))
   where
-    go : (a : Actor) → at.conn.actor ≡ a → is_reaper a ≡ false → not (is_closed a) ≡ true → Handed c [] w (input.BadLength place n) w'
+    go : (a : Actor) → at.conn.actor ≡ a → is_reaper a ≡ false → not (is_closed_actor a) ≡ true → Handed c [] w (input.BadLength place n) w'
     go (Connection core) e served live = handed at.conn core at.found e
     go (Reaper reap) e served live = absurd (cc)
     go Closed e served live = absurd (cc)

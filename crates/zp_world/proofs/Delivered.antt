@@ -22,7 +22,7 @@ use Rattle.zp_script.specs.Worlds.{Actor, Closed, Conn, Conns, Connection, Reape
 use Rattle.zp_step.specs.Stages.{Core}
 use Rattle.zp_step.specs.declared.input.Input.{Input}
 use Rattle.zp_step.specs.declared.input.Input.TheVariants as input
-use Rattle.zs_reap.specs.Steps.{IsAsked, IsReapFault, IsWaiting, Steps}
+use Rattle.zs_reap.specs.Steps.{IsAsked, IsReapFault, IsReaperWaiting, ReaperSteps}
 use Rattle.zs_reap.specs.declared.reap.Phase.{Phase}
 use Rattle.zs_reap.specs.declared.reap.Phase.TheVariants.{Unasked, Looking, Counting, Removing, Over}
 use Rattle.zs_reap.specs.declared.reap.Reap.{Reap}
@@ -85,7 +85,7 @@ after-over reap e = rw e refl
 
 -- it asks, and goes on
 reap-asks : (c : ℕ) (w w' : World) (x : Conn) (seat : Seat) (reap next : Reap) (a : Option Answer) (q : Ask) (kind : Option UpdateKind) → IsAt x seat
-    → Steps reap a (reaped.Ask q) next → IsWaiting (reaped.Ask q) next.phase → kind ≡ kind_of_reap next.session next.phase
+    → ReaperSteps reap a (reaped.Ask q) next → IsReaperWaiting (reaped.Ask q) next.phase → kind ≡ kind_of_reap next.session next.phase
     → w' ≡ with_conn w c (seated seat (Reaper next) (Some (Out (record { ask = q; kind = kind })))) → Reaps c w a w' x reap
 reap-asks c w w' x seat reap next a q kind at steps waits kind-is is =
     let f : Option Flight = Some (Out (record { ask = q; kind = kind })) in
@@ -104,7 +104,7 @@ ended-is c w x seat a e at closed =
     let conn : ◌≡◌ {A = Conn} (record x { actor = a; flight = None }) (left seat) = first ∙ same-seat x seat Closed None at in
     λ i. record (with_conn w c (conn i)) { lines = w.lines ++ Close c e ∷ []; strays = w.strays ++ left_by (at.flight i) }
 
-reap-is-over : (c : ℕ) (w w' : World) (x : Conn) (seat : Seat) (reap next : Reap) (a : Option Answer) (step : ReapStep) (e : Ended) → IsAt x seat → Steps reap a step next → next.phase ≡ Over
+reap-is-over : (c : ℕ) (w w' : World) (x : Conn) (seat : Seat) (reap next : Reap) (a : Option Answer) (step : ReapStep) (e : Ended) → IsAt x seat → ReaperSteps reap a step next → next.phase ≡ Over
     → ((f : Option Flight) → reap_acts c (kind_asked c (Reaper next)) f step ≡ ends c [] e (quiet f)) → w' ≡ ended c w seat e None → Reaps c w a w' x reap
 reap-is-over c w w' x seat reap next a step e at steps over acts is = inr (record {
   step = step;
@@ -127,7 +127,7 @@ abbrev pub ReapsFrom : ℕ → World → Seat → Option Answer → World → Re
 ReapsFrom c w seat a w' reap = (x : Conn) → x.proxy ≡ seat.proxy → x.stream ≡ seat.inbox → x.frames ≡ seat.frames → x.flight ≡ None → Reaps c w a w' x reap
 
 module _ {E : Type 0} (c : ℕ) (w : World) (seat : Seat) (reap next : Reap) (a : Option Answer) (r : Result (Unit {0}) E) where
-  pub reap-asked : (v : World) (m : Conns) (q : Ask) (kind : Option UpdateKind) → v ≡ w → Steps reap a (reaped.Ask q) next → IsWaiting (reaped.Ask q) next.phase → kind ≡ kind_of_reap next.session next.phase
+  pub reap-asked : (v : World) (m : Conns) (q : Ask) (kind : Option UpdateKind) → v ≡ w → ReaperSteps reap a (reaped.Ask q) next → IsReaperWaiting (reaped.Ask q) next.phase → kind ≡ kind_of_reap next.session next.phase
       → OnOk r (m ≡ insert v.conns c (seated seat (Reaper next) (Some (Out (record { ask = q; kind = kind }))))) → OnOk r (ReapsFrom c w seat a (record v { conns = m }) reap)
   reap-asked v m q kind same steps waits kind-is h =
       let conn : Conn = seated seat (Reaper next) (Some (Out (record { ask = q; kind = kind }))) in
@@ -135,7 +135,7 @@ module _ {E : Type 0} (c : ℕ) (w : World) (seat : Seat) (reap next : Reap) (a 
       reap-asks c w (record v { conns = m }) x seat reap next a q kind (record { proxy = p; stream = s; frames = f; flight = n }) steps waits kind-is
       (ap (λ (l : Conns). record v { conns = l }) is ∙ ap (λ (u : World). with_conn u c conn) same)) h
 
-  pub reap-ended : (w' : World) (step : ReapStep) (e : Ended) → Steps reap a step next → next.phase ≡ Over → ((f : Option Flight) → reap_acts c (kind_asked c (Reaper next)) f step ≡ ends c [] e (quiet f))
+  pub reap-ended : (w' : World) (step : ReapStep) (e : Ended) → ReaperSteps reap a step next → next.phase ≡ Over → ((f : Option Flight) → reap_acts c (kind_asked c (Reaper next)) f step ≡ ends c [] e (quiet f))
       → OnOk r (w' ≡ ended c w seat e None) → OnOk r (ReapsFrom c w seat a w' reap)
   reap-ended w' step e steps over acts h = on_ok_weaker r (λ (is : w' ≡ ended c w seat e None) (x : Conn) (p : x.proxy ≡ seat.proxy) (s : x.stream ≡ seat.inbox) (f : x.frames ≡ seat.frames) (n : x.flight ≡ None).
       reap-is-over c w w' x seat reap next a step e (record { proxy = p; stream = s; frames = f; flight = n }) steps over acts is) h

@@ -4,7 +4,7 @@ use Rattle.std.specs.Prelude.{Some, OnOk, Result, pos}
 use Rattle.std.proofs.lemmas.Result.{on_ok_weaker}
 use Rattle.zn_layout.specs.declared.entry.Entry.{Entry}
 use Rattle.zp_script.specs.Effects.{EndsBy, EntersBy, IsEntry, LagsBy}
-use Rattle.zp_script.specs.Entries.{cursor_at, entry_after, max_kept, next_entry}
+use Rattle.zp_script.specs.Entries.{cursor_at, entry_after, max_kept_entries, next_entry}
 use Rattle.zp_script.specs.Handing.{Handed}
 use Rattle.zp_script.specs.Worlds.{Conn, Connection, World, conn_at}
 use Rattle.zp_step.specs.Stages.{Core, counted_up}
@@ -25,7 +25,7 @@ module _ {E : Type 0} (c : ℕ) (w w' : World) (r : Result (Unit {0}) E) where
   entered x e cursor serving at after is h = on_ok_weaker r (λ (all : HandsTo c w x w').
       subst (EntersBy c w w') (sym (next-is c w (Some cursor) at ∙ after)) (x, is, to-serving c w w' x serving all)) h
 
-  pub lagged : (cursor floor : ℤ) → IsServing c w → cursor_at c w ≡ Some cursor → floor ≡ pos (length w.entries - max_kept)
+  pub lagged : (cursor floor : ℤ) → IsServing c w → cursor_at c w ≡ Some cursor → floor ≡ pos (length w.entries - max_kept_entries)
       → OnOk r (HandsTo c w (input.Lagged cursor floor) w') → OnOk r (LagsBy c w w' (cursor_at c w))
   lagged cursor floor serving at is h = on_ok_weaker r (λ (all : HandsTo c w (input.Lagged cursor floor) w').
       subst (LagsBy c w w') (sym at) (subst (λ (z : ℤ). Handed c [] w (input.Lagged cursor z) w') is (to-serving c w w' (input.Lagged cursor floor) serving all))) h

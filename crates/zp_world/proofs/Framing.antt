@@ -13,26 +13,26 @@ use Rattle.zk_jute.specs.Frames.{Framed, IsFrame, bad_length}
 use Rattle.zk_jute.specs.JuteValues.{Spelled}
 use Rattle.zk_jute.specs.JuteWriting.{int_bytes, with_length}
 use Rattle.zk_model.specs.Limits.{max_frame}
-use Rattle.zk_wire.specs.Cutting.{Hands, Refuses, Stands, Stream, unread}
-use Rattle.zp_script.specs.Arriving.{Cuts}
+use Rattle.zk_wire.specs.Cutting.{Hands, CutRefuses, CutStands, Stream, unread}
+use Rattle.zp_script.specs.Arriving.{CutsFrames}
 use Rattle.zp_step.specs.Stages.{counted_up, max_count}
 use Rattle.zp_world.proofs.Shortness.{spelled-short}
 use Rattle.zp_world.specs.Framing.{framed_size}
 
 -- ---- a stream that comes at once
 
-pub stands-cut : (stream : List ℕ) (frames : List (List ℕ)) (old new : Stream) → old ≡ unread → Hands old stream frames new → Stands stream frames new
+pub stands-cut : (stream : List ℕ) (frames : List (List ℕ)) (old new : Stream) → old ≡ unread → Hands old stream frames new → CutStands stream frames new
 stands-cut stream frames old new e h =
     let whole : old.rest ++ stream ≡ stream = ap (λ (s : Stream). s.rest ++ stream) e in
     record { rest = new.rest; framed = subst (λ (bytes : List ℕ). Framed bytes frames new.rest) whole h.framed; held = inl refl }
 
-pub stands-bad : (stream : List ℕ) (frames : List (List ℕ)) (place : ℕ) (n : ℤ) (old new : Stream) → old ≡ unread → frames ≡ [] → Refuses old stream place n new → Stands stream frames new
+pub stands-bad : (stream : List ℕ) (frames : List (List ℕ)) (place : ℕ) (n : ℤ) (old new : Stream) → old ≡ unread → frames ≡ [] → CutRefuses old stream place n new → CutStands stream frames new
 stands-bad stream frames place n old new e none h =
     let whole : old.rest ++ stream ≡ stream = ap (λ (s : Stream). s.rest ++ stream) e in
     let bad : bad_length stream ≡ Some n = ap bad_length (sym whole) ∙ h.bad in
     record { rest = stream; framed = ([], rw none refl, refl, bad_rest stream n bad); held = inr (n, bad, h.stays) }
 
-pub stands-short : (stream : List ℕ) (frames : List (List ℕ)) (state : Stream) → Stands stream frames state → All (λ (f : List ℕ). length f ≤ max_frame) frames
+pub stands-short : (stream : List ℕ) (frames : List (List ℕ)) (state : Stream) → CutStands stream frames state → All (λ (f : List ℕ). length f ≤ max_frame) frames
 stands-short stream frames state s = spelled-short frames s.framed.0 s.framed.1
 
 -- ---- the bytes of the frames
@@ -56,8 +56,8 @@ size-more size four next i total frames x within is four_is next_is so_far =
 
 -- ---- what a client's stream is cut into
 
-pub cuts-of : (old state new : Stream) (bytes stream : List ℕ) (frames : List (List ℕ)) (bad : Option ℤ) (size used : ℕ) → stream ≡ old.rest ++ bytes → Stands stream frames state → bad ≡ bad_length state.rest
-    → size ≡ min (sum_by framed_size frames) max_count → length stream ≤ max_count → used ≡ min size (length stream) → new.rest ≡ drop used stream → new.place ≡ min (old.place + used) max_count → Cuts old bytes frames bad new
+pub cuts-of : (old state new : Stream) (bytes stream : List ℕ) (frames : List (List ℕ)) (bad : Option ℤ) (size used : ℕ) → stream ≡ old.rest ++ bytes → CutStands stream frames state → bad ≡ bad_length state.rest
+    → size ≡ min (sum_by framed_size frames) max_count → length stream ≤ max_count → used ≡ min size (length stream) → new.rest ≡ drop used stream → new.place ≡ min (old.place + used) max_count → CutsFrames old bytes frames bad new
 cuts-of old state new bytes stream frames bad size used whole s bad_is size_is fits used_is rest_is place_is =
     let front : List ℕ = s.framed.0 in
     let total : length stream ≡ length front + length s.rest = ap length s.framed.2 ∙ length-append front s.rest in
@@ -77,7 +77,7 @@ cuts-of old state new bytes stream frames bad size used whole s bad_is size_is f
     }
 
 -- a whole frame, where no part of one is there
-pub cuts-frame : (old new : Stream) (bytes : List ℕ) → length bytes ≤ max_frame → length old.rest ≡ 0 → new.rest ≡ [] → new.place ≡ min (old.place + (4 + length bytes)) max_count → Cuts old (with_length bytes) (bytes ∷ []) None new
+pub cuts-frame : (old new : Stream) (bytes : List ℕ) → length bytes ≤ max_frame → length old.rest ≡ 0 → new.rest ≡ [] → new.place ≡ min (old.place + (4 + length bytes)) max_count → CutsFrames old (with_length bytes) (bytes ∷ []) None new
 cuts-frame old new bytes short none rest_is place_is =
     let nothing : old.rest ≡ [] = nil_from_length old.rest none in
     let whole : old.rest ++ with_length bytes ≡ with_length bytes = ap (λ (z : List ℕ). z ++ with_length bytes) nothing in

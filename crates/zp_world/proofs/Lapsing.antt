@@ -7,7 +7,7 @@ use Rattle.std.proofs.lemmas.Bool.{and_parts}
 use Rattle.ev_store.specs.FirstDenial.{foreign_denial, lapse_denial}
 use Rattle.ev_store.specs.declared.fault.Denied.{Denied}
 use Rattle.ev_store.specs.declared.fault.Denied.TheVariants as denied
-use Rattle.ev_types.specs.Denials.{has_lease, is_full}
+use Rattle.ev_types.specs.Denials.{has_lease, is_full_store}
 use Rattle.ev_types.specs.Lapses.{foreign, lapse, leased_keys, removals}
 use Rattle.ev_types.specs.Store.{Puts, Store, grown, revision}
 use Rattle.ev_types.proofs.Lapsed.{lapse-there}
@@ -22,7 +22,7 @@ LapseFault s id = if_fails (not (has_lease s id)) why.NoSuchLease (full_fault s 
 
 pub lapse-possible : (s t : Store) (id : ℤ) → lapse s id ≡ Some t → LapseFault s id ≡ None
 unfolding lapse
-lapse-possible s t id h = go (has_lease s id) (is_full s (removals (leased_keys s id))) (grown (record s { leases = remove s.leases id }) (removals (leased_keys s id))) h
+lapse-possible s t id h = go (has_lease s id) (is_full_store s (removals (leased_keys s id))) (grown (record s { leases = remove s.leases id }) (removals (leased_keys s id))) h
   where
     go : (b f : Bool) (x : Store) → (if not b || f then None else Some x) ≡ Some t → if_fails (not b) why.NoSuchLease (if_fails f why.StoreFull None) ≡ None
     go true true x h = absurd (none_some h)
@@ -31,7 +31,7 @@ lapse-possible s t id h = go (has_lease s id) (is_full s (removals (leased_keys 
 
 pub lapse-full : (s : Store) (id r : ℤ) → lapse_denial s id ≡ Some (denied.Full r) → LapseFault s id ≡ Some why.StoreFull
 unfolding lapse_denial
-lapse-full s id r h = go (has_lease s id) (is_full s (removals (leased_keys s id))) h
+lapse-full s id r h = go (has_lease s id) (is_full_store s (removals (leased_keys s id))) h
   where
     go : (b f : Bool) → (if b then (if f then Some (denied.Full (revision s)) else None) else Some (denied.NoLease id)) ≡ Some (denied.Full r) → if_fails (not b) why.NoSuchLease (if_fails f why.StoreFull None) ≡ Some why.StoreFull
     go true true h = refl
@@ -40,7 +40,7 @@ lapse-full s id r h = go (has_lease s id) (is_full s (removals (leased_keys s id
 
 pub lapse-missing : (s : Store) (id : ℤ) (d : Denied) → lapse_denial s id ≡ Some d → ((r : ℤ) → d ≡ denied.Full r → ⊥) → LapseFault s id ≡ Some why.NoSuchLease
 unfolding lapse_denial
-lapse-missing s id d h other = go (has_lease s id) (is_full s (removals (leased_keys s id))) h
+lapse-missing s id d h other = go (has_lease s id) (is_full_store s (removals (leased_keys s id))) h
   where
     go : (b f : Bool) → (if b then (if f then Some (denied.Full (revision s)) else None) else Some (denied.NoLease id)) ≡ Some d → if_fails (not b) why.NoSuchLease (if_fails f why.StoreFull None) ≡ Some why.NoSuchLease
     go true true h = absurd (other (revision s) (sym (some_is h)))
@@ -58,14 +58,14 @@ ForeignFault s k v = if_fails (is_kept_key k) why.KeyKept (full_fault s (Puts k 
 
 pub foreign-possible : (s t : Store) (k v : Bytes) → is_kept_key k ≡ false → foreign s k v ≡ Some t → ForeignFault s k v ≡ None
 unfolding foreign
-foreign-possible s t k v kept h = ap (λ b. if_fails b why.KeyKept (full_fault s (Puts k v (pos 0) ∷ []))) kept ∙ go (is_full s (Puts k v (pos 0) ∷ [])) h
+foreign-possible s t k v kept h = ap (λ b. if_fails b why.KeyKept (full_fault s (Puts k v (pos 0) ∷ []))) kept ∙ go (is_full_store s (Puts k v (pos 0) ∷ [])) h
   where
     go : (f : Bool) → (if f then None else Some (grown s (Puts k v (pos 0) ∷ []))) ≡ Some t → if_fails f why.StoreFull None ≡ None
     go true h = absurd (none_some h)
     go false h = refl
 
 pub foreign-full : (s : Store) (k v : Bytes) (d : Denied) → is_kept_key k ≡ false → foreign_denial s k v ≡ Some d → ForeignFault s k v ≡ Some why.StoreFull
-foreign-full s k v d kept h = ap (λ b. if_fails b why.KeyKept (full_fault s (Puts k v (pos 0) ∷ []))) kept ∙ go (is_full s (Puts k v (pos 0) ∷ [])) h
+foreign-full s k v d kept h = ap (λ b. if_fails b why.KeyKept (full_fault s (Puts k v (pos 0) ∷ []))) kept ∙ go (is_full_store s (Puts k v (pos 0) ∷ [])) h
   where
     go : (f : Bool) → (if f then Some (denied.Full (revision s)) else None) ≡ Some d → if_fails f why.StoreFull None ≡ Some why.StoreFull
     go true h = refl

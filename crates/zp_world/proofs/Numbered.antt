@@ -4,7 +4,7 @@ use Rattle.std.specs.Prelude.{Some, MatchBool, pos, ℤ, ◌≤ℤ◌}
 use Rattle.zk_model.specs.declared.request.Request.{Request}
 use Rattle.zk_model.specs.declared.request.Request.TheVariants as req
 use Rattle.zk_transcript.specs.declared.transcript.UpdateKind.{UpdateKind}
-use Rattle.zs_session.specs.Connecting.{IsInPhase}
+use Rattle.zs_session.specs.Connecting.{IsConnectPhase}
 use Rattle.zs_session.specs.declared.connect.Connect.{Connect}
 use Rattle.zs_session.specs.declared.connect.Phase.{Phase}
 use Rattle.zs_session.specs.declared.connect.Phase.TheVariants.{Unasked, Looking, Granting, Creating, Keeping, LookingAgain, Attaching, Over}
@@ -14,7 +14,7 @@ use Rattle.zp_step.specs.Stages.{Core, Stage, Unconnected, Connecting, Ready, Ke
 use Rattle.zx_base.proofs.Options.{none_some, some_is}
 use Rattle.zp_world.specs.Flying.{HasSession}
 
-numbered-connect : (c : ℕ) (x : Connect) (p : Phase) (k : UpdateKind) → pos 1 ≤ℤ x.fresh.id → IsInPhase x.request p → kind_of_connect c x p ≡ Some k → HasSession k
+numbered-connect : (c : ℕ) (x : Connect) (p : Phase) (k : UpdateKind) → pos 1 ≤ℤ x.fresh.id → IsConnectPhase x.request p → kind_of_connect c x p ≡ Some k → HasSession k
 numbered-connect c x Unasked k fresh held h = absurd (none_some h)
 numbered-connect c x Looking k fresh held h = absurd (none_some h)
 numbered-connect c x Granting k fresh held h = absurd (none_some h)

@@ -11,7 +11,7 @@ use Rattle.zp_script.specs.declared.flight.Flight.{Flight}
 use Rattle.zp_script.specs.declared.flight.Flight.TheVariants.{Out}
 use Rattle.zp_script.specs.Entries.{cursor_at, entry_after, is_lagging, next_entry}
 use Rattle.zp_script.specs.Faults.{ask_fault, carry_fault, connection_fault, entry_fault, fault, flight_at, if_fails, is_reaper_at, is_to_carry_out, new_fault, open_fault}
-use Rattle.zp_script.specs.Worlds.{Actor, Closed, Conn, Connection, Reaper, World, conn_at, is_closed, is_reaper}
+use Rattle.zp_script.specs.Worlds.{Actor, Closed, Conn, Connection, Reaper, World, conn_at, is_closed_actor, is_reaper}
 use Rattle.zp_step.specs.Stages.{Core}
 use Rattle.zs_reap.specs.declared.reap.ReapStep.TheVariants as reaped
 use Rattle.zs_session.specs.Answering.{IsAwaited}
@@ -40,14 +40,14 @@ new-free c w h = unused (conn_at c w) h
 pub record IsOpenAt (c : ℕ) (w : World) : Type 0 where
   pub conn : Conn
   pub found : conn_at c w ≡ Some conn
-  pub live : is_closed conn.actor ≡ false
+  pub live : is_closed_actor conn.actor ≡ false
 
 abbrev open_test : Option Why → Option Conn → Option Why
-open_test later o = elim o [ None ↦ Some why.NoSuchConnection | Some x ↦ if_fails (is_closed x.actor) why.ConnectionClosed later ]
+open_test later o = elim o [ None ↦ Some why.NoSuchConnection | Some x ↦ if_fails (is_closed_actor x.actor) why.ConnectionClosed later ]
 
 opened-at : (c : ℕ) (w : World) (later : Option Why) (o : Option Conn) → conn_at c w ≡ o → open_test later o ≡ None → IsOpenAt c w × (later ≡ None)
 opened-at c w later None found h = absurd (some_none h)
-opened-at c w later (Some x) found h = let p = passes (is_closed x.actor) why.ConnectionClosed later h in (record { conn = x; found = found; live = p.0 }, p.1)
+opened-at c w later (Some x) found h = let p = passes (is_closed_actor x.actor) why.ConnectionClosed later h in (record { conn = x; found = found; live = p.0 }, p.1)
 
 pub open-passes : (c : ℕ) (w : World) (later : Option Why) → open_fault c w later ≡ None → IsOpenAt c w × (later ≡ None)
 open-passes c w later h = opened-at c w later (conn_at c w) refl h
@@ -60,7 +60,7 @@ pub record IsServing (c : ℕ) (w : World) : Type 0 where
   pub found : conn_at c w ≡ Some conn
   pub serving : conn.actor ≡ Connection core
 
-serves : (a : Actor) → is_closed a ≡ false → is_reaper a ≡ false → (core : Core) × (a ≡ Connection core)
+serves : (a : Actor) → is_closed_actor a ≡ false → is_reaper a ≡ false → (core : Core) × (a ≡ Connection core)
 serves (Connection core) h k = (core, refl)
 serves (Reaper reap) h k = absurd (let e : true ≡ false = k in cc)
 serves Closed h k = absurd (let e : true ≡ false = h in cc)
@@ -88,7 +88,7 @@ pub record IsOutAt (c : ℕ) (w : World) : Type 0 where
   pub conn : Conn
   pub flight : Flight
   pub found : conn_at c w ≡ Some conn
-  pub live : is_closed conn.actor ≡ false
+  pub live : is_closed_actor conn.actor ≡ false
   pub out : conn.flight ≡ Some flight
 
 there-is : {A : Type 0} (o : Option A) → is_none o ≡ false → (x : A) × (o ≡ Some x)
@@ -106,13 +106,13 @@ ask-out c w later h =
     (record { conn = o.0.conn; flight = f.0; found = o.0.found; live = o.0.live; out = f.1 }, p.1)
 
 -- the ask of the one that is there
-pub out-of : (c : ℕ) (w : World) (x : Conn) → IsOutAt c w → conn_at c w ≡ Some x → (is_closed x.actor ≡ false) × (f : Flight) × (x.flight ≡ Some f)
+pub out-of : (c : ℕ) (w : World) (x : Conn) → IsOutAt c w → conn_at c w ≡ Some x → (is_closed_actor x.actor ≡ false) × (f : Flight) × (x.flight ≡ Some f)
 out-of c w x o there =
     let e : o.conn ≡ x = some_is (sym o.found ∙ there) in
-    (subst (λ (y : Conn). is_closed y.actor ≡ false) e o.live, o.flight, subst (λ (y : Conn). y.flight ≡ Some o.flight) e o.out)
+    (subst (λ (y : Conn). is_closed_actor y.actor ≡ false) e o.live, o.flight, subst (λ (y : Conn). y.flight ≡ Some o.flight) e o.out)
 
 -- the test that something of the number is open passes
-pub open-allowed : (c : ℕ) (w : World) (x : Conn) (later : Option Why) → conn_at c w ≡ Some x → is_closed x.actor ≡ false → open_fault c w later ≡ later
+pub open-allowed : (c : ℕ) (w : World) (x : Conn) (later : Option Why) → conn_at c w ≡ Some x → is_closed_actor x.actor ≡ false → open_fault c w later ≡ later
 open-allowed c w x later there live =
     ap (open_test later) there ∙ ap (λ b. if_fails b why.ConnectionClosed later) live
 

@@ -11,7 +11,7 @@ use Rattle.zt_text.specs.declared.script.Why.{Why}
 use Rattle.zt_text.specs.declared.script.Why.TheVariants as why
 use Rattle.zp_script.specs.Entries.{is_lagging}
 use Rattle.zp_script.specs.Faults.{fault, if_fails, new_fault, open_fault, connection_fault, ask_fault, carry_fault, entry_fault, flight_at, full_fault, has_part, is_kept_key, is_reaper_at, is_to_carry_out, left_at}
-use Rattle.zp_script.specs.Worlds.{World, Conn, conn_at, is_closed}
+use Rattle.zp_script.specs.Worlds.{World, Conn, conn_at, is_closed_actor}
 use Rattle.zp_world.specs.declared.fault.ApplyFault.{ApplyFault}
 use Rattle.zp_world.specs.declared.fault.ApplyFault.TheVariants.{NotPossible}
 use Rattle.zp_world.specs.Applying.{Applies}
@@ -112,10 +112,10 @@ pub connection-first : (w : World) (c : ℕ) (later : Option Why) → connection
 unfolding or_else
 connection-first w c later = go (conn_at c w) (is_reaper_at c w)
   where
-    go : (o : Option Conn) (b : Bool) → (elim o [ None ↦ Some why.NoSuchConnection | Some x ↦ if_fails (is_closed x.actor) why.ConnectionClosed (if_fails b why.NotAConnection later) ])
-        ≡ or_else (elim o [ None ↦ Some why.NoSuchConnection | Some x ↦ if_fails (is_closed x.actor) why.ConnectionClosed (if_fails b why.NotAConnection None) ]) later
+    go : (o : Option Conn) (b : Bool) → (elim o [ None ↦ Some why.NoSuchConnection | Some x ↦ if_fails (is_closed_actor x.actor) why.ConnectionClosed (if_fails b why.NotAConnection later) ])
+        ≡ or_else (elim o [ None ↦ Some why.NoSuchConnection | Some x ↦ if_fails (is_closed_actor x.actor) why.ConnectionClosed (if_fails b why.NotAConnection None) ]) later
     go None b = refl
-    go (Some x) b = two-tests (is_closed x.actor) b why.ConnectionClosed why.NotAConnection later
+    go (Some x) b = two-tests (is_closed_actor x.actor) b why.ConnectionClosed why.NotAConnection later
 
 pub connection-fails : (w : World) (c : ℕ) (later : Option Why) (x : Why) → connection_fault c w None ≡ Some x → connection_fault c w later ≡ Some x
 unfolding or_else

@@ -9,12 +9,12 @@ use Rattle.zk_model.specs.Limits.{max_frame}
 use Rattle.zk_wire.specs.Cutting.{Stream}
 use Rattle.zt_text.specs.declared.script.Why.{Why}
 use Rattle.zt_text.specs.declared.script.Why.TheVariants as why
-use Rattle.zp_script.specs.Arriving.{Arrives, Cuts, EndsBadly, FramesArrive, frame_lines, shown_frame}
+use Rattle.zp_script.specs.Arriving.{Arrives, CutsFrames, EndsBadly, FramesArrive, frame_lines, shown_frame}
 use Rattle.zp_script.specs.Faults.{connection_fault, if_fails}
 use Rattle.zp_script.specs.Handing.{Handed}
 use Rattle.zp_script.specs.StepOutcomes.{StepOutcome, acts_all, leaves}
 use Rattle.zp_script.specs.Kinds.{kind_asked}
-use Rattle.zp_script.specs.Worlds.{Actor, Closed, Conn, Conns, Connection, Reaper, World, after_step, conn_at, is_closed, is_open_conn, is_reaper, with_conn, zxid_at}
+use Rattle.zp_script.specs.Worlds.{Actor, Closed, Conn, Conns, Connection, Reaper, World, after_step, conn_at, is_closed_actor, is_open_conn, is_reaper, with_conn, zxid_at}
 use Rattle.zp_script.specs.declared.flight.Flight.{Flight}
 use Rattle.zp_script.specs.declared.flight.Flight.TheVariants.{Out, Carried, Denied}
 use Rattle.zp_step.specs.declared.action.Action.{Action}
@@ -116,7 +116,7 @@ arrives-next c w mid w' x frame after left there t arrives = (x, mid, there, t.h
 pub serving-open : (c : ℕ) (zxid : ℤ) (frame : List ℕ) (more : List (List ℕ)) (w : World) → IsServing c zxid (frame ∷ more) w → (x : Conn) × (core : Core) × (conn_at c w ≡ Some x) × (x.actor ≡ Connection core)
 serving-open c zxid frame more w s = go s.conn.actor refl s.served s.none
   where
-    go : (a : Actor) → s.conn.actor ≡ a → is_reaper a ≡ false → (is_closed a ≡ true → frame ∷ more ≡ []) → (x : Conn) × (core : Core) × (conn_at c w ≡ Some x) × (x.actor ≡ Connection core)
+    go : (a : Actor) → s.conn.actor ≡ a → is_reaper a ≡ false → (is_closed_actor a ≡ true → frame ∷ more ≡ []) → (x : Conn) × (core : Core) × (conn_at c w ≡ Some x) × (x.actor ≡ Connection core)
     go (Connection core) e served none = (s.conn, core, s.found, e)
     go (Reaper reap) e served none = absurd (cc)
     go Closed e served none = absurd (let f = none refl in cc)
@@ -126,7 +126,7 @@ serving-first c zxid frames w x core there is same = record {
   conn = x;
   found = there;
   served = ap is_reaper is;
-  none = λ closed. absurd (let f : false ≡ true = sym (ap is_closed is) ∙ closed in cc);
+  none = λ closed. absurd (let f : false ≡ true = sym (ap is_closed_actor is) ∙ closed in cc);
   zxid_is = same;
 }
 
@@ -173,7 +173,7 @@ abbrev reaper_of : Option Conn → Bool
 reaper_of o = elim o [ None ↦ false | Some x ↦ is_reaper x.actor ]
 
 abbrev fault_of : Option Conn → Bool → Option Why
-fault_of o reaper = elim o [ None ↦ Some why.NoSuchConnection | Some x ↦ if_fails (is_closed x.actor) why.ConnectionClosed (if_fails reaper why.NotAConnection None) ]
+fault_of o reaper = elim o [ None ↦ Some why.NoSuchConnection | Some x ↦ if_fails (is_closed_actor x.actor) why.ConnectionClosed (if_fails reaper why.NotAConnection None) ]
 
 possible-of : (c : ℕ) (w : World) (o : Option Conn) → conn_at c w ≡ o → connection_fault c w None ≡ None → fault_of o (reaper_of o) ≡ None
 possible-of c w o there possible = subst (λ (p : Option Conn). fault_of p (reaper_of p) ≡ None) there possible
@@ -181,13 +181,13 @@ possible-of c w o there possible = subst (λ (p : Option Conn). fault_of p (reap
 pub connection-there : (c : ℕ) (w : World) (x : Conn) → connection_fault c w None ≡ None → conn_at c w ≡ Some x → (core : Core) × (x.actor ≡ Connection core)
 connection-there c w x possible there = go x.actor refl (possible-of c w (Some x) there possible)
   where
-    go : (a : Actor) → x.actor ≡ a → if_fails (is_closed a) why.ConnectionClosed (if_fails (is_reaper a) why.NotAConnection None) ≡ None → (core : Core) × (x.actor ≡ Connection core)
+    go : (a : Actor) → x.actor ≡ a → if_fails (is_closed_actor a) why.ConnectionClosed (if_fails (is_reaper a) why.NotAConnection None) ≡ None → (core : Core) × (x.actor ≡ Connection core)
     go (Connection core) e p = (core, e)
     go (Reaper reap) e p = absurd (some_none p)
     go Closed e p = absurd (some_none p)
 
 pub all-arrive : (c : ℕ) (zxid : ℤ) (w kept mid w' : World) (x : Conn) (bytes : List ℕ) (frames : List (List ℕ)) (bad : Option ℤ) (stream : Stream)
-    → connection_fault c w None ≡ None → conn_at c w ≡ Some x → Cuts x.stream bytes frames bad stream → zxid ≡ zxid_at w.store → kept ≡ with_conn w c (record x { stream = stream })
+    → connection_fault c w None ≡ None → conn_at c w ≡ Some x → CutsFrames x.stream bytes frames bad stream → zxid ≡ zxid_at w.store → kept ≡ with_conn w c (record x { stream = stream })
     → (IsServing c zxid frames kept → FramesArrive c kept frames mid) → (IsConnectionAt c mid → EndsBadly c mid stream.place bad w') → Arrives c w bytes w'
 all-arrive c zxid w kept mid w' x bytes frames bad stream possible there cuts same is come ends =
     let y : Conn = record x { stream = stream } in
@@ -221,7 +221,7 @@ pub left-after : (c : ℕ) (w w' : World) (x : Conn) (next : Core) (o : StepOutc
 left-after c w w' x next o left after is result =
     is ∙ go (is_shut next.stage) ∙ sym (ap (λ (p : Option Conn). if is_open_conn p then after else []) (ap (conn_at c) result ∙ conn-left c w x (after_step next) o))
   where
-    go : (b : Bool) → (if b then [] else after) ≡ (if not (is_closed (if b then Closed else Connection next)) then after else [])
+    go : (b : Bool) → (if b then [] else after) ≡ (if not (is_closed_actor (if b then Closed else Connection next)) then after else [])
     go true = refl
     go false = refl
 

@@ -8,7 +8,7 @@ use Rattle.zp_script.specs.Effects.{Does}
 use Rattle.zp_script.specs.Entries.{next_entry}
 use Rattle.zp_script.specs.Faults.{fault, flight_at, if_fails, is_reaper_at, is_to_carry_out}
 use Rattle.zp_script.specs.Happens.{Settles, entry_line, flight_line, is_waiting, settling, settling_conn}
-use Rattle.zp_script.specs.Worlds.{Actor, Closed, Conn, Connection, Reaper, World, conn_at, is_closed, is_reaper}
+use Rattle.zp_script.specs.Worlds.{Actor, Closed, Conn, Connection, Reaper, World, conn_at, is_closed_actor, is_reaper}
 use Rattle.zt_text.specs.declared.script.Happening.{Happening}
 use Rattle.zt_text.specs.declared.script.Happening.TheVariants as line
 use Rattle.zt_text.specs.declared.script.Why.{Why}
@@ -49,9 +49,9 @@ where-some : {A : Type 0} (b : Bool) (o : Option A) (x : A) → (if b then o els
 where-some true o x h = (refl, h)
 where-some false o x h = absurd (none_some h)
 
-opened : (c : ℕ) (w : World) (h : Happening) (o : Option Conn) → conn_at c w ≡ o → settling_conn c w o ≡ Some h → (x : Conn) × (conn_at c w ≡ Some x) × (is_closed x.actor ≡ false) × (flight_line c w x x.flight ≡ Some h)
+opened : (c : ℕ) (w : World) (h : Happening) (o : Option Conn) → conn_at c w ≡ o → settling_conn c w o ≡ Some h → (x : Conn) × (conn_at c w ≡ Some x) × (is_closed_actor x.actor ≡ false) × (flight_line c w x x.flight ≡ Some h)
 opened c w h None found is = absurd (none_some is)
-opened c w h (Some x) found is = let p = where-none (is_closed x.actor) (flight_line c w x x.flight) h is in (x, found, p.0, p.1)
+opened c w h (Some x) found is = let p = where-none (is_closed_actor x.actor) (flight_line c w x x.flight) h is in (x, found, p.0, p.1)
 
 no-entry : (c : ℕ) (w : World) (x : Conn) (h : Happening) → entry_line c w x ≡ Some h → h ≡ line.Entry c
 no-entry c w x h is =
@@ -87,7 +87,7 @@ entry-out c w x (Some Denied) is = absurd (let e : line.Answer c ≡ line.Entry 
 
 -- ---- its tests
 
-exec-allowed : (c : ℕ) (w : World) (x : Conn) (asking : Asking) → conn_at c w ≡ Some x → is_closed x.actor ≡ false → x.flight ≡ Some (Out asking) → fault w (line.Exec c) ≡ None
+exec-allowed : (c : ℕ) (w : World) (x : Conn) (asking : Asking) → conn_at c w ≡ Some x → is_closed_actor x.actor ≡ false → x.flight ≡ Some (Out asking) → fault w (line.Exec c) ≡ None
 unfolding fault
 exec-allowed c w x asking there live out =
     open-allowed c w x _ there live
@@ -99,7 +99,7 @@ back-allowed (Some (Out asking)) back = absurd back
 back-allowed (Some (Carried a)) back = refl
 back-allowed (Some Denied) back = refl
 
-answer-allowed : (c : ℕ) (w : World) (x : Conn) → conn_at c w ≡ Some x → is_closed x.actor ≡ false → IsBack x.flight → fault w (line.Answer c) ≡ None
+answer-allowed : (c : ℕ) (w : World) (x : Conn) → conn_at c w ≡ Some x → is_closed_actor x.actor ≡ false → IsBack x.flight → fault w (line.Answer c) ≡ None
 unfolding fault
 answer-allowed c w x there live back =
     open-allowed c w x _ there live
@@ -114,7 +114,7 @@ not-none : {A : Type 0} (o : Option A) → is_some o ≡ true → is_none o ≡ 
 not-none None h = absurd (let e : false ≡ true = h in cc)
 not-none (Some x) h = refl
 
-entry-allowed : (c : ℕ) (w : World) (x : Conn) → conn_at c w ≡ Some x → is_closed x.actor ≡ false → is_waiting x.actor ≡ true → x.flight ≡ None → is_some (next_entry c w) ≡ true → fault w (line.Entry c) ≡ None
+entry-allowed : (c : ℕ) (w : World) (x : Conn) → conn_at c w ≡ Some x → is_closed_actor x.actor ≡ false → is_waiting x.actor ≡ true → x.flight ≡ None → is_some (next_entry c w) ≡ true → fault w (line.Entry c) ≡ None
 unfolding fault
 entry-allowed c w x there live waits out next =
     let later : Option Why = if_fails (is_none (next_entry c w)) why.NoEntry None in

@@ -3,7 +3,7 @@ use Rattle.std.specs.Prelude.{◌≡◌, ◌⊎◌, ℕ, ◌+◌, ℤ, true, fal
 use Rattle.zk_transcript.specs.declared.transcript.TranscriptLine.TheVariants.{Frame as FrameLine}
 use Rattle.zp_script.specs.Arriving.{frame_lines, shown_frame}
 use Rattle.zp_script.specs.Handing.{Handed}
-use Rattle.zp_script.specs.Worlds.{Conn, World, conn_at, is_closed, is_open_conn, is_reaper, zxid_at}
+use Rattle.zp_script.specs.Worlds.{Conn, World, conn_at, is_closed_actor, is_open_conn, is_reaper, zxid_at}
 use Rattle.zp_step.specs.Stages.{counted_up}
 use Rattle.zp_step.specs.declared.input.Input.TheVariants as input
 use Rattle.zp_world.specs.Doing.{left}
@@ -41,5 +41,5 @@ pub record IsServing (c : ℕ) (zxid : ℤ) (frames : List (List ℕ)) (w : Worl
   pub conn : Conn
   pub found : conn_at c w ≡ Some conn
   pub served : is_reaper conn.actor ≡ false
-  pub none : is_closed conn.actor ≡ true → frames ≡ []
+  pub none : is_closed_actor conn.actor ≡ true → frames ≡ []
   pub zxid_is : zxid ≡ zxid_at w.store

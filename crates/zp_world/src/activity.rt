@@ -92,7 +92,7 @@ impl Activity {
     }
 
     pub fn is_closed(&self) -> bool
-        ensures { result ≡ worlds.is_closed self.now.actor }
+        ensures { result ≡ worlds.is_closed_actor self.now.actor }
     {
         match &self.actor {
             Actor::Closed => true,

@@ -4,7 +4,7 @@ ghost use Rattle.std.specs.Prelude.{◌≡◌, ◌+◌, ◌++◌, ◌∷◌, ◌
 ghost use Rattle.std.specs.Vec.Iter.{into_iter_items};
 ghost use Rattle.zk_model.specs.Limits.{max_frame};
 ghost use Rattle.zk_transcript.specs.declared.transcript.TranscriptLine.TheVariants.{Frame as FrameLine};
-ghost use Rattle.zp_script.specs.Arriving.{Arrives, Cuts, EndsBadly, FramesArrive, frame_lines};
+ghost use Rattle.zp_script.specs.Arriving.{Arrives, CutsFrames, EndsBadly, FramesArrive, frame_lines};
 ghost use Rattle.zp_script.specs.Effects.{opened};
 ghost use Rattle.zp_script.specs.Faults.{connection_fault};
 ghost use Rattle.zp_script.specs.Worlds.{Conn, Connection, after_step, conn_at, is_open_conn, with_conn, zxid_at};
@@ -62,7 +62,7 @@ impl World {
     pub(crate) fn arrive(&mut self, connection: u32, cut: Cut) -> Result<(), Memory>
         requires short { All (λ frame. length frame ≤ max_frame) cut.frames.items }
         requires open { connection_fault connection self.old None ≡ None }
-        ensures { OnOk result ((x : Conn) (bytes : List ℕ) → conn_at connection self.old ≡ Some x → Cuts x.stream bytes cut.frames.items cut.bad cut.inbox → Arrives connection self.old bytes self.new) }
+        ensures { OnOk result ((x : Conn) (bytes : List ℕ) → conn_at connection self.old ≡ Some x → CutsFrames x.stream bytes cut.frames.items cut.bad cut.inbox → Arrives connection self.old bytes self.new) }
     {
         let zxid = self.last_zxid()?;
         let Cut { frames, bad, inbox } = cut;

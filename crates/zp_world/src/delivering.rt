@@ -8,11 +8,11 @@ ghost use Rattle.zp_script.specs.Entries.{cursor_at, next_entry};
 ghost use Rattle.zp_script.specs.Faults.{ask_fault, fault, flight_at};
 ghost use Rattle.zp_script.specs.Handing.{AnswerComesTo, FailureComes, FailureComesTo, Handed, Reaps, landed};
 ghost use Rattle.zp_script.specs.Kinds.{kind_of_reap};
-ghost use Rattle.zp_script.specs.Worlds.{Conn, Connection, conn_at, is_closed, with_conn};
+ghost use Rattle.zp_script.specs.Worlds.{Conn, Connection, conn_at, is_closed_actor, with_conn};
 ghost use Rattle.zp_script.specs.declared.flight.Flight.TheVariants.{Carried};
 ghost use Rattle.zp_step.specs.Stages.{Core as AnyCore, counted_up, is_shut};
 ghost use Rattle.zp_step.specs.Steps.{IsFit};
-ghost use Rattle.zs_reap.specs.Steps.{IsHeld, MayStep};
+ghost use Rattle.zs_reap.specs.Steps.{IsReaperHeld, MayStepReaper};
 ghost use Rattle.zt_text.specs.declared.script.Happening.TheVariants as line;
 ghost use Rattle.zt_text.specs.Transcripts.{IsWellFormedKind};
 ghost use Rattle.zp_world.specs.Activities.{actor_of};
@@ -109,7 +109,7 @@ impl World {
         answer: Answer,
     ) -> Result<(), Memory>
         requires active { IsActive (actor_of actor) (Some (Carried answer)) }
-        requires open { is_closed (actor_of actor) ≡ false }
+        requires open { is_closed_actor (actor_of actor) ≡ false }
         ensures { OnOk result (AnswerComesTo connection (with_conn self.old connection (seated seat (actor_of actor) None)) (seated seat (actor_of actor) None) answer self.new (actor_of actor)) }
     {
         match actor {
@@ -158,7 +158,7 @@ impl World {
     ) -> Result<(), Memory>
         requires may { MayFail (actor_of actor) }
         requires fit { IsFitFlight flight }
-        requires open { is_closed (actor_of actor) ≡ false }
+        requires open { is_closed_actor (actor_of actor) ≡ false }
         ensures { OnOk result (FailureComesTo connection (with_conn self.old connection (seated seat (actor_of actor) flight)) (seated seat (actor_of actor) flight) self.new (actor_of actor)) }
     {
         match actor {
@@ -237,7 +237,7 @@ impl World {
         reaper: Reaper,
         answer: Option<&Answer>,
     ) -> Result<(), Memory>
-        requires { MayStep reaper (option_copied answer) }
+        requires { MayStepReaper reaper (option_copied answer) }
         ensures { OnOk result ((x : Conn) → x.proxy ≡ seat.proxy → x.stream ≡ seat.inbox → x.frames ≡ seat.frames → x.flight ≡ None → Reaps number self.old (option_copied answer.entry) self.new x reaper) }
     {
         let mut reaper = reaper;
@@ -290,7 +290,7 @@ fn damaged(key: Bytes, value: Bytes) -> Ended
 
 /// What a reaper's ask is, where it is an update.
 fn reap_kind(reaper: &Reaper) -> Option<UpdateKind>
-    requires { IsHeld reaper.now }
+    requires { IsReaperHeld reaper.now }
     ensures kind { result ≡ kind_of_reap reaper.now.session reaper.now.phase }
     ensures formed { IfSome result IsWellFormedKind }
 {

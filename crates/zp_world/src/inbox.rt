@@ -4,8 +4,8 @@ ghost use Rattle.std.specs.Prelude.{◌≡◌, ◌+◌, ◌≤◌, min, nat_lt, 
 ghost use Rattle.zk_jute.specs.Frames.{bad_length};
 ghost use Rattle.zk_jute.specs.JuteWriting.{with_length};
 ghost use Rattle.zk_model.specs.Limits.{max_frame};
-ghost use Rattle.zp_script.specs.Arriving.{Cuts};
-ghost use Rattle.zk_wire.specs.Cutting.{Stands, unread};
+ghost use Rattle.zp_script.specs.Arriving.{CutsFrames};
+ghost use Rattle.zk_wire.specs.Cutting.{CutStands, unread};
 ghost use Rattle.zp_step.specs.Stages.{counted_up};
 ghost use Rattle.zp_world.specs.Framing.{framed_size};
 
@@ -79,7 +79,7 @@ impl Inbox {
     pub fn with_frame(&self, bytes: Bytes) -> Result<Cut, Memory>
         requires size { length bytes ≤ max_frame }
         requires none { length self.now.rest ≡ 0 }
-        ensures cuts { IfOk result (λ cut. Cuts self.now (with_length bytes) cut.frames.items cut.bad cut.inbox) }
+        ensures cuts { IfOk result (λ cut. CutsFrames self.now (with_length bytes) cut.frames.items cut.bad cut.inbox) }
         ensures short { IfOk result (λ cut. All (λ frame. length frame ≤ max_frame) cut.frames.items) }
     {
         let size = 4 + bytes.len() as u64;
@@ -98,7 +98,7 @@ impl Inbox {
 
     /// These bytes come.
     pub fn with(&self, bytes: &[u8]) -> Result<Cut, Memory>
-        ensures cuts { IfOk result (λ cut. Cuts self.now bytes.now cut.frames.items cut.bad cut.inbox) }
+        ensures cuts { IfOk result (λ cut. CutsFrames self.now bytes.now cut.frames.items cut.bad cut.inbox) }
         ensures short { IfOk result (λ cut. All (λ frame. length frame ≤ max_frame) cut.frames.items) }
     {
         let mut stream = Vec::from_slice(self.alloc, self.rest.as_slice())?;
@@ -123,7 +123,7 @@ impl Inbox {
 /// The whole frames from the front of a stream of which nothing came yet.
 fn frames_in(alloc: Global, cutter: &mut Cutter, stream: &[u8]) -> Result<Vec<Bytes>, Memory>
     requires { cutter.old ≡ unread }
-    ensures { IfOk result (λ frames. Stands stream.now frames.items cutter.new) }
+    ensures { IfOk result (λ frames. CutStands stream.now frames.items cutter.new) }
 {
     match cutter.take(stream) {
         Ok(frames) => Ok(frames),

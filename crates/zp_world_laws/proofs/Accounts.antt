@@ -55,8 +55,8 @@ use Rattle.zp_world_laws.specs.Holding.{Left, Of, Source, air, made_for, out_in,
 use Rattle.zp_world_laws.specs.Knowing.{IsKnownAs, Known}
 use Rattle.zp_world_laws.specs.Naming.{is_made_for, is_unnamed}
 use Rattle.zp_world_laws.specs.Reaping.{IsReapAsk, IsReapFlight}
-use Rattle.zp_world_laws.specs.Serving.{Serves, kind_lines, next_revision, update_lines}
-use Rattle.zs_reap.specs.Steps.{first_wants}
+use Rattle.zp_world_laws.specs.Serving.{StoreServes, kind_lines, next_revision, update_lines}
+use Rattle.zs_reap.specs.Steps.{reaper_wants}
 use Rattle.zs_session.specs.declared.connect.Fresh.{Fresh}
 use Rattle.zx_base.proofs.Options.{none_some, some_is}
 
@@ -175,7 +175,7 @@ module _ (w w' : World) (c : ℕ) (ex : Executes c w w') (k : IsAccounted w) whe
   denied-stage core (Waiting p) n = tt
   denied-stage core Shut n = tt
 
-  carried-as : (u : Store) (b : Answer) (a : Actor) → carry w.store (ex.asking).ask ≡ Some (u, b) → Serves u (w.lines ++ update_lines w.store u (ex.asking).kind) → IsKnownAs w.store w.lines c ex.conn a → IsKnownAs u (w.lines ++ update_lines w.store u (ex.asking).kind) c (record (ex.conn) { flight = Some (Carried b) }) a
+  carried-as : (u : Store) (b : Answer) (a : Actor) → carry w.store (ex.asking).ask ≡ Some (u, b) → StoreServes u (w.lines ++ update_lines w.store u (ex.asking).kind) → IsKnownAs w.store w.lines c ex.conn a → IsKnownAs u (w.lines ++ update_lines w.store u (ex.asking).kind) c (record (ex.conn) { flight = Some (Carried b) }) a
   carried-as u b (Connection core) h serves (n, st) = (counted-aside w.lines (update_lines w.store u (ex.asking).kind) c (ex.conn).frames core (update-aside w.store u (ex.asking).kind c) n, carried-stage u b core core.stage h st)
   carried-as u b (Reaper r) h serves n = reap-carried w.store u (w.lines ++ update_lines w.store u (ex.asking).kind) r ex.asking b serves (carry-precedes w.store u (ex.asking).ask b h) h (subst (IsReapFlight w.store r) ex.out n)
   carried-as u b Closed h serves n = close-left w.lines (update_lines w.store u (ex.asking).kind) c n
@@ -211,7 +211,7 @@ module _ (w w' : World) (c : ℕ) (ex : Executes c w w') (k : IsAccounted w) whe
       let st = stored-in w ex.mid r.0 (ex.asking).kind p.1 in
       let store : w'.store ≡ r.0 = ap (λ (u : World). u.store) ex.result ∙ st.store in
       let lines : w'.lines ≡ w.lines ++ update_lines w.store r.0 (ex.asking).kind = ap (λ (u : World). u.lines) ex.result ∙ st.lines in
-      let serves : Serves r.0 (w.lines ++ update_lines w.store r.0 (ex.asking).kind) = subst (λ l. Serves r.0 l) lines (subst (λ s. Serves s w'.lines) store (whole.holds).serves) in
+      let serves : StoreServes r.0 (w.lines ++ update_lines w.store r.0 (ex.asking).kind) = subst (λ l. StoreServes r.0 l) lines (subst (λ s. StoreServes s w'.lines) store (whole.holds).serves) in
       known-by (update_lines w.store r.0 (ex.asking).kind)
       (alone (update_lines w.store r.0 (ex.asking).kind) st.conns (subst (λ u. Precedes w.store u) (sym store) (carry-precedes w.store r.0 (ex.asking).ask r.1 e)) lines
       (λ d apart. update-unnamed d w.store r.0 (ex.asking).kind (λ kind is of. apart ((k.whole).own c d ex.conn ex.asking ex.found ex.out (asker-of ex.asking kind d is of)))))
@@ -355,7 +355,7 @@ reap-accounted w w' c p id free (inr r) k =
         unnamed = λ d apart. inr refl;
       })
           (λ x e. subst (λ (q : Conn). IsKnownAs w.store w.lines c q q.actor) (some_is (sym (conn-here w c v) ∙ e)) (record {
-            asked = subst (λ ph. IsReapAsk w.store (r.next).session ph (reading (pos 0) (first_wants id))) (sym m.0) (ap (λ n. reading (pos 0) (first_wants n)) (sym (r.stepped).same));
+            asked = subst (λ ph. IsReapAsk w.store (r.next).session ph (reading (pos 0) (reaper_wants id))) (sym m.0) (ap (λ n. reading (pos 0) (reaper_wants n)) (sym (r.stepped).same));
             kind = ap (kind_of_reap (r.next).session) (sym m.0);
           }))
           (λ e. absurd (none_some (sym e ∙ conn-here w c v)));

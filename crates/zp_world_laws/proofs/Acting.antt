@@ -30,7 +30,7 @@ use Rattle.zp_world_laws.proofs.Within.{within-unnamed}
 use Rattle.zp_world_laws.specs.Connections.{Whole}
 use Rattle.zp_world_laws.specs.Entering.{AreEntries}
 use Rattle.zp_world_laws.specs.Knowing.{IsKnownAs, Known}
-use Rattle.zp_world_laws.specs.Naming.{is_unnamed, names}
+use Rattle.zp_world_laws.specs.Naming.{is_unnamed, names_conn}
 use Rattle.zx_base.proofs.Options.{none_some, some_is}
 
 -- a line that one connection, or one reaper, adds by itself
@@ -61,7 +61,7 @@ pub record Acts (w w' : World) (c : ℕ) : Type 0 where
 apart-same : (d c e : ℕ) → d ≢ c → (c == e) ≡ true → not (d == e) ≡ true
 apart-same d c e apart h = ap not (other-number d e (λ same. apart (same ∙ sym (number-same c e h))))
 
-own-names : (d c : ℕ) (l : TranscriptLine) → d ≢ c → is_own c l ≡ true → not (names d l) ≡ true
+own-names : (d c : ℕ) (l : TranscriptLine) → d ≢ c → is_own c l ≡ true → not (names_conn d l) ≡ true
 own-names d c (FrameLine e i z bytes) apart h = apart-same d c e apart h
 own-names d c (Send e bytes) apart h = apart-same d c e apart h
 own-names d c (Close e end) apart h = apart-same d c e apart h
@@ -71,7 +71,7 @@ own-names d c (LapseLine r id) apart h = absurd (cc)
 
 pub own-unnamed : (d c : ℕ) (ls : List TranscriptLine) → d ≢ c → list_all (is_own c) ls ≡ true → is_unnamed d ls ≡ true
 own-unnamed d c [] apart h = refl
-own-unnamed d c (l ∷ ls) apart h = let q = and_parts (is_own c l) (list_all (is_own c) ls) h in both-true (not (names d l)) (is_unnamed d ls) (own-names d c l apart q.0) (own-unnamed d c ls apart q.1)
+own-unnamed d c (l ∷ ls) apart h = let q = and_parts (is_own c l) (list_all (is_own c) ls) h in both-true (not (names_conn d l)) (is_unnamed d ls) (own-names d c l apart q.0) (own-unnamed d c ls apart q.1)
 
 own-quiet : (c : ℕ) (l : TranscriptLine) → is_own c l ≡ true → is_quiet l ≡ true
 own-quiet c (FrameLine e i z bytes) h = refl

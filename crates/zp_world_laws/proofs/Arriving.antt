@@ -20,7 +20,7 @@ use Rattle.zp_script.specs.Arriving.{frame_lines, shown_frame}
 use Rattle.zp_script.specs.Handing.{Handed}
 use Rattle.zp_script.specs.Kinds.{kind_asked, kind_in_stage}
 use Rattle.zp_script.specs.StepOutcomes.{acts_all, leaves, quiet}
-use Rattle.zp_script.specs.Worlds.{Closed, Conn, Connection, World, after_step, conn_at, is_closed, with_conn, zxid_at}
+use Rattle.zp_script.specs.Worlds.{Closed, Conn, Connection, World, after_step, conn_at, is_closed_actor, with_conn, zxid_at}
 use Rattle.zp_script.specs.declared.flight.Asking.{Asking}
 use Rattle.zp_script.specs.declared.flight.Flight.TheVariants.{Carried, Denied, Out}
 use Rattle.zp_script.specs.declared.flight.Flight.{Flight}
@@ -45,7 +45,7 @@ use Rattle.zp_world_laws.proofs.Lines.{same-air, silent-holds}
 use Rattle.zp_world_laws.proofs.Numbers.{conn-here, conn-there, either-number}
 use Rattle.zp_world_laws.proofs.Serving.{elsewhere-plain, serving-push}
 use Rattle.zp_world_laws.proofs.Setting.{sets-whole}
-use Rattle.zp_world_laws.specs.Connections.{IsClosedAt, IsFlying, IsServing, Whole}
+use Rattle.zp_world_laws.specs.Connections.{IsClosedAt, IsFlying, IsServingConn, Whole}
 use Rattle.zp_world_laws.specs.Holding.{Left, Of, Source, air, out_in, out_of}
 use Rattle.zx_base.proofs.Options.{some_is}
 
@@ -75,14 +75,14 @@ module _ (w : World) (c : ℕ) (x v : Conn) (there : conn_at c w ≡ Some x) (ac
 
   still-closed : (d : ℕ) → IsClosedAt w d → IsClosedAt (with_conn w c v) d
   still-closed d t = elim (either-number d c) [
-    | inl same ↦ (v, ap (λ n. conn_at n (with_conn w c v)) same ∙ conn-here w c v, ap is_closed actor ∙ ap (λ (y : Conn). is_closed y.actor) (some_is (sym there ∙ ap (λ n. conn_at n w) (sym same) ∙ t.1)) ∙ t.2)
+    | inl same ↦ (v, ap (λ n. conn_at n (with_conn w c v)) same ∙ conn-here w c v, ap is_closed_actor actor ∙ ap (λ (y : Conn). is_closed_actor y.actor) (some_is (sym there ∙ ap (λ n. conn_at n w) (sym same) ∙ t.1)) ∙ t.2)
     | inr apart ↦ closed-same w (with_conn w c v) d (conn-there w c d v apart) t
   ]
 
   pub alike-whole : Whole w → Whole (with_conn w c v)
   alike-whole h = record {
     holds = silent-holds w (with_conn w c v) (precedes-self w.store) (h.holds).serves refl (same-air w (with_conn w c v) as-before) h.holds;
-    serving = λ d y core e a s. (let f = was-found d y e in subst (IsServing w.store w.lines d core) f.same_flight (h.serving d f.was core f.at (f.same_actor ∙ a) s));
+    serving = λ d y core e a s. (let f = was-found d y e in subst (IsServingConn w.store w.lines d core) f.same_flight (h.serving d f.was core f.at (f.same_actor ∙ a) s));
     unshut = λ d y core e a. (let f = was-found d y e in h.unshut d f.was core f.at (f.same_actor ∙ a));
     own = λ e d y a p q r. (let f = was-found e y p in h.own e d f.was a f.at (f.same_flight ∙ q) r);
     left = λ k d a e r. still-closed d (h.left k d a e r);
@@ -217,7 +217,7 @@ module _ (s : Store) (lines : List TranscriptLine) (c : ℕ) (core : Core) (byte
   }
   flies-queued w looked (Some Denied) h = h
 
-  pub serving-queued : (f : Option Flight) → IsFrameAt lines c (next_frame core) bytes → IsServing s lines c core f → IsServing s lines c (queued core bytes) f
+  pub serving-queued : (f : Option Flight) → IsFrameAt lines c (next_frame core) bytes → IsServingConn s lines c core f → IsServingConn s lines c (queued core bytes) f
   serving-queued f came k = record {
     place = k.place;
     attached = k.attached;
@@ -247,9 +247,9 @@ pub queued-whole : (w : World) (c : ℕ) (x : Conn) (core : Core) (bytes : List 
 queued-whole w c x core bytes there actor came h = sets-whole w c x (record x { actor = Connection (queued core bytes) }) (record {
   but = but-of w c h;
   there = there;
-  opens = ap is_closed actor;
+  opens = ap is_closed_actor actor;
   unshut = λ k a. ap (λ (q : Core). is_shut q.stage) (sym (core-same (queued core bytes) k a)) ∙ h.unshut c x core there actor;
-  serves = λ k a s. subst (λ q. IsServing w.store w.lines c q x.flight) (core-same (queued core bytes) k a) (queued-serves (ap (λ (q : Core). is_served q.stage) (core-same (queued core bytes) k a) ∙ s));
+  serves = λ k a s. subst (λ q. IsServingConn w.store w.lines c q x.flight) (core-same (queued core bytes) k a) (queued-serves (ap (λ (q : Core). is_served q.stage) (core-same (queued core bytes) k a) ∙ s));
   bound = λ a e. (h.holds).bound (Of c) a (in-air a e);
   own = λ a d e r. h.own c d x a there e r;
   heard = λ k a e. (let sp = (h.holds).spoken c k a e in record {
@@ -259,7 +259,7 @@ queued-whole w c x core bytes there actor came h = sets-whole w c x (record x { 
   });
 })
   where
-    queued-serves : is_served core.stage ≡ true → IsServing w.store w.lines c (queued core bytes) x.flight
+    queued-serves : is_served core.stage ≡ true → IsServingConn w.store w.lines c (queued core bytes) x.flight
     queued-serves s = serving-queued w.store w.lines c core bytes x.flight (came s) (h.serving c x core there actor s)
 
     in-air : (a : Asking) → x.flight ≡ Some (Out a) → air w (Of c) ≡ Some a

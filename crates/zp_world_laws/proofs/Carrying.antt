@@ -12,7 +12,7 @@ use Rattle.std.specs.Prelude.{None, Option, Some, ◌==◌, ◌⊎◌}
 use Rattle.zk_transcript.proofs.Attachments.{attach_of-push, attach_of-skip}
 use Rattle.zk_transcript.specs.Conversations.{IsShownFresh}
 use Rattle.zk_transcript.specs.History.{when}
-use Rattle.zk_transcript.specs.Legal.{Attachment, attach_of, attach_shown, index_shown, is_below}
+use Rattle.zk_transcript.specs.Legal.{Attachment, attach_of, attach_shown, index_shown, is_below_place}
 use Rattle.zk_transcript.specs.Walks.{Walker, at_start, packets}
 use Rattle.zk_transcript.specs.declared.transcript.TranscriptLine.TheVariants.{Update}
 use Rattle.zk_transcript.specs.declared.transcript.TranscriptLine.{TranscriptLine}
@@ -29,7 +29,7 @@ use Rattle.zp_world_laws.proofs.Packets.{packets-append}
 use Rattle.zp_world_laws.proofs.Talking.{ahead-push, own-none, talks-push, talks-start}
 use Rattle.zp_world_laws.specs.Bounds.{IsBound, IsBoundAs, IsBoundAsk, attachment}
 use Rattle.zp_world_laws.specs.Holding.{Carries, Holds, IsAhead, IsSpoken, Source, Talks, air, asker_in, attaches, made_for, request_in, requested_by}
-use Rattle.zp_world_laws.specs.Serving.{Serves, next_revision, update_lines}
+use Rattle.zp_world_laws.specs.Serving.{StoreServes, next_revision, update_lines}
 use Rattle.zx_base.proofs.Options.{none_some, some_is}
 
 -- ---- what a request's transaction tells of its connection
@@ -127,7 +127,7 @@ still-holds : (w w' : World) (src : Source) → Holds w → (cr : Carries w src 
 still-holds w w' src h cr q =
     let same : w'.lines ≡ w.lines = cr.lines ∙ ap (λ l. w.lines ++ l) q.lines ∙ append-nil w.lines in
     record {
-      serves = subst (λ u. Serves u w'.lines) (sym cr.now) (subst (λ l. Serves cr.store l) (sym same) (serves-same w.store cr.store w.lines q.revisions h.serves));
+      serves = subst (λ u. StoreServes u w'.lines) (sym cr.now) (subst (λ l. StoreServes cr.store l) (sym same) (serves-same w.store cr.store w.lines q.revisions h.serves));
       fresh = subst IsShownFresh (sym same) h.fresh;
       bound = λ o x e. subst (λ u. IsBoundAsk u w'.lines x) (sym cr.now) (kept-still w.store cr.store w.lines w'.lines x (same-precedes w.store cr.store q.revisions) same (h.bound o x ((cr.others o x e).1)));
       alone = λ a b x y c ea eb. h.alone a b x y c ((cr.others a x ea).1) ((cr.others b y eb).1);
@@ -171,7 +171,7 @@ module _ (w w' : World) (src : Source) (h : Holds w) (cr : Carries w src w') (ki
   ahead-of c i o x walker eo r a = record {
     unanswered = a.unanswered;
     follows = subst (λ l. is_ahead l c i ≡ true) (sym same) (ahead-push w.lines (line_of w.store kind) c i
-        (ap (is_below i) (no-index c (next_revision w.store) kind (away o x c eo (request-asker x c i r)))) a.follows);
+        (ap (is_below_place i) (no-index c (next_revision w.store) kind (away o x c eo (request-asker x c i r)))) a.follows);
   }
 
   spoken-update : (t : TxnReq) → IsBound w.store w.lines kind t → (c k : ℕ) (a : Attachment) → attach_of c (w.lines ++ line_of w.store kind ∷ []) ≡ Some (k, a) → IsSpoken w' c k a
@@ -198,7 +198,7 @@ module _ (w w' : World) (src : Source) (h : Holds w) (cr : Carries w src w') (ki
 
   update-holds : Committed w.store cr.store w.lines kind → Precedes w.store cr.store → (t : TxnReq) → IsBound w.store w.lines kind t → Holds w'
   update-holds done x t b = record {
-    serves = subst (λ u. Serves u w'.lines) (sym cr.now) (subst (λ l. Serves cr.store l) (sym same) done.serves);
+    serves = subst (λ u. StoreServes u w'.lines) (sym cr.now) (subst (λ l. StoreServes cr.store l) (sym same) done.serves);
     fresh = subst IsShownFresh (sym same) (shown-push w.lines (line_of w.store kind) (λ c i z bytes e. absurd (cc)) h.fresh);
     bound = λ o y e. subst (λ u. IsBoundAsk u w'.lines y) (sym cr.now) (subst (λ l. IsBoundAsk cr.store l y) (sym same)
         (ask-kept w.store cr.store w.lines (line_of w.store kind ∷ []) y x

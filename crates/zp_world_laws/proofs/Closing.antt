@@ -25,14 +25,14 @@ use Rattle.zp_world_laws.proofs.Lines.{is_plain, quiet-holds, same-air}
 use Rattle.zp_world_laws.proofs.Numbers.{conn-here, conn-there, either-number, left-some, of-same}
 use Rattle.zp_world_laws.proofs.Serving.{elsewhere-plain, serving-push}
 use Rattle.zp_world_laws.proofs.Talking.{is_quiet}
-use Rattle.zp_world_laws.specs.Connections.{HasSmallFrames, IsClosedAt, IsServing, Whole}
+use Rattle.zp_world_laws.specs.Connections.{HasSmallFrames, IsClosedAt, IsServingConn, Whole}
 use Rattle.zp_world_laws.specs.Holding.{Holds, Left, Of, Source, air, asker_in, left_in, out_in, out_of}
 
 -- ---- whole but for one connection
 
 pub record But (w : World) (c : ℕ) : Type 0 where
   pub holds : Holds w
-  pub serving : (d : ℕ) (x : Conn) (core : Core) → d ≢ c → conn_at d w ≡ Some x → x.actor ≡ Connection core → is_served core.stage ≡ true → IsServing w.store w.lines d core x.flight
+  pub serving : (d : ℕ) (x : Conn) (core : Core) → d ≢ c → conn_at d w ≡ Some x → x.actor ≡ Connection core → is_served core.stage ≡ true → IsServingConn w.store w.lines d core x.flight
   pub unshut : (d : ℕ) (x : Conn) (core : Core) → conn_at d w ≡ Some x → x.actor ≡ Connection core → is_shut core.stage ≡ false
   pub own : (e d : ℕ) (x : Conn) (a : Asking) → conn_at e w ≡ Some x → x.flight ≡ Some (Out a) → asker_in a ≡ Some d → d ≡ e
   pub left : (k d : ℕ) (a : Asking) → air w (Left k) ≡ Some a → asker_in a ≡ Some d → IsClosedAt w d
@@ -212,7 +212,7 @@ module _ (w : World) (c : ℕ) (x : Conn) (end : Ended) (there : conn_at c w ≡
     | inr apart ↦ closed-same w (closed_world w c x end) d (conn-there w c d (closed_conn x) apart) t
   ]
 
-  closed-serves : (h : But w c) (d : ℕ) (v : Conn) (core : Core) → d ≢ c → conn_at d (closed_world w c x end) ≡ Some v → v.actor ≡ Connection core → is_served core.stage ≡ true → IsServing w.store (w.lines ++ Close c end ∷ []) d core v.flight
+  closed-serves : (h : But w c) (d : ℕ) (v : Conn) (core : Core) → d ≢ c → conn_at d (closed_world w c x end) ≡ Some v → v.actor ≡ Connection core → is_served core.stage ≡ true → IsServingConn w.store (w.lines ++ Close c end ∷ []) d core v.flight
   closed-serves h d v core apart e a s =
       serving-push w.store w.store w.lines (Close c end ∷ []) d core v.flight ((h.holds).serves).legal ((close-holds h.holds).serves).legal (precedes-self w.store)
       (elsewhere-plain w.lines d (Close c end) refl) (h.serving d v core apart (sym (conn-there w c d (closed_conn x) apart) ∙ e) a s)

@@ -25,12 +25,12 @@ use Rattle.zn_layout.specs.StandsFor.{HeadMeans, StandsFor, at}
 use Rattle.zp_script.specs.Worlds.{zxid_at}
 use Rattle.zp_world_laws.proofs.Moments.{beyond, le-or-next, newer, older, reached}
 use Rattle.zp_world_laws.proofs.Packets.{both-true}
-use Rattle.zp_world_laws.specs.Serving.{Commits, Serves, kind_lines, moment_of, next_revision, update_lines}
+use Rattle.zp_world_laws.specs.Serving.{Commits, StoreServes, kind_lines, moment_of, next_revision, update_lines}
 
 -- ---- the present
 
 -- the present keys stand for the state after all lines
-pub stands-now : (s : Store) (lines : List TranscriptLine) → Serves s lines → StandsFor (present s) (after lines)
+pub stands-now : (s : Store) (lines : List TranscriptLine) → StoreServes s lines → StandsFor (present s) (after lines)
 stands-now s lines w =
     let at_last = w.stands (length s.revisions) w.begun (omega arith) in
     subst (StandsFor (present s)) (w.settled (length s.revisions) (omega arith)) at_last
@@ -47,12 +47,12 @@ head-within s None h = omega (arith, ints)
 head-within s (Some kv) h = h kv refl
 
 -- the last zxid is a revision of the store
-pub zxid-within : (s : Store) (lines : List TranscriptLine) → Serves s lines → (after lines).zxid ≤ℤ revision s
+pub zxid-within : (s : Store) (lines : List TranscriptLine) → StoreServes s lines → (after lines).zxid ≤ℤ revision s
 zxid-within s lines w =
     subst (λ (z : ℤ). z ≤ℤ revision s) (head-at (present s) (after lines) (stands-now s lines w))
     (head-within s (at (present s) HeadKey) (λ kv e. present-within s (key_bytes HeadKey) kv e))
 
-pub zxid-next : (s : Store) (lines : List TranscriptLine) → Serves s lines → (after lines).zxid <ℤ next_revision s
+pub zxid-next : (s : Store) (lines : List TranscriptLine) → StoreServes s lines → (after lines).zxid <ℤ next_revision s
 zxid-next s lines w = let le = zxid-within s lines w in omega (arith, ints, le)
 
 -- ---- a commit
@@ -63,7 +63,7 @@ line_of s kind = Update (record { zxid = next_revision s; kind = kind })
 pub record Committed (s u : Store) (lines : List TranscriptLine) (kind : UpdateKind) : Type 0 where
   pub line : update_lines s u (Some kind) ≡ line_of s kind ∷ []
   pub grown : length u.revisions ≡ length s.revisions + 1
-  pub serves : Serves u (lines ++ line_of s kind ∷ [])
+  pub serves : StoreServes u (lines ++ line_of s kind ∷ [])
 
 changes-or-not : (s : Store) (cs : List Change) → (grown s cs ≡ s) ⊎ (length (grown s cs).revisions ≡ length s.revisions + 1)
 changes-or-not s [] = inl refl
@@ -77,7 +77,7 @@ the-line a b z kind e lt =
 older-rises : (old new : ℤ) (s : Store) → old ≤ℤ revision s → new ≡ next_revision s → old ≡ new → ⊥
 older-rises old new s le e same = omega (arith, ints, le, e, same)
 
-module _ (s u : Store) (lines : List TranscriptLine) (kind : UpdateKind) (t : TxnReq) (w : Serves s lines) (c : Commits s lines kind t) (h : u ≡ grown s (worked s t.success).changes) where
+module _ (s u : Store) (lines : List TranscriptLine) (kind : UpdateKind) (t : TxnReq) (w : StoreServes s lines) (c : Commits s lines kind t) (h : u ≡ grown s (worked s t.success).changes) where
   keys : present u ≡ acts_applied (next_revision s) (present s) t.success
   keys = ap present h ∙ present-worked s t.success
 

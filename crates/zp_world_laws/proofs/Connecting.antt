@@ -24,7 +24,7 @@ use Rattle.zk_transcript.proofs.SessionMaps.{at-insert_same}
 use Rattle.zk_transcript.proofs.SoundHistories.{legal-bounded, legal-sound}
 use Rattle.zk_transcript.proofs.Walks.{first_place-bound}
 use Rattle.zk_transcript.specs.History.{IsSound, Session, State, after, attached_anew, connect, frame, frame_shown, granted_timeout, new_session, open_shown, opening, or_nothing, session_at, state_at, updated, when}
-use Rattle.zk_transcript.specs.Legal.{attach_in, attach_of, index_in, is_below}
+use Rattle.zk_transcript.specs.Legal.{attach_in, attach_of, index_in, is_below_place}
 use Rattle.zk_transcript.specs.Walks.{packets}
 use Rattle.zk_transcript.specs.declared.transcript.TranscriptLine.{TranscriptLine}
 use Rattle.zk_transcript.specs.declared.transcript.UpdateKind.TheVariants.{Attach, Session as NewSession}
@@ -54,10 +54,10 @@ use Rattle.zp_world_laws.proofs.Transactions.{txn-answered, txn-reads}
 use Rattle.zp_world_laws.specs.Bounds.{IsBound, IsBoundAs, IsBoundAsk, IsUnattached}
 use Rattle.zp_world_laws.specs.Connecting.{HasOwnLine, IsConnectAnswer, IsConnectOut, IsConnecting, IsOwnSession, IsSeenLife, IsUntouched, RestsOn}
 use Rattle.zp_world_laws.specs.Connections.{HasSmallFrames}
-use Rattle.zp_world_laws.specs.Serving.{Serves, next_revision, only_reads, update_lines}
+use Rattle.zp_world_laws.specs.Serving.{StoreServes, next_revision, only_reads, update_lines}
 use Rattle.zs_session.proofs.Attachments.{session-attached}
 use Rattle.zs_session.proofs.Welcomes.{number-welcomed}
-use Rattle.zs_session.specs.Connecting.{asked_in, number_shown, timeout_in}
+use Rattle.zs_session.specs.Connecting.{asked_in_phase, number_shown, timeout_in}
 use Rattle.zs_session.specs.Sessions.{attach_changes, attach_guards, attach_txn, attach_wants, first_wants, new_session_changes, new_session_guards, new_session_txn, session_wants}
 use Rattle.zs_session.specs.declared.connect.Connect.{Connect}
 use Rattle.zs_session.specs.declared.connect.Phase.TheVariants.{Attaching, Creating, Granting, Keeping, Looking, LookingAgain, Over, Unasked}
@@ -84,7 +84,7 @@ pub record IsAwaiting (s : Store) (lines : List TranscriptLine) (c : ℕ) (x : C
   pub framed : frame c 0 lines ≡ Some bytes
   pub small : length bytes ≤ max_frame
   pub reads : read_connect bytes ≡ Some x.request
-  pub serves : Serves s lines
+  pub serves : StoreServes s lines
 
 pub connect-is : (lines : List TranscriptLine) (c : ℕ) (bytes : List ℕ) (r : ConnectRequest) → frame c 0 lines ≡ Some bytes → read_connect bytes ≡ Some r → connect c lines ≡ Some r
 connect-is lines c bytes r f e = ap (option_and_then read_connect) f ∙ e
@@ -101,7 +101,7 @@ module _ (s : Store) (lines : List TranscriptLine) (c : ℕ) (x : Connect) (k : 
     past = (let le = zxid-within s lines k.serves in omega (arith, ints, le, past));
   }
 
-  pub connect-bound : (p : Phase) (q : Ask) → RestsOn s (after lines).zxid x.request p → asked_in x p ≡ Some q → IsBoundAs s lines (kind_of_connect c x p) q
+  pub connect-bound : (p : Phase) (q : Ask) → RestsOn s (after lines).zxid x.request p → asked_in_phase x p ≡ Some q → IsBoundAs s lines (kind_of_connect c x p) q
   connect-bound Unasked q r e = absurd r
   connect-bound Looking q r e = subst (IsBoundAs s lines None) (some_is e) (record { success = ranges-read (pos 0) (first_wants x.request); failure = refl })
   connect-bound Granting q r e = subst (IsBoundAs s lines None) (some_is e) tt
@@ -153,7 +153,7 @@ new-attaches c z id = record { attaches = ap (λ b. when b (record { zxid = z; s
 anew-attaches : (c : ℕ) (z id : ℤ) → IsAttachLine c z id (Attach id c)
 anew-attaches c z id = record { attaches = ap (λ b. when b (record { zxid = z; session = id })) (same-nat c); no_index = refl }
 
-module _ (s u : Store) (lines : List TranscriptLine) (c : ℕ) (core : Core) (x : Connect) (a : Asking) (b : Answer) (w : Serves s lines) (h : carry s a.ask ≡ Some (u, b)) (k : IsConnecting s lines c core x (Some (Out a)))
+module _ (s u : Store) (lines : List TranscriptLine) (c : ℕ) (core : Core) (x : Connect) (a : Asking) (b : Answer) (w : StoreServes s lines) (h : carry s a.ask ≡ Some (u, b)) (k : IsConnecting s lines c core x (Some (Out a)))
     (small : HasSmallFrames lines c) where
   out : IsConnectOut s lines c x a
   out = k.flies
@@ -164,13 +164,13 @@ module _ (s u : Store) (lines : List TranscriptLine) (c : ℕ) (core : Core) (x 
       record { untouched = k.untouched; unattached = out.unattached; bytes = k.bytes; framed = f; small = small 0 k.bytes f; reads = k.reads; serves = w }
 
   bound-at : (p : Phase) → x.phase ≡ p → IsBoundAs s lines (kind_of_connect c x p) a.ask
-  bound-at p e = connect-bound s lines c x awaiting p a.ask (subst (RestsOn s (after lines).zxid x.request) e out.rests) (ap (asked_in x) (sym e) ∙ out.asked)
+  bound-at p e = connect-bound s lines c x awaiting p a.ask (subst (RestsOn s (after lines).zxid x.request) e out.rests) (ap (asked_in_phase x) (sym e) ∙ out.asked)
 
   -- the connection after that
   abbrev Carries_to : List TranscriptLine → Type 0
   Carries_to ls = IsConnecting u ls c core x (Some (Carried b))
 
-  answer-in : (more : List TranscriptLine) → Serves u (lines ++ more) → Precedes s u → HasOwnLine (lines ++ more) c x x.phase b → IsConnectAnswer u (lines ++ more) c k.place x b
+  answer-in : (more : List TranscriptLine) → StoreServes u (lines ++ more) → Precedes s u → HasOwnLine (lines ++ more) c x x.phase b → IsConnectAnswer u (lines ++ more) c k.place x b
   answer-in more v p own =
       let whole : state_at (lines ++ more) (length (lines ++ more)) ≡ after (lines ++ more) = ap after (take-length (lines ++ more)) in
       let up = zxid-rises lines more w.legal v.legal in
@@ -195,7 +195,7 @@ module _ (s u : Store) (lines : List TranscriptLine) (c : ℕ) (core : Core) (x 
   -- no line
   none-added : u.revisions ≡ s.revisions → update_lines s u a.kind ≡ [] → HasOwnLine lines c x x.phase b → Carries_to (lines ++ update_lines s u a.kind)
   none-added same no_line own =
-      let v : Serves u lines = serves-same s u lines same w in
+      let v : StoreServes u lines = serves-same s u lines same w in
       let nil : lines ++ [] ≡ lines = append-nil lines in
       subst (λ l. Carries_to (lines ++ l)) (sym no_line) (subst Carries_to (sym nil) (record {
         untouched = k.untouched;
@@ -205,7 +205,7 @@ module _ (s u : Store) (lines : List TranscriptLine) (c : ℕ) (core : Core) (x 
         bytes = k.bytes;
         framed = k.framed;
         reads = k.reads;
-        flies = subst (λ l. IsConnectAnswer u l c k.place x b) nil (answer-in [] (subst (Serves u) (sym nil) v) (same-precedes s u same) (subst (λ l. HasOwnLine l c x x.phase b) (sym nil) own));
+        flies = subst (λ l. IsConnectAnswer u l c k.place x b) nil (answer-in [] (subst (StoreServes u) (sym nil) v) (same-precedes s u same) (subst (λ l. HasOwnLine l c x x.phase b) (sym nil) own));
       }))
 
   read-out : (p : Phase) → x.phase ≡ p → kind_of_connect c x p ≡ None → HasOwnLine lines c x x.phase b → Carries_to (lines ++ update_lines s u a.kind)
@@ -228,7 +228,7 @@ module _ (s u : Store) (lines : List TranscriptLine) (c : ℕ) (core : Core) (x 
         subst (λ m. Carries_to (lines ++ m)) (sym same) (record {
           untouched = record {
             silent = packets-append c lines (line_of s kind ∷ []) ∙ append-nil (packets c lines) ∙ (k.untouched).silent;
-            turn = ahead-push lines (line_of s kind) c 1 (ap (is_below 1) (line (next_revision s)).no_index) (k.untouched).turn;
+            turn = ahead-push lines (line_of s kind) c 1 (ap (is_below_place 1) (line (next_revision s)).no_index) (k.untouched).turn;
             offered = first_shown-push (open_shown c) lines (line_of s kind ∷ []) (x.fresh.id, x.fresh.passwd) (k.untouched).offered;
             offer = (k.untouched).offer;
           };
@@ -296,7 +296,7 @@ module _ (s u : Store) (lines : List TranscriptLine) (c : ℕ) (core : Core) (x 
       of_kind = out.kind ∙ ap (kind_of_connect c x) e
 
       of_txn : a.ask ≡ ask.Txn (new_session_txn x.fresh (timeout_in x))
-      of_txn = some_is (sym out.asked ∙ ap (asked_in x) e)
+      of_txn = some_is (sym out.asked ∙ ap (asked_in_phase x) e)
 
       bound : IsBound s lines (NewSession x.fresh.id c) (new_session_txn x.fresh (timeout_in x)) × (only_reads (new_session_txn x.fresh (timeout_in x)).failure ≡ true)
       bound = subst (IsBoundAs s lines (Some (NewSession x.fresh.id c))) of_txn (bound-at Creating e)
@@ -330,7 +330,7 @@ module _ (s u : Store) (lines : List TranscriptLine) (c : ℕ) (core : Core) (x 
       of_kind = out.kind ∙ ap (kind_of_connect c x) e
 
       of_txn : a.ask ≡ ask.Txn (attach_txn x.request.session seen life)
-      of_txn = some_is (sym out.asked ∙ ap (asked_in x) e)
+      of_txn = some_is (sym out.asked ∙ ap (asked_in_phase x) e)
 
       bound : IsBound s lines (Attach x.request.session c) (attach_txn x.request.session seen life) × (only_reads (attach_txn x.request.session seen life).failure ≡ true)
       bound = subst (IsBoundAs s lines (Some (Attach x.request.session c))) of_txn (bound-at (Attaching seen life) e)

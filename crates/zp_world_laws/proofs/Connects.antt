@@ -32,7 +32,7 @@ use Rattle.zp_world_laws.proofs.Commits.{stands-now, zxid-next}
 use Rattle.zp_world_laws.proofs.Packets.{both-true}
 use Rattle.zp_world_laws.proofs.Plans.{number-is}
 use Rattle.zp_world_laws.specs.Bounds.{IsBoundAttach, IsBoundNew, IsBoundReap, IsUnattached, WasLifeOf}
-use Rattle.zp_world_laws.specs.Serving.{Commits, GuardsHold, Serves, next_revision}
+use Rattle.zp_world_laws.specs.Serving.{Commits, GuardsHold, StoreServes, next_revision}
 
 small-is : (n : ℕ) → n ≤ max_frame → nat_le n max_frame ≡ true
 small-is n le = grind (arith, nat_tests)
@@ -56,7 +56,7 @@ four a b c d e x y z u v = both-true (a && b && c && d) e (both-true (a && b && 
 
 -- ---- a new session
 
-pub new-commits : (s : Store) (lines : List TranscriptLine) (c : ℕ) (id : ℤ) (t : TxnReq) → Serves s lines → next_revision s ≤ℤ last_revision → IsBoundNew s lines c id t → GuardsHold s t → Commits s lines (NewSession id c) t
+pub new-commits : (s : Store) (lines : List TranscriptLine) (c : ℕ) (id : ℤ) (t : TxnReq) → StoreServes s lines → next_revision s ≤ℤ last_revision → IsBoundNew s lines c id t → GuardsHold s t → Commits s lines (NewSession id c) t
 unfolding may_update updated
 new-commits s lines c id t w room b h =
     let z = next_revision s in
@@ -88,7 +88,7 @@ resumed r id x p own alive a b =
     (both-true (int_eq id r.session) (bytes_eq r.passwd x.passwd) (same-int id r.session (sym own)) ((bytes_eq-Decides r.passwd x.passwd).1 (sym (a ∙ b))))
     (ap not alive)
 
-pub attach-commits : (s : Store) (lines : List TranscriptLine) (c : ℕ) (id : ℤ) (t : TxnReq) → Serves s lines → next_revision s ≤ℤ last_revision → IsBoundAttach s lines c id t → GuardsHold s t → Commits s lines (Attach id c) t
+pub attach-commits : (s : Store) (lines : List TranscriptLine) (c : ℕ) (id : ℤ) (t : TxnReq) → StoreServes s lines → next_revision s ≤ℤ last_revision → IsBoundAttach s lines c id t → GuardsHold s t → Commits s lines (Attach id c) t
 unfolding may_update updated
 attach-commits s lines c id t w room b h =
     let z = next_revision s in
@@ -105,7 +105,7 @@ attach-commits s lines c id t w room b h =
 
 -- ---- the end of a session that has lapsed
 
-pub reap-commits : (s : Store) (lines : List TranscriptLine) (id : ℤ) (t : TxnReq) → Serves s lines → next_revision s ≤ℤ last_revision → IsBoundReap s id t → GuardsHold s t → Commits s lines (Reaped id) t
+pub reap-commits : (s : Store) (lines : List TranscriptLine) (id : ℤ) (t : TxnReq) → StoreServes s lines → next_revision s ≤ℤ last_revision → IsBoundReap s id t → GuardsHold s t → Commits s lines (Reaped id) t
 unfolding may_update updated
 reap-commits s lines id t w room b h =
     let z = next_revision s in

@@ -8,7 +8,7 @@ use Rattle.std.proofs.lemmas.Int.{ints}
 use Rattle.std.proofs.lemmas.List.{length-append}
 use Rattle.std.specs.FinMap.{get, remove}
 use Rattle.ev_types.proofs.Lapsed.{foreign-earlier, foreign-one, lapse-earlier}
-use Rattle.ev_types.specs.Denials.{carry, has_lease, is_full}
+use Rattle.ev_types.specs.Denials.{carry, has_lease, is_full_store}
 use Rattle.ev_types.specs.Lapses.{foreign, lapse, leased_keys, removals}
 use Rattle.ev_types.specs.Store.{Change, Store, grown, present, revision}
 use Rattle.ev_types.specs.declared.answer.Answer.{Answer}
@@ -37,7 +37,7 @@ use Rattle.zp_world_laws.proofs.Growing.{same-precedes, serves-lapse, serves-sil
 use Rattle.zp_world_laws.proofs.Lines.{line-holds, same-air, silent-holds}
 use Rattle.zp_world_laws.proofs.Numbers.{conn-here, conn-there, either-number, left-same, left-some, of-same, slice-set}
 use Rattle.zp_world_laws.specs.Holding.{Holds, Left, Of, Source, air, left_in, out_in, out_of}
-use Rattle.zp_world_laws.specs.Serving.{Serves, kind_lines, update_lines}
+use Rattle.zp_world_laws.specs.Serving.{StoreServes, kind_lines, update_lines}
 
 -- ---- the clock, and other users
 
@@ -103,7 +103,7 @@ chosen-is false x u h = some_is h
 lapse-lengths : (s u : Store) (id : ℤ) → lapse s id ≡ Some u → (length s.revisions ≤ length u.revisions) × (length u.revisions ≤ length s.revisions + 1)
 unfolding lapse
 lapse-lengths s u id h =
-    let e = chosen-is (not (has_lease s id) || is_full s (removals (leased_keys s id))) _ u h in
+    let e = chosen-is (not (has_lease s id) || is_full_store s (removals (leased_keys s id))) _ u h in
     subst (λ (t : Store). (length s.revisions ≤ length t.revisions) × (length t.revisions ≤ length s.revisions + 1)) e (within-one (record s { leases = remove s.leases id }) (removals (leased_keys s id)))
 
 pub lapse-precedes : (s u : Store) (id : ℤ) → lapse s id ≡ Some u → Precedes s u × (length u.revisions ≤ length s.revisions + 1)
@@ -182,7 +182,7 @@ executes-holds w w' c ex h = go (carry w.store (ex.asking).ask) refl ex.carries
         let l : IsLaidOver w ex.mid c ex.conn Denied w' = record { conns = ap (λ (v : World). v.conns) p.1; strays = ap (λ (v : World). v.strays) p.1; is = ex.result ∙ ap (λ f. with_conn ex.mid c (record (ex.conn) { flight = Some f })) p.0 } in
         let store : w'.store ≡ w.store = ap (λ (v : World). v.store) ex.result ∙ ap (λ (v : World). v.store) p.1 in
         let lines : w'.lines ≡ w.lines = ap (λ (v : World). v.lines) ex.result ∙ ap (λ (v : World). v.lines) p.1 in
-        silent-holds w w' (same-precedes w.store w'.store (ap (λ (s : Store). s.revisions) store)) (subst (λ s. Serves s w.lines) (sym store) h.serves) lines
+        silent-holds w w' (same-precedes w.store w'.store (ap (λ (s : Store). s.revisions) store)) (subst (λ s. StoreServes s w.lines) (sym store) h.serves) lines
         (same-air w w' (λ o z g. (over-air w ex.mid c ex.conn Denied w' refl l o z g).1)) h
     go (Some r) e p =
         let st = stored-in w ex.mid r.0 (ex.asking).kind p.1 in
@@ -228,7 +228,7 @@ stray-holds w w' k ex h = go (carry w.store (ex.asking).ask) refl ex.carries
     go None e p =
         let store : w'.store ≡ w.store = ap (λ (v : World). v.store) ex.result ∙ ap (λ (v : World). v.store) p.1 in
         let lines : w'.lines ≡ w.lines = ap (λ (v : World). v.lines) ex.result ∙ ap (λ (v : World). v.lines) p.1 in
-        silent-holds w w' (same-precedes w.store w'.store (ap (λ (s : Store). s.revisions) store)) (subst (λ s. Serves s w.lines) (sym store) h.serves) lines
+        silent-holds w w' (same-precedes w.store w'.store (ap (λ (s : Store). s.revisions) store)) (subst (λ s. StoreServes s w.lines) (sym store) h.serves) lines
         (same-air w w' (λ o z g. (stray-air w ex.mid (k - 1) w' (ap (λ (v : World). v.conns) p.1) (ap (λ (v : World). v.strays) p.1) ex.result o z g).1)) h
     go (Some r) e p =
         let st = stored-in w ex.mid r.0 (ex.asking).kind p.1 in

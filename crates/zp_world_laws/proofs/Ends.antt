@@ -16,7 +16,7 @@ use Rattle.zp_script.specs.Effects.{EndsBy, LagsBy}
 use Rattle.zp_script.specs.Handing.{FailureComes, FailureComesTo, Handed, landed, landed_conn}
 use Rattle.zp_script.specs.Kinds.{kind_asked}
 use Rattle.zp_script.specs.StepOutcomes.{acts_all, ends, leaves, quiet}
-use Rattle.zp_script.specs.Worlds.{Actor, Closed, Conn, Connection, Reaper, World, after_step, conn_at, is_closed, with_conn}
+use Rattle.zp_script.specs.Worlds.{Actor, Closed, Conn, Connection, Reaper, World, after_step, conn_at, is_closed_actor, with_conn}
 use Rattle.zp_script.specs.declared.flight.Asking.{Asking}
 use Rattle.zx_base.proofs.Options.{none_some, some_is}
 use Rattle.zp_world_laws.proofs.Closing.{AreShown, But, but-of, ends-whole}
@@ -69,7 +69,7 @@ landed-but w c x there h =
   where
     still : (w1 : World) → w1 ≡ with_conn w c (record x { flight = None }) → (d : ℕ) → IsClosedAt w d → IsClosedAt w1 d
     still w1 is d t = elim (either-number d c) [
-      | inl same ↦ (record x { flight = None }, ap (conn_at d) is ∙ ap (λ n. conn_at n (with_conn w c (record x { flight = None }))) same ∙ conn-here w c (record x { flight = None }), ap (λ (y : Conn). is_closed y.actor) (some_is (sym there ∙ ap (λ n. conn_at n w) (sym same) ∙ t.1)) ∙ t.2)
+      | inl same ↦ (record x { flight = None }, ap (conn_at d) is ∙ ap (λ n. conn_at n (with_conn w c (record x { flight = None }))) same ∙ conn-here w c (record x { flight = None }), ap (λ (y : Conn). is_closed_actor y.actor) (some_is (sym there ∙ ap (λ n. conn_at n w) (sym same) ∙ t.1)) ∙ t.2)
       | inr apart ↦ closed-same w w1 d (ap (conn_at d) is ∙ conn-there w c d (record x { flight = None }) apart) t
     ]
 

@@ -16,7 +16,7 @@ use Rattle.zk_transcript.specs.declared.transcript.UpdateRec.{UpdateRec}
 use Rattle.zn_layout.specs.declared.entry.Entry.{Entry}
 use Rattle.zp_step.specs.declared.wants.Wants.TheVariants as wants
 use Rattle.zp_step.specs.Stages.{Core, Stage, Unconnected, Connecting, Ready, KeepingAlive, Checking, Reading, Committing, Waiting, Shut, wanted_in, wants_of}
-use Rattle.zp_laws.specs.Inputs.{IsEntryOf, IsTrueEntry, takes_entries}
+use Rattle.zp_laws.specs.Inputs.{IsEntryOfLines, IsTrueEntry, takes_entries}
 use Rattle.zp_laws.specs.Standing.{Knows}
 use Rattle.zk_transcript.specs.Walks.{Walker}
 use Rattle.zp_script.specs.Entries.{cursor_at, cursor_of, cursor_wanted, entry_after, next_entry}
@@ -46,9 +46,9 @@ use Rattle.zp_world_laws.proofs.Growing.{slice_get-one}
 use Rattle.zp_world_laws.proofs.Looking.{get-last}
 use Rattle.zp_world_laws.proofs.Moments.{whole}
 use Rattle.zp_world_laws.specs.Holding.{Holds}
-use Rattle.zp_world_laws.specs.Serving.{Serves}
+use Rattle.zp_world_laws.specs.Serving.{StoreServes}
 use Rattle.zx_base.proofs.Options.{none_some, some_is}
-use Rattle.zp_world_laws.specs.Connections.{IsServing}
+use Rattle.zp_world_laws.specs.Connections.{IsServingConn}
 use Rattle.zp_world_laws.specs.Entering.{AreEntries}
 
 -- ---- the next entry is true
@@ -80,11 +80,11 @@ awaits s lines c core w looked (Reading xid q v ws) z k h = absurd (none_some h)
 awaits s lines c core w looked (Committing xid q v p m) z k h = absurd (none_some h)
 awaits s lines c core w looked Shut z k h = absurd (none_some h)
 
-after-true : (lines : List TranscriptLine) (entries : List Entry) (z : ℤ) (e : Entry) → AreEntries lines entries → entry_after entries z ≡ Some e → IsEntryOf lines e × (e.number ≡ z +ℤ pos 1)
+after-true : (lines : List TranscriptLine) (entries : List Entry) (z : ℤ) (e : Entry) → AreEntries lines entries → entry_after entries z ≡ Some e → IsEntryOfLines lines e × (e.number ≡ z +ℤ pos 1)
 after-true lines entries (pos n) e all h = let a = all.each n e h in (a.0, a.1 ∙ ap pos (omega arith))
 after-true lines entries (negsuc n) e all h = absurd (none_some h)
 
-pub next-true : (w : World) (c : ℕ) (x : Conn) (core : Core) (e : Entry) → conn_at c w ≡ Some x → x.actor ≡ Connection core → IsServing w.store w.lines c core x.flight → AreEntries w.lines w.entries → next_entry c w ≡ Some e → IsTrueEntry w.lines core e
+pub next-true : (w : World) (c : ℕ) (x : Conn) (core : Core) (e : Entry) → conn_at c w ≡ Some x → x.actor ≡ Connection core → IsServingConn w.store w.lines c core x.flight → AreEntries w.lines w.entries → next_entry c w ≡ Some e → IsTrueEntry w.lines core e
 next-true w c x core e there actor k all next = go (cursor_at c w) refl next
   where
     cursor_is : cursor_at c w ≡ cursor_wanted (wants_of core)
@@ -99,7 +99,7 @@ next-true w c x core e there actor k all next = go (cursor_at c w) refl next
 
 -- ---- lines more
 
-entry-push : (lines more : List TranscriptLine) (e : Entry) → IsEntryOf lines e → IsEntryOf (lines ++ more) e
+entry-push : (lines more : List TranscriptLine) (e : Entry) → IsEntryOfLines lines e → IsEntryOfLines (lines ++ more) e
 entry-push lines more e o =
     let within = slice_get_within lines o.place (Update o.update) o.shown in
     record {
@@ -132,7 +132,7 @@ triggers-are (Some kv) s ts h (None, read, is) = absurd (read (record { triggers
 triggers-are (Some kv) s ts h (Some r, read, is) = is ∙ head_value-injective r.triggers s.triggers read.0 h.fits (sym read.1 ∙ h.value)
 
 last-entry : (lines : List TranscriptLine) (u : UpdateRec) (entries : List Entry) (s : Store) (e : Entry) → is_legal lines ≡ true → is_legal (lines ++ Update u ∷ []) ≡ true → u.zxid ≡ zxid_at s → StandsFor (present s) (after (lines ++ Update u ∷ [])) → length entries ≡ (after lines).updates
-    → IsEntryOfHead (length entries + 1) (at (present s) HeadKey) e → IsEntryOf (lines ++ Update u ∷ []) e
+    → IsEntryOfHead (length entries + 1) (at (present s) HeadKey) e → IsEntryOfLines (lines ++ Update u ∷ []) e
 last-entry lines u entries s e a b z st count h =
     let n : (after (lines ++ Update u ∷ [])).updates ≡ length entries + 1 = count-push lines u a b ∙ ap (λ n. n + 1) (sym count) in
     record {
@@ -150,13 +150,13 @@ entries-update lines u entries s e a b z st all h = record {
   count = length-append entries (e ∷ []) ∙ ap (λ n. n + 1) all.count ∙ sym (count-push lines u a b);
   each = λ n x g. elim (slice_get-one entries e x n g) [
     | inl old ↦ (let o = all.each n x old in (entry-push lines (Update u ∷ []) x o.0, o.1))
-    | inr new ↦ subst (λ y. IsEntryOf (lines ++ Update u ∷ []) y × (y.number ≡ pos (n + 1))) new.1
+    | inr new ↦ subst (λ y. IsEntryOfLines (lines ++ Update u ∷ []) y × (y.number ≡ pos (n + 1))) new.1
         (last-entry lines u entries s e a b z st all.count h, h.number ∙ ap (λ m. pos (m + 1)) (sym new.0))
   ];
 }
 
 -- where the store is this one from now on
-pub stored-entries : (w mid : World) (s : Store) (kind : Option UpdateKind) → HasStore w s kind mid → Serves w.store w.lines → Serves mid.store mid.lines → AreEntries w.lines w.entries → AreEntries mid.lines mid.entries
+pub stored-entries : (w mid : World) (s : Store) (kind : Option UpdateKind) → HasStore w s kind mid → StoreServes w.store w.lines → StoreServes mid.store mid.lines → AreEntries w.lines w.entries → AreEntries mid.lines mid.entries
 stored-entries w mid s kind h before now all = go (int_eq (zxid_at w.store) (zxid_at s)) kind h
   where
     same : mid ≡ record w { store = s } → AreEntries mid.lines mid.entries
@@ -168,22 +168,22 @@ stored-entries w mid s kind h before now all = go (int_eq (zxid_at w.store) (zxi
     go false (Some k) (e, of, is) =
         let u : UpdateRec = record { zxid = zxid_at s; kind = k } in
         let v : World = record w { store = s; lines = w.lines ++ Update u ∷ []; entries = w.entries ++ e ∷ [] } in
-        let serves : Serves s (w.lines ++ Update u ∷ []) = subst (λ (y : World). Serves y.store y.lines) is now in
+        let serves : StoreServes s (w.lines ++ Update u ∷ []) = subst (λ (y : World). StoreServes y.store y.lines) is now in
         subst (λ (y : World). AreEntries y.lines y.entries) (sym is)
         (entries-update w.lines u w.entries s e before.legal serves.legal refl (stands-now s (w.lines ++ Update u ∷ []) serves) all of)
 
-carried-entries : (w mid : World) (kind : Option UpdateKind) (f : Flight) (o : Option (Store × Answer)) → CarriedBy w kind f mid o → Serves w.store w.lines → Serves mid.store mid.lines → AreEntries w.lines w.entries → AreEntries mid.lines mid.entries
+carried-entries : (w mid : World) (kind : Option UpdateKind) (f : Flight) (o : Option (Store × Answer)) → CarriedBy w kind f mid o → StoreServes w.store w.lines → StoreServes mid.store mid.lines → AreEntries w.lines w.entries → AreEntries mid.lines mid.entries
 carried-entries w mid kind f None (e, same) before now all = subst (λ (v : World). AreEntries v.lines v.entries) (sym same) all
 carried-entries w mid kind f (Some r) (e, has) before now all = stored-entries w mid r.0 kind has before now all
 
 pub exec-entries : (w w' : World) (c : ℕ) → Executes c w w' → Holds w → AreEntries w.lines w.entries → AreEntries w'.lines w'.entries
 exec-entries w w' c ex h all =
-    let now : Serves ex.mid.store ex.mid.lines = subst (λ (v : World). Serves v.store v.lines) ex.result ((executes-holds w w' c ex h).serves) in
+    let now : StoreServes ex.mid.store ex.mid.lines = subst (λ (v : World). StoreServes v.store v.lines) ex.result ((executes-holds w w' c ex h).serves) in
     subst (λ (v : World). AreEntries v.lines v.entries) (sym ex.result) (carried-entries w ex.mid (ex.asking).kind ex.flight (carry w.store (ex.asking).ask) ex.carries h.serves now all)
 
 pub stray-entries : (w w' : World) (k : ℕ) → ExecutesStray k w w' → Holds w → AreEntries w.lines w.entries → AreEntries w'.lines w'.entries
 stray-entries w w' k ex h all =
-    let now : Serves ex.mid.store ex.mid.lines = subst (λ (v : World). Serves v.store v.lines) ex.result ((stray-holds w w' k ex h).serves) in
+    let now : StoreServes ex.mid.store ex.mid.lines = subst (λ (v : World). StoreServes v.store v.lines) ex.result ((stray-holds w w' k ex h).serves) in
     subst (λ (v : World). AreEntries v.lines v.entries) (sym ex.result) (carried-entries w ex.mid (ex.asking).kind ex.flight (carry w.store (ex.asking).ask) ex.carries h.serves now all)
 
 -- ---- before anything happened
@@ -195,6 +195,6 @@ first-entries w (s, a, e, is) = subst (λ (v : World). AreEntries v.lines v.entr
   each = each;
 })
   where
-    each : (n : ℕ) (x : Entry) → slice_get (first_entry ∷ []) n ≡ Some x → IsEntryOf (begin_lines 0) x × (x.number ≡ pos (n + 1))
-    each zero x h = subst (λ (y : Entry). IsEntryOf (begin_lines 0) y × (y.number ≡ pos 1)) (some_is h) (record { place = 0; update = record { zxid = pos 2; kind = Begin 0 }; shown = refl; zxid = refl; number = refl; triggers = refl }, refl)
+    each : (n : ℕ) (x : Entry) → slice_get (first_entry ∷ []) n ≡ Some x → IsEntryOfLines (begin_lines 0) x × (x.number ≡ pos (n + 1))
+    each zero x h = subst (λ (y : Entry). IsEntryOfLines (begin_lines 0) y × (y.number ≡ pos 1)) (some_is h) (record { place = 0; update = record { zxid = pos 2; kind = Begin 0 }; shown = refl; zxid = refl; number = refl; triggers = refl }, refl)
     each (suc n) x h = absurd (none_some h)

@@ -21,13 +21,13 @@ use Rattle.zk_transcript.proofs.Attachments.{attach_of-push}
 use Rattle.zk_transcript.proofs.Lookups.{first_place-new}
 use Rattle.zk_transcript.proofs.Walks.{state_at-push}
 use Rattle.zk_transcript.specs.History.{after, state_at, when}
-use Rattle.zk_transcript.specs.Legal.{attach_of, index_in, is_below, is_legal}
+use Rattle.zk_transcript.specs.Legal.{attach_of, index_in, is_below_place, is_legal}
 use Rattle.zk_transcript.specs.Walks.{Walker, is_not_overtaken, own_update, own_update_shown, packets}
 use Rattle.zk_transcript.specs.declared.transcript.TranscriptLine.{TranscriptLine}
 use Rattle.zk_transcript.specs.declared.transcript.TranscriptLine.TheVariants.{Update}
 use Rattle.zk_transcript.specs.declared.transcript.UpdateKind.{UpdateKind}
 use Rattle.zk_transcript.specs.declared.transcript.UpdateKind.TheVariants.{Asked, Closed}
-use Rattle.zn_layout.specs.Changes.{Change}
+use Rattle.zn_layout.specs.Changes.{KeyChange}
 use Rattle.zn_layout.specs.StandsFor.{StandsFor}
 use Rattle.zn_layout.specs.Updates.{update_txn}
 use Rattle.zn_layout.proofs.Commits.{committed}
@@ -54,9 +54,9 @@ use Rattle.zp_world_laws.proofs.Packets.{packets-append}
 use Rattle.zp_world_laws.proofs.Talking.{ahead-push, own-none, talks-push}
 use Rattle.zp_world_laws.proofs.Transactions.{txn-answered, txn-reads}
 use Rattle.zp_world_laws.specs.Bounds.{IsBound, IsBoundAs, IsBoundAsk, attachment}
-use Rattle.zp_world_laws.specs.Connections.{IsServing}
+use Rattle.zp_world_laws.specs.Connections.{IsServingConn}
 use Rattle.zp_world_laws.specs.Holding.{Indexed, Talks, requested_by}
-use Rattle.zp_world_laws.specs.Serving.{Serves, next_revision, only_reads, update_lines}
+use Rattle.zp_world_laws.specs.Serving.{StoreServes, next_revision, only_reads, update_lines}
 
 -- ---- before a first answer, the moment of what a stage holds is free
 
@@ -108,14 +108,14 @@ precedes-self s = record { longer = omega arith; same = λ r le. refl }
 
 -- ---- nothing was written
 
-still-serving : (s u : Store) (lines : List TranscriptLine) (c : ℕ) (core : Core) (x : Asking) (b : Answer) → Serves s lines → u.revisions ≡ s.revisions → (k : IsServing s lines c core (Some (Out x))) → carry s x.ask ≡ Some (u, b)
-    → ((w : Walker) (m : ℕ) → own_update c core.next lines ≡ None → IsOwn lines c core w s m core.stage b) → IsServing u lines c core (Some (Carried b))
+still-serving : (s u : Store) (lines : List TranscriptLine) (c : ℕ) (core : Core) (x : Asking) (b : Answer) → StoreServes s lines → u.revisions ≡ s.revisions → (k : IsServingConn s lines c core (Some (Out x))) → carry s x.ask ≡ Some (u, b)
+    → ((w : Walker) (m : ℕ) → own_update c core.next lines ≡ None → IsOwn lines c core w s m core.stage b) → IsServingConn u lines c core (Some (Carried b))
 still-serving s u lines c core x b w same k h own = go (is_first core.stage) refl
   where
     p : Precedes s u
     p = same-precedes s u same
 
-    serves : Serves u lines
+    serves : StoreServes u lines
     serves = serves-same s u lines same w
 
     none : own_update c core.next lines ≡ None
@@ -152,7 +152,7 @@ still-serving s u lines c core x b w same k h own = go (is_first core.stage) ref
       ahead = λ r. subst (λ l. is_ahead l c core.next ≡ true) (sym (append-nil lines)) (k.flies).ahead;
     }) t)
 
-    go : (first : Bool) → is_first core.stage ≡ first → IsServing u lines c core (Some (Carried b))
+    go : (first : Bool) → is_first core.stage ≡ first → IsServingConn u lines c core (Some (Carried b))
     go true e = record {
       place = k.place;
       attached = k.attached;
@@ -216,9 +216,9 @@ same-index : (c i d j : ℕ) → ◌≡◌ {A = Option Indexed} (Some (record { 
 same-index c i d j e = (ap (λ (p : Indexed). p.connection) (some_is e), ap (λ (p : Indexed). p.index) (some_is e))
 
 -- the line that is added is the next request's
-commit-serving : (s u : Store) (lines : List TranscriptLine) (c : ℕ) (core : Core) (a : Asking) (b : Answer) (xid : ℤ) (q : Request) (v : View) (p : Plan) (m : ℕ) → core.stage ≡ Committing xid q v p m → Serves s lines
-    → (k : IsServing s lines c core (Some (Out a))) → carry s a.ask ≡ Some (u, b) → Precedes s u → Committed s u lines (kind_of_request c core.next core.who.session m q) → (parts : List ActAns) → b ≡ answer.Txn (revision u) true parts
-    → IsServing u (lines ++ line_of s (kind_of_request c core.next core.who.session m q) ∷ []) c core (Some (Carried b))
+commit-serving : (s u : Store) (lines : List TranscriptLine) (c : ℕ) (core : Core) (a : Asking) (b : Answer) (xid : ℤ) (q : Request) (v : View) (p : Plan) (m : ℕ) → core.stage ≡ Committing xid q v p m → StoreServes s lines
+    → (k : IsServingConn s lines c core (Some (Out a))) → carry s a.ask ≡ Some (u, b) → Precedes s u → Committed s u lines (kind_of_request c core.next core.who.session m q) → (parts : List ActAns) → b ≡ answer.Txn (revision u) true parts
+    → IsServingConn u (lines ++ line_of s (kind_of_request c core.next core.who.session m q) ∷ []) c core (Some (Carried b))
 commit-serving s u lines c core a b xid q v p m e w k h x done parts right = record {
   place = k.place;
   attached = attached;
@@ -276,11 +276,11 @@ commit-serving s u lines c core a b xid q v p m e w k h x done parts right = rec
       still_legal = legal;
       before = x;
       own = λ y g. (let n : Committing xid q v p m ≡ Waiting y = sym e ∙ g in absurd (cc));
-      turn = ahead-push lines l c (core.next + 1) (ap (is_below (core.next + 1)) r.index ∙ next-below core.next) (k.stands).turn;
+      turn = ahead-push lines l c (core.next + 1) (ap (is_below_place (core.next + 1)) r.index ∙ next-below core.next) (k.stands).turn;
       ahead = λ g. (let n : Committing xid q v p m ≡ Ready = sym e ∙ g in absurd (cc));
     }) (relook s lines c core k.walker k.looked (length lines + 1) (ap is_first e) k.stands)
       where
-        next-below : (n : ℕ) → is_below (n + 1) (Some n) ≡ true
+        next-below : (n : ℕ) → is_below_place (n + 1) (Some n) ≡ true
         next-below n = grind (arith, nat_tests)
 
     later : IsMoment (lines ++ l ∷ []) c core.who k.walker (length (lines ++ l ∷ []))
@@ -305,12 +305,12 @@ commit-serving s u lines c core a b xid q v p m e w k h x done parts right = rec
 
 -- ---- whatever it has out
 
-still-lines : (s u : Store) (lines : List TranscriptLine) (c : ℕ) (core : Core) (f : Option Flight) (kind : Option UpdateKind) → Still s u kind → IsServing u lines c core f → IsServing u (lines ++ update_lines s u kind) c core f
-still-lines s u lines c core f kind q k = subst (λ l. IsServing u l c core f) (sym (ap (λ l. lines ++ l) q.lines ∙ append-nil lines)) k
+still-lines : (s u : Store) (lines : List TranscriptLine) (c : ℕ) (core : Core) (f : Option Flight) (kind : Option UpdateKind) → Still s u kind → IsServingConn u lines c core f → IsServingConn u (lines ++ update_lines s u kind) c core f
+still-lines s u lines c core f kind q k = subst (λ l. IsServingConn u l c core f) (sym (ap (λ l. lines ++ l) q.lines ∙ append-nil lines)) k
 
 -- what is no update
-read-serving : (s u : Store) (lines : List TranscriptLine) (c : ℕ) (core : Core) (x : Asking) (b : Answer) → Serves s lines → IsBoundAsk s lines x → x.kind ≡ None → IsServing s lines c core (Some (Out x)) → carry s x.ask ≡ Some (u, b)
-    → ((w : Walker) (m : ℕ) → own_update c core.next lines ≡ None → IsOwn lines c core w s m core.stage b) → IsServing u (lines ++ update_lines s u x.kind) c core (Some (Carried b))
+read-serving : (s u : Store) (lines : List TranscriptLine) (c : ℕ) (core : Core) (x : Asking) (b : Answer) → StoreServes s lines → IsBoundAsk s lines x → x.kind ≡ None → IsServingConn s lines c core (Some (Out x)) → carry s x.ask ≡ Some (u, b)
+    → ((w : Walker) (m : ℕ) → own_update c core.next lines ≡ None → IsOwn lines c core w s m core.stage b) → IsServingConn u (lines ++ update_lines s u x.kind) c core (Some (Carried b))
 read-serving s u lines c core x b w bound none k h own =
     elim (outcome s u lines x b w (λ kind e. absurd (none_some (sym none ∙ e))) bound h) [
       | inl q ↦ still-lines s u lines c core (Some (Carried b)) x.kind q (still-serving s u lines c core x b w q.revisions k h own)
@@ -318,7 +318,7 @@ read-serving s u lines c core x b w bound none k h own =
     ]
 
 -- where an update's transaction was carried out, the store had room for a revision, since the head was put
-pub update-room : (s u : Store) (guards : List Guard) (cs : List Change) (ts : List Trigger) (again : List Act) (parts : List ActAns) → carry s (ask.Txn (update_txn guards cs ts again)) ≡ Some (u, answer.Txn (revision u) true parts) → revision s <ℤ last_revision
+pub update-room : (s u : Store) (guards : List Guard) (cs : List KeyChange) (ts : List Trigger) (again : List Act) (parts : List ActAns) → carry s (ask.Txn (update_txn guards cs ts again)) ≡ Some (u, answer.Txn (revision u) true parts) → revision s <ℤ last_revision
 update-room s u guards cs ts again parts h = let c = committed s u guards cs ts again (revision u) parts h in omega (arith, ints, c.zxid_is, c.most)
 
 plan-room : (s u : Store) (p : Plan) (parts : List ActAns) → WritesOwnKeys p → carry s (ask.Txn (plan_txn p)) ≡ Some (u, answer.Txn (revision u) true parts) → revision s <ℤ last_revision
@@ -330,8 +330,8 @@ plan-room s u p parts w h =
 bound-plan : (s : Store) (lines : List TranscriptLine) (x : Asking) (kind : UpdateKind) (p : Plan) → x.kind ≡ Some kind → x.ask ≡ transaction p → IsBoundAsk s lines x → IsBound s lines kind (plan_txn p) × (only_reads (plan_txn p).failure ≡ true)
 bound-plan s lines x kind p a b bound = subst (λ q. IsBoundAs s lines (Some kind) q) b (subst (λ o. IsBoundAs s lines o x.ask) a bound)
 
-plan-serving : (s u : Store) (lines : List TranscriptLine) (c : ℕ) (core : Core) (x : Asking) (b : Answer) (xid : ℤ) (q : Request) (v : View) (p : Plan) (m : ℕ) → core.stage ≡ Committing xid q v p m → Serves s lines → IsBoundAsk s lines x
-    → x.kind ≡ Some (kind_of_request c core.next core.who.session m q) → x.ask ≡ transaction p → (k : IsServing s lines c core (Some (Out x))) → carry s x.ask ≡ Some (u, b) → IsServing u (lines ++ update_lines s u x.kind) c core (Some (Carried b))
+plan-serving : (s u : Store) (lines : List TranscriptLine) (c : ℕ) (core : Core) (x : Asking) (b : Answer) (xid : ℤ) (q : Request) (v : View) (p : Plan) (m : ℕ) → core.stage ≡ Committing xid q v p m → StoreServes s lines → IsBoundAsk s lines x
+    → x.kind ≡ Some (kind_of_request c core.next core.who.session m q) → x.ask ≡ transaction p → (k : IsServingConn s lines c core (Some (Out x))) → carry s x.ask ≡ Some (u, b) → IsServingConn u (lines ++ update_lines s u x.kind) c core (Some (Carried b))
 plan-serving s u lines c core x b xid q v p m e w bound of_kind of_ask k h = go (succeeds s (plan_txn p)) refl
   where
     kind : UpdateKind
@@ -349,13 +349,13 @@ plan-serving s u lines c core x b xid q v p m e w bound of_kind of_ask k h = go 
     good : IsGood q core.who m v p
     good = (subst (Knows s lines c core k.walker k.looked) e (k.stands).knows).1.good
 
-    go : (ok : Bool) → succeeds s (plan_txn p) ≡ ok → IsServing u (lines ++ update_lines s u x.kind) c core (Some (Carried b))
+    go : (ok : Bool) → succeeds s (plan_txn p) ≡ ok → IsServingConn u (lines ++ update_lines s u x.kind) c core (Some (Carried b))
     go true g =
         let a = txn-answered s u (plan_txn p) b ht in
         let right : b ≡ answer.Txn (revision u) true a.0 = a.1 ∙ ap (λ ok. answer.Txn (revision u) ok a.0) g in
         let room = plan-room s u p a.0 good.writes (ht ∙ ap (λ y. Some (u, y)) right) in
         let done = plan-commits s u lines kind (plan_txn p) b w room next bp.0 g ht in
-        subst (λ ls. IsServing u (lines ++ ls) c core (Some (Carried b))) (sym (ap (update_lines s u) of_kind ∙ (done.0).line))
+        subst (λ ls. IsServingConn u (lines ++ ls) c core (Some (Carried b))) (sym (ap (update_lines s u) of_kind ∙ (done.0).line))
         (commit-serving s u lines c core x b xid q v p m e w k h done.1 done.0 a.0 right)
     go false g =
         let a = txn-answered s u (plan_txn p) b ht in
@@ -368,8 +368,8 @@ plan-serving s u lines c core x b xid q v p m e w bound of_kind of_ask k h = go 
 own-read : (lines : List TranscriptLine) (c : ℕ) (core : Core) (w : Walker) (s : Store) (j : ℕ) (b : Answer) (st : Stage) → core.stage ≡ st → IsOwn lines c core w s j st b → IsOwn lines c core w s j core.stage b
 own-read lines c core w s j b st e o = subst (λ y. IsOwn lines c core w s j y b) (sym e) o
 
-carried-at : (s u : Store) (lines : List TranscriptLine) (c : ℕ) (core : Core) (x : Asking) (b : Answer) (st : Stage) → core.stage ≡ st → is_served st ≡ true → Serves s lines → IsBoundAsk s lines x
-    → IsServing s lines c core (Some (Out x)) → carry s x.ask ≡ Some (u, b) → asked_of core.who st ≡ Some x.ask → x.kind ≡ kind_in_stage c core st → IsServing u (lines ++ update_lines s u x.kind) c core (Some (Carried b))
+carried-at : (s u : Store) (lines : List TranscriptLine) (c : ℕ) (core : Core) (x : Asking) (b : Answer) (st : Stage) → core.stage ≡ st → is_served st ≡ true → StoreServes s lines → IsBoundAsk s lines x
+    → IsServingConn s lines c core (Some (Out x)) → carry s x.ask ≡ Some (u, b) → asked_of core.who st ≡ Some x.ask → x.kind ≡ kind_in_stage c core st → IsServingConn u (lines ++ update_lines s u x.kind) c core (Some (Carried b))
 carried-at s u lines c core x b (Unconnected f) e served w bound k h o kind = absurd (cc)
 carried-at s u lines c core x b (Connecting ph) e served w bound k h o kind = absurd (cc)
 carried-at s u lines c core x b Ready e served w bound k h o kind = absurd (none_some o)
@@ -380,6 +380,6 @@ carried-at s u lines c core x b (Checking f) e served w bound k h o kind = read-
 carried-at s u lines c core x b (Reading xid q v ws) e served w bound k h o kind = read-serving s u lines c core x b w bound kind k h (λ wk j none. own-read lines c core wk s j b (Reading xid q v ws) e none)
 carried-at s u lines c core x b (Committing xid q v p m) e served w bound k h o kind = plan-serving s u lines c core x b xid q v p m e w bound kind (sym (some_is o)) k h
 
-pub carried-serving : (s u : Store) (lines : List TranscriptLine) (c : ℕ) (core : Core) (x : Asking) (b : Answer) → is_served core.stage ≡ true → Serves s lines → IsBoundAsk s lines x
-    → IsServing s lines c core (Some (Out x)) → carry s x.ask ≡ Some (u, b) → IsServing u (lines ++ update_lines s u x.kind) c core (Some (Carried b))
+pub carried-serving : (s u : Store) (lines : List TranscriptLine) (c : ℕ) (core : Core) (x : Asking) (b : Answer) → is_served core.stage ≡ true → StoreServes s lines → IsBoundAsk s lines x
+    → IsServingConn s lines c core (Some (Out x)) → carry s x.ask ≡ Some (u, b) → IsServingConn u (lines ++ update_lines s u x.kind) c core (Some (Carried b))
 carried-serving s u lines c core x b served w bound k h = carried-at s u lines c core x b core.stage refl served w bound k h (k.flies).asked (k.flies).kind

@@ -20,7 +20,7 @@ use Rattle.zx_base.proofs.Options.{none_some, some_is}
 use Rattle.zp_world_laws.proofs.Moments.{newer}
 use Rattle.zp_world_laws.specs.Connections.{Whole}
 use Rattle.zp_world_laws.specs.Holding.{Left, Of, Source, air, out_of}
-use Rattle.zp_world_laws.specs.Serving.{Serves}
+use Rattle.zp_world_laws.specs.Serving.{StoreServes}
 
 first-legal : is_legal (begin_lines 0) ≡ true
 unfolding is_legal may_update
@@ -33,7 +33,7 @@ first-ordered = refl
 reached : (r : ℕ) → 2 ≤ r → int_le (pos 2) (pos r) ≡ true
 reached r h = grind (arith, nat_tests, ints)
 
-first-serves : (s : Store) → revision s ≡ pos 2 → StandsFor (present s) (after (begin_lines 0)) → Serves s (begin_lines 0)
+first-serves : (s : Store) → revision s ≡ pos 2 → StandsFor (present s) (after (begin_lines 0)) → StoreServes s (begin_lines 0)
 first-serves s rev stands =
     let two : length s.revisions ≡ 2 = omega (arith, ints, rev) in
     record {
@@ -57,7 +57,7 @@ no-air s (Of c) x e = none_some (sym (ap out_of (no-conn s c)) ∙ e)
 no-air s (Left zero) x e = none_some e
 no-air s (Left (suc k)) x e = none_some e
 
-over-whole : (s : Store) → Serves s (begin_lines 0) → Whole (world_over s)
+over-whole : (s : Store) → StoreServes s (begin_lines 0) → Whole (world_over s)
 over-whole s serves = record {
   holds = record {
     serves = serves;

@@ -30,7 +30,7 @@ use Rattle.zp_step.proofs.Shutting.{goes-still, steps-open}
 use Rattle.zp_step.specs.Connects.{Opens, begun, connected, kept_by}
 use Rattle.zp_step.specs.Replies.{Is, closed_by}
 use Rattle.zp_step.specs.Stages.{Checking, Committing, Connecting, Core, KeepingAlive, Reading, Ready, Shut, Stage, Unconnected, Waiting, asked_of, is_shut, max_count}
-use Rattle.zp_step.specs.Steps.{Comes, StepsOpen, counted, queued}
+use Rattle.zp_step.specs.Steps.{Comes, StepsOpen, with_frame_counted, queued}
 use Rattle.zp_step.specs.declared.action.Action.TheVariants as action
 use Rattle.zp_step.specs.declared.action.Action.{Action}
 use Rattle.zp_step.specs.declared.input.Input.TheVariants as input
@@ -48,9 +48,9 @@ use Rattle.zp_world_laws.proofs.Talking.{first_place-front}
 use Rattle.zp_world_laws.proofs.Within.{within-more, within-same}
 use Rattle.zp_world_laws.specs.Bounds.{attachment}
 use Rattle.zp_world_laws.specs.Connecting.{IsInStage, IsUnconnected, RestsOn}
-use Rattle.zp_world_laws.specs.Connections.{IsFlying, IsServing, Whole}
+use Rattle.zp_world_laws.specs.Connections.{IsFlying, IsServingConn, Whole}
 use Rattle.zp_world_laws.specs.Counting.{HasFrames, IsLined}
-use Rattle.zs_session.specs.Connecting.{Waits as ConnectWaits, asked_in}
+use Rattle.zs_session.specs.Connecting.{Waits as ConnectWaits, asked_in_phase}
 use Rattle.zs_session.specs.declared.connect.Connect.{Connect}
 use Rattle.zs_session.specs.declared.connect.ConnectStep.TheVariants as steps
 use Rattle.zs_session.specs.declared.connect.ConnectStep.{ConnectStep}
@@ -145,7 +145,7 @@ module _ (w w' : World) (c : ℕ) (onward : List TranscriptLine) (z : ℤ) (byte
       says : IsInConnection w.lines c → IsInConnection (w.lines ++ said c (sends hd.out)) c
       says q = (let v = h.serving c hd.conn hd.core hd.found hd.serving served in within-more w.lines c hd.conn.frames (sends hd.out) k.lined (v.place, attachment hd.core.who) v.first v.packets_were v.attached v.welcomed q)
 
-      serves : IsServing w.store w.lines c hd.core hd.conn.flight
+      serves : IsServingConn w.store w.lines c hd.core hd.conn.flight
       serves = h.serving c hd.conn hd.core hd.found hd.serving served
 
       ready : IsReadyFor w c hd.conn hd.core (input.Frame bytes)
@@ -178,7 +178,7 @@ module _ (w w' : World) (c : ℕ) (onward : List TranscriptLine) (z : ℤ) (byte
       s = steps-open hd.core hd.next (input.Frame bytes) w.clock hd.out (h.unshut c hd.conn hd.core hd.found hd.serving) hd.stepped
 
       d : Core
-      d = counted hd.core bytes
+      d = with_frame_counted hd.core bytes
 
       mine : IsUnconnected w.lines c hd.core fresh × (hd.conn.flight ≡ None)
       mine = subst (IsInStage w.store w.lines c hd.core hd.conn.flight) e k.stage
@@ -188,9 +188,9 @@ module _ (w w' : World) (c : ℕ) (onward : List TranscriptLine) (z : ℤ) (byte
           let t = goes-still w.clock s.mid hd.next s.later (λ r. unready (ap (λ (u : Core). u.stage) (sym f) ∙ r)) s.goes in
           (t.0 ∙ f, s.joined ∙ ap (λ l. s.first ++ l) t.1 ∙ append-nil s.first ∙ g)
 
-      shut-by : (why : Cause) → Is (closed_by (counted hd.core bytes) why) s.mid s.first → Acts w w' c
+      shut-by : (why : Cause) → Is (closed_by (with_frame_counted hd.core bytes) why) s.mid s.first → Acts w w' c
       shut-by why i =
-          let t = still (record (counted hd.core bytes) { stage = Shut }) (action.Close why ∷ []) i.0 i.1 (λ f. absurd (cc)) in
+          let t = still (record (with_frame_counted hd.core bytes) { stage = Shut }) (action.Close why ∷ []) i.0 i.1 (λ f. absurd (cc)) in
           closing-acts w w' c onward (input.Frame bytes) why z hd (ap (λ (y : Core). is_shut y.stage) t.0) t.1 last shown (but-of w c h)
 
       one : hd.core.next ≡ 1
@@ -199,7 +199,7 @@ module _ (w w' : World) (c : ℕ) (onward : List TranscriptLine) (z : ℤ) (byte
       first-frame : next_frame hd.core ≡ 0
       first-frame = ap (λ st. waits_from st hd.core.next + length hd.core.waiting) e ∙ ap (λ l. 0 + length l) (mine.0).none_waits
 
-      at : (r : ConnectRequest) → read_connect bytes ≡ Some r → IsConnectAt w.lines c (counted hd.core bytes) (begun r fresh)
+      at : (r : ConnectRequest) → read_connect bytes ≡ Some r → IsConnectAt w.lines c (with_frame_counted hd.core bytes) (begun r fresh)
       at r reads = record {
         untouched = (mine.0).untouched;
         next = one;
@@ -210,20 +210,20 @@ module _ (w w' : World) (c : ℕ) (onward : List TranscriptLine) (z : ℤ) (byte
         reads = reads;
       }
 
-      by-step : (r : ConnectRequest) → read_connect bytes ≡ Some r → (p : Phase) (step : ConnectStep) → ConnectWaits (begun r fresh) Looking p step → Is (connected (counted hd.core bytes) w.clock (in_phase (begun r fresh) p) step) s.mid s.first → Acts w w' c
+      by-step : (r : ConnectRequest) → read_connect bytes ≡ Some r → (p : Phase) (step : ConnectStep) → ConnectWaits (begun r fresh) Looking p step → Is (connected (with_frame_counted hd.core bytes) w.clock (in_phase (begun r fresh) p) step) s.mid s.first → Acts w w' c
       by-step r reads p (steps.Ask q) (f, g) i =
           let kept = kept_by w.clock hd.core.kept q in
-          let t = still (asking_core (counted hd.core bytes) kept (in_phase (begun r fresh) p)) (action.Ask q ∷ []) i.0 i.1 (λ u. absurd (cc)) in
-          asks-acts w w' c onward (input.Frame bytes) hd (begun r fresh) (counted hd.core bytes) h (at r reads) frames p kept q (ap (asked_in (begun r fresh)) f ∙ sym g) (subst (RestsOn w.store (after w.lines).zxid r) (sym f) tt) (mine.0).unattached t.0 t.1
+          let t = still (asking_core (with_frame_counted hd.core bytes) kept (in_phase (begun r fresh) p)) (action.Ask q ∷ []) i.0 i.1 (λ u. absurd (cc)) in
+          asks-acts w w' c onward (input.Frame bytes) hd (begun r fresh) (with_frame_counted hd.core bytes) h (at r reads) frames p kept q (ap (asked_in_phase (begun r fresh)) f ∙ sym g) (subst (RestsOn w.store (after w.lines).zxid r) (sym f) tt) (mine.0).unattached t.0 t.1
       by-step r reads p (steps.Attached response who timeout number zxid) (f, g) i = absurd (none_some g)
       by-step r reads p (steps.Ahead client head) (f, g) i = absurd (none_some g)
       by-step r reads p steps.Unknown (f, g) i = absurd (none_some g)
       by-step r reads p (steps.Taken rev) (f, g) i = absurd (none_some g)
 
-      go : (o : Option ConnectRequest) → read_connect bytes ≡ o → Opens (counted hd.core bytes) hd.core.taken fresh w.clock s.mid s.first o → Acts w w' c
+      go : (o : Option ConnectRequest) → read_connect bytes ≡ o → Opens (with_frame_counted hd.core bytes) hd.core.taken fresh w.clock s.mid s.first o → Acts w w' c
       go None reads i = shut-by (cause.NoHeader hd.core.taken) i
       go (Some r) reads (inl t) = shut-by (cause.Damaged t.key t.value) t.is
-      go (Some r) reads (inr t) = by-step r reads t.new.phase t.step (t.steps).moves (subst (λ (y : Connect). Is (connected (counted hd.core bytes) w.clock y t.step) s.mid s.first) (t.steps).same t.is)
+      go (Some r) reads (inr t) = by-step r reads t.new.phase t.step (t.steps).moves (subst (λ (y : Connect). Is (connected (with_frame_counted hd.core bytes) w.clock y t.step) s.mid s.first) (t.steps).same t.is)
 
   -- ---- in any stage
 

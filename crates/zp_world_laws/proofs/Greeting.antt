@@ -25,7 +25,7 @@ use Rattle.zn_view.specs.declared.plan.Who.{Who}
 use Rattle.zp_script.specs.Handing.{Handed}
 use Rattle.zp_script.specs.Kinds.{kind_asked, kind_of_connect}
 use Rattle.zp_script.specs.StepOutcomes.{StepOutcome, acts_all, ends, leaves, left_by, quiet}
-use Rattle.zp_script.specs.Worlds.{Closed, Conn, Connection, World, after_step, is_closed, with_conn}
+use Rattle.zp_script.specs.Worlds.{Closed, Conn, Connection, World, after_step, is_closed_actor, with_conn}
 use Rattle.zp_script.specs.declared.flight.Asking.{Asking}
 use Rattle.zp_script.specs.declared.flight.Flight.TheVariants.{Carried, Out}
 use Rattle.zp_laws.proofs.Asking.{open-is}
@@ -70,7 +70,7 @@ use Rattle.zp_world_laws.specs.Connections.{Whole}
 use Rattle.zp_world_laws.specs.Counting.{HasFrames}
 use Rattle.zp_world_laws.specs.Holding.{Source, Talks, air, asker_in, made_for, out_in, out_of}
 use Rattle.zp_world_laws.specs.Knowing.{IsKnownAs}
-use Rattle.zs_session.specs.Connecting.{asked_in}
+use Rattle.zs_session.specs.Connecting.{asked_in_phase}
 use Rattle.zs_session.specs.declared.connect.Connect.{Connect}
 use Rattle.zs_session.specs.declared.connect.ConnectStep.{ConnectStep}
 use Rattle.zs_session.specs.declared.connect.Phase.TheVariants.{Attaching, Creating, Granting, Keeping, Looking, LookingAgain, Over, Unasked}
@@ -109,7 +109,7 @@ pub record IsConnectAt (lines : List TranscriptLine) (c : ℕ) (core : Core) (x 
 
 module _ (w w' : World) (c : ℕ) (rest : List TranscriptLine) (i : Input) (hd : Handed c rest w i w') (x : Connect) (core : Core) (h : Whole w) (k : IsConnectAt w.lines c core x)
     (frames : is_shut hd.next.stage ≡ false → (more : List TranscriptLine) → AreAside more c → HasFrames (w.lines ++ more) c hd.conn.frames hd.next) where
-  pub asks-acts : (p : Phase) (kept : ℕ) (q : Ask) → asked_in x p ≡ Some q → RestsOn w.store (after w.lines).zxid x.request p → attach_of c w.lines ≡ None → hd.next ≡ asking_core core kept (in_phase x p) → hd.out ≡ action.Ask q ∷ [] → Acts w w' c
+  pub asks-acts : (p : Phase) (kept : ℕ) (q : Ask) → asked_in_phase x p ≡ Some q → RestsOn w.store (after w.lines).zxid x.request p → attach_of c w.lines ≡ None → hd.next ≡ asking_core core kept (in_phase x p) → hd.out ≡ action.Ask q ∷ [] → Acts w w' c
   asks-acts p kept q asked rests none next out = leaves-acts w w' c hd.conn (Connection d) o hd.found is refl (subst Whole (sym plain) whole) known (within-same w.lines c)
     where
       d : Core
@@ -154,7 +154,7 @@ module _ (w w' : World) (c : ℕ) (rest : List TranscriptLine) (i : Input) (hd :
       whole = sets-whole w c hd.conn (record (hd.conn) { actor = Connection (asking_core core kept (in_phase x p)); flight = Some (Out (record { ask = q; kind = kind_of_connect c (in_phase x p) p })) }) (record {
         but = but-of w c h;
         there = hd.found;
-        opens = ap is_closed hd.serving;
+        opens = ap is_closed_actor hd.serving;
         unshut = λ e f. ap (λ (u : Core). is_shut u.stage) (sym (core-same (asking_core core kept (in_phase x p)) e f));
         serves = λ e f s. absurd (true-false (sym (ap (λ (u : Core). is_served u.stage) (core-same (asking_core core kept (in_phase x p)) e f) ∙ s)));
         bound = λ y e. subst (IsBoundAsk w.store w.lines) (out-same (record { ask = q; kind = kind_of_connect c (in_phase x p) p }) y e) (connect-bound w.store w.lines c (in_phase x p) awaiting p q rests (same-ask x p x.phase p ∙ asked));
@@ -184,8 +184,8 @@ module _ (w w' : World) (c : ℕ) (a : Answer) (hd : Handed c [] w (input.Answer
   opens : is_shut hd.core.stage ≡ false
   opens = ap is_shut connecting
 
-  alive : is_closed hd.conn.actor ≡ false
-  alive = ap is_closed hd.serving
+  alive : is_closed_actor hd.conn.actor ≡ false
+  alive = ap is_closed_actor hd.serving
 
   frames : is_shut hd.next.stage ≡ false → (more : List TranscriptLine) → AreAside more c → HasFrames (w.lines ++ more) c hd.conn.frames hd.next
   frames going more aside = counts-on w.lines more c hd.conn.frames hd.core hd.next (input.Answer a) w.clock hd.out opens hd.stepped n.numbered (omega (arith, n.came)) n.most n.lined aside going

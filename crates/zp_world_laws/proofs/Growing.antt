@@ -36,7 +36,7 @@ use Rattle.zp_world_laws.proofs.Moments.{below-or-last, le-or-next, newer, older
 use Rattle.zp_world_laws.proofs.Talking.{is_quiet}
 use Rattle.zp_world_laws.specs.Bounds.{IsBound, IsBoundAs, IsBoundAsk, IsBoundAttach, IsBoundNew, IsBoundReap, IsBoundRequest, IsUnattached, WasLifeOf, attachment}
 use Rattle.zp_world_laws.specs.Holding.{attaches}
-use Rattle.zp_world_laws.specs.Serving.{Serves, is_up_to, line_revision, moment_of}
+use Rattle.zp_world_laws.specs.Serving.{StoreServes, is_up_to, line_revision, moment_of}
 
 -- ---- an older store, and perhaps further revisions
 
@@ -209,7 +209,7 @@ quiet-revision r (Update u) h = absurd (cc)
 quiet-revision r (Lapse z id) h = absurd (cc)
 quiet-revision r _ h = refl
 
-pub serves-quiet : (s : Store) (lines : List TranscriptLine) (l : TranscriptLine) → is_quiet l ≡ true → Serves s lines → Serves s (lines ++ l ∷ [])
+pub serves-quiet : (s : Store) (lines : List TranscriptLine) (l : TranscriptLine) → is_quiet l ≡ true → StoreServes s lines → StoreServes s (lines ++ l ∷ [])
 serves-quiet s lines l q w = record {
   legal = is_legal-push lines l w.legal (quiet-legal lines l (after lines) q);
   ordered = is_ordered-push lines l w.ordered (quiet-in-order lines l q);
@@ -218,7 +218,7 @@ serves-quiet s lines l q w = record {
   settled = λ r h. older lines l r (quiet-revision (pos r) l q) ∙ w.settled r h ∙ sym (after-push lines l ∙ quiet-change lines l (after lines) q);
 }
 
-pub serves-same : (s u : Store) (lines : List TranscriptLine) → u.revisions ≡ s.revisions → Serves s lines → Serves u lines
+pub serves-same : (s u : Store) (lines : List TranscriptLine) → u.revisions ≡ s.revisions → StoreServes s lines → StoreServes u lines
 serves-same s u lines e w = record {
   legal = w.legal;
   ordered = w.ordered;
@@ -228,7 +228,7 @@ serves-same s u lines e w = record {
 }
 
 -- a revision without a line: what others write
-pub serves-silent : (s u : Store) (lines : List TranscriptLine) → Precedes s u → length u.revisions ≡ length s.revisions + 1 → StandsFor (present u) (after lines) → Serves s lines → Serves u lines
+pub serves-silent : (s u : Store) (lines : List TranscriptLine) → Precedes s u → length u.revisions ≡ length s.revisions + 1 → StandsFor (present u) (after lines) → StoreServes s lines → StoreServes u lines
 serves-silent s u lines x one now w = record {
   legal = w.legal;
   ordered = w.ordered;
@@ -247,8 +247,8 @@ lapse-up r len h = grind (arith, nat_tests, ints)
 lapse-older : (r len : ℕ) → r < len → int_le (pos len) (pos r) ≡ false
 lapse-older r len h = grind (arith, nat_tests, ints)
 
-pub serves-lapse : (s u : Store) (lines : List TranscriptLine) (id : ℤ) → Precedes s u → length u.revisions ≤ length s.revisions + 1 → StandsFor (present u) (after (lines ++ Lapse (revision u) id ∷ [])) → Serves s lines
-    → Serves u (lines ++ Lapse (revision u) id ∷ [])
+pub serves-lapse : (s u : Store) (lines : List TranscriptLine) (id : ℤ) → Precedes s u → length u.revisions ≤ length s.revisions + 1 → StandsFor (present u) (after (lines ++ Lapse (revision u) id ∷ [])) → StoreServes s lines
+    → StoreServes u (lines ++ Lapse (revision u) id ∷ [])
 serves-lapse s u lines id x one now w = record {
   legal = is_legal-push lines (Lapse (revision u) id) w.legal refl;
   ordered = is_ordered-push lines (Lapse (revision u) id) w.ordered refl;

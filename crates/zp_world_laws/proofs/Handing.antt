@@ -18,7 +18,7 @@ use Rattle.zn_view.specs.declared.plan.Who.{Who}
 use Rattle.zp_script.specs.Handing.{Handed}
 use Rattle.zp_script.specs.Kinds.{kind_asked, kind_in_stage}
 use Rattle.zp_script.specs.StepOutcomes.{ends, leaves, left_by, quiet}
-use Rattle.zp_script.specs.Worlds.{Actor, Closed, Conn, Connection, World, after_step, is_closed, with_conn}
+use Rattle.zp_script.specs.Worlds.{Actor, Closed, Conn, Connection, World, after_step, is_closed_actor, with_conn}
 use Rattle.zp_script.specs.declared.flight.Asking.{Asking}
 use Rattle.zp_script.specs.declared.flight.Flight.TheVariants.{Out}
 use Rattle.zp_script.specs.declared.flight.Flight.{Flight}
@@ -46,7 +46,7 @@ use Rattle.zp_world_laws.proofs.Setting.{IsHeardAs, lone, sets-whole}
 use Rattle.zp_world_laws.proofs.Speaking.{HasTalked, ahead-speech, all-quiet, attach-speech, own-speech, speaks-but, speech-zxid}
 use Rattle.zp_world_laws.proofs.Talking.{talks-more}
 use Rattle.zp_world_laws.specs.Bounds.{IsBoundAsk, attachment}
-use Rattle.zp_world_laws.specs.Connections.{IsFlying, IsOut, IsServing, Whole, is_carried}
+use Rattle.zp_world_laws.specs.Connections.{IsFlying, IsOut, IsServingConn, Whole, is_carried}
 use Rattle.zp_world_laws.specs.Holding.{Source, Talks, air, asker_in, out_in, out_of, request_in}
 use Rattle.zx_base.proofs.Options.{none_some, some_is}
 
@@ -105,8 +105,8 @@ module _ (w w' : World) (c : ℕ) (rest : List TranscriptLine) (i : Input) (hd :
   unfolding ls
   speech = said-speech c parts.packets
 
-  opens : is_closed hd.conn.actor ≡ false
-  opens = ap is_closed hd.serving
+  opens : is_closed_actor hd.conn.actor ≡ false
+  opens = ap is_closed_actor hd.serving
 
   talks : Talks (w.lines ++ ls) c g.place (attachment g.who) g.walker
   unfolding ls
@@ -155,7 +155,7 @@ module _ (w w' : World) (c : ℕ) (rest : List TranscriptLine) (i : Input) (hd :
       ahead = λ e. ahead-speech c c hd.next.next w.lines ls speech (ready-ahead w.store w.lines c hd.next g.walker g.looked e stands.knows);
     }) stands
 
-    serving-with : (f : Option Flight) → is_carried f ≡ false → IsFlying w.store (w.lines ++ ls) c hd.next g.walker g.looked f → IsServing w.store (w.lines ++ ls) c hd.next f
+    serving-with : (f : Option Flight) → is_carried f ≡ false → IsFlying w.store (w.lines ++ ls) c hd.next g.walker g.looked f → IsServingConn w.store (w.lines ++ ls) c hd.next f
     serving-with f unanswered flies = record {
       place = g.place;
       attached = attach-speech c c w.lines ls speech ∙ g.attached ∙ ap (λ (q : Who). Some (g.place, attachment q)) (sym g.same_who);
@@ -189,7 +189,7 @@ module _ (w w' : World) (c : ℕ) (rest : List TranscriptLine) (i : Input) (hd :
       there = hd.found;
       opens = opens;
       unshut = λ core a. ap (λ (k : Core). is_shut k.stage) (sym (core-same hd.next core a)) ∙ going;
-      serves = λ core a s. subst (λ k. IsServing w.store (w.lines ++ ls) c k f) (core-same hd.next core a) (serving-with f unanswered flies);
+      serves = λ core a s. subst (λ k. IsServingConn w.store (w.lines ++ ls) c k f) (core-same hd.next core a) (serving-with f unanswered flies);
       bound = λ a e. (let o = out a e in subst (λ q. IsBoundAsk w.store (w.lines ++ ls) (record { ask = a.ask; kind = q })) (sym o.kind)
           (asked-bound w.store (w.lines ++ ls) c hd.next g.walker g.looked a.ask owner least served stands1.work stands1.knows o.asked));
       own = λ a d e g. asked-own c hd.next d served (ap (λ q. asker_in (record { ask = a.ask; kind = q })) (sym (out a e).kind) ∙ g);
@@ -290,7 +290,7 @@ pub record IsReadyFor (w : World) (c : ℕ) (conn : Conn) (core : Core) (i : Inp
   pub nothing_out : conn.flight ≡ None
   pub served : is_served core.stage ≡ true
   pub flight : Option Flight
-  pub serves : IsServing w.store w.lines c core flight
+  pub serves : IsServingConn w.store w.lines c core flight
   pub true_input : IsTrueInput w.store w.lines c core serves.walker serves.looked i
   -- an input that is no answer finds nothing out
   pub idle : takes_out i ≡ false → asked_of core.who core.stage ≡ None

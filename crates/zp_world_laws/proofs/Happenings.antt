@@ -11,7 +11,7 @@ use Rattle.zp_laws.specs.Inputs.{IsTrueEntry}
 use Rattle.zp_script.specs.Effects.{EntersBy, IsEntry}
 use Rattle.zp_script.specs.Entries.{next_entry}
 use Rattle.zp_script.specs.Faults.{entry_fault, fault, flight_at, if_fails, is_kept_key, is_reaper_at, open_fault}
-use Rattle.zp_script.specs.Worlds.{Conn, World, conn_at, is_closed}
+use Rattle.zp_script.specs.Worlds.{Conn, World, conn_at, is_closed_actor}
 use Rattle.zx_base.proofs.Options.{some_none}
 use Rattle.zp_world_laws.proofs.Delivering.{IsTrueEntryInput, answer-whole, entry-whole}
 use Rattle.zp_world_laws.proofs.Entering.{exec-entries, next-true, stray-entries}
@@ -83,9 +83,9 @@ answer-keeps c w w' a possible does h = answer-whole w w' c a.conn a.core a.ther
 open-passes : (c : ℕ) (w : World) (later : Option Why) → open_fault c w later ≡ None → later ≡ None
 open-passes c w later h = go (conn_at c w) h
   where
-    go : (o : Option Conn) → ◌≡◌ {A = Option Why} (elim o [ None ↦ Some why.NoSuchConnection | Some x ↦ if_fails (is_closed x.actor) why.ConnectionClosed later ]) None → later ≡ None
+    go : (o : Option Conn) → ◌≡◌ {A = Option Why} (elim o [ None ↦ Some why.NoSuchConnection | Some x ↦ if_fails (is_closed_actor x.actor) why.ConnectionClosed later ]) None → later ≡ None
     go None e = absurd (some_none e)
-    go (Some x) e = (passes (is_closed x.actor) why.ConnectionClosed later e).1
+    go (Some x) e = (passes (is_closed_actor x.actor) why.ConnectionClosed later e).1
 
 pub entry-idle-at : (c : ℕ) (w : World) → entry_fault c w None ≡ None → flight_at c w ≡ None
 entry-idle-at c w possible =

@@ -20,7 +20,7 @@ use Rattle.zp_laws.specs.Inputs.{Precedes}
 use Rattle.zp_script.specs.Carrying.{CarriedBy, Executes, ExecutesStray}
 use Rattle.zp_script.specs.Effects.{LapsesTo, PutTo}
 use Rattle.zp_script.specs.Faults.{is_kept_key}
-use Rattle.zp_script.specs.Worlds.{Conn, Connection, World, conn_at, is_closed, zxid_at}
+use Rattle.zp_script.specs.Worlds.{Conn, Connection, World, conn_at, is_closed_actor, zxid_at}
 use Rattle.zp_script.specs.declared.flight.Asking.{Asking}
 use Rattle.zp_script.specs.declared.flight.Flight.{Flight}
 use Rattle.zp_script.specs.declared.flight.Flight.TheVariants.{Out, Carried, Denied}
@@ -33,7 +33,7 @@ use Rattle.zp_world_laws.proofs.Growing.{grown-precedes, same-precedes}
 use Rattle.zp_world_laws.proofs.Numbers.{conn-here, conn-there, either-number}
 use Rattle.zp_world_laws.proofs.Serving.{Elsewhere, elsewhere-none, elsewhere-plain, elsewhere-update, serving-push}
 use Rattle.zp_world_laws.proofs.Transactions.{other-carried, txn-carried}
-use Rattle.zp_world_laws.specs.Connections.{HasSmallFrames, IsClosedAt, IsServing, Whole}
+use Rattle.zp_world_laws.specs.Connections.{HasSmallFrames, IsClosedAt, IsServingConn, Whole}
 use Rattle.zp_world_laws.specs.Holding.{Holds, Left, Of, air, asker_in, left_in, made_for, out_in, out_of}
 use Rattle.zp_world_laws.specs.Serving.{kind_lines, update_lines}
 
@@ -41,13 +41,13 @@ use Rattle.zp_world_laws.specs.Serving.{kind_lines, update_lines}
 
 abbrev pub StillServing : World → World → List TranscriptLine → Type 0
 StillServing w w' more = (d : ℕ) (y : Conn) (core : Core) → conn_at d w' ≡ Some y → y.actor ≡ Connection core → is_served core.stage ≡ true
-    → IsServing w'.store w'.lines d core y.flight ⊎ ((conn_at d w ≡ Some y) × Elsewhere w.lines more d)
+    → IsServingConn w'.store w'.lines d core y.flight ⊎ ((conn_at d w ≡ Some y) × Elsewhere w.lines more d)
 
 pub serving-kept : (w w' : World) (more : List TranscriptLine) → Whole w → Holds w' → Precedes w.store w'.store → w'.lines ≡ w.lines ++ more → StillServing w w' more
-    → (c : ℕ) (x : Conn) (core : Core) → conn_at c w' ≡ Some x → x.actor ≡ Connection core → is_served core.stage ≡ true → IsServing w'.store w'.lines c core x.flight
+    → (c : ℕ) (x : Conn) (core : Core) → conn_at c w' ≡ Some x → x.actor ≡ Connection core → is_served core.stage ≡ true → IsServingConn w'.store w'.lines c core x.flight
 serving-kept w w' more h h' longer lines still c x core e a s = elim (still c x core e a s) [
   | inl new ↦ new
-  | inr old ↦ subst (λ l. IsServing w'.store l c core x.flight) (sym lines)
+  | inr old ↦ subst (λ l. IsServingConn w'.store l c core x.flight) (sym lines)
       (serving-push w.store w'.store w.lines more c core x.flight ((h.holds).serves).legal (subst (λ l. is_legal l ≡ true) lines (h'.serves).legal) longer old.1 (h.serving c x core old.0 a s))
 ]
 
@@ -77,10 +77,10 @@ pub true-false : true ≡ false → ⊥
 true-false e = cc
 
 -- an open connection has no strays
-pub no-stray : (w : World) (c : ℕ) (x : Conn) → ((k d : ℕ) (a : Asking) → air w (Left k) ≡ Some a → asker_in a ≡ Some d → IsClosedAt w d) → conn_at c w ≡ Some x → is_closed x.actor ≡ false → (k : ℕ) (a : Asking) → air w (Left k) ≡ Some a → asker_in a ≡ Some c → ⊥
+pub no-stray : (w : World) (c : ℕ) (x : Conn) → ((k d : ℕ) (a : Asking) → air w (Left k) ≡ Some a → asker_in a ≡ Some d → IsClosedAt w d) → conn_at c w ≡ Some x → is_closed_actor x.actor ≡ false → (k : ℕ) (a : Asking) → air w (Left k) ≡ Some a → asker_in a ≡ Some c → ⊥
 no-stray w c x left e opens k a g r =
     let t = left k c a g r in
-    true-false (sym t.2 ∙ ap (λ (y : Conn). is_closed y.actor) (some_is (sym t.1 ∙ e)) ∙ opens)
+    true-false (sym t.2 ∙ ap (λ (y : Conn). is_closed_actor y.actor) (some_is (sym t.1 ∙ e)) ∙ opens)
 
 -- ---- the clock, and other users
 
@@ -159,7 +159,7 @@ frameless-carried s u o c i = go (int_eq (zxid_at s) (zxid_at u))
     go true = refl
     go false = one_kind o
 
-denied-serving : (s : Store) (lines : List TranscriptLine) (c : ℕ) (core : Core) (x : Asking) → IsServing s lines c core (Some (Out x)) → IsServing s lines c core (Some Denied)
+denied-serving : (s : Store) (lines : List TranscriptLine) (c : ℕ) (core : Core) (x : Asking) → IsServingConn s lines c core (Some (Out x)) → IsServingConn s lines c core (Some Denied)
 denied-serving s lines c core x k = record {
   place = k.place;
   attached = k.attached;
@@ -181,7 +181,7 @@ denied-serving s lines c core x k = record {
 module _ (w w' : World) (c : ℕ) (x v : Conn) (f : Flight) (h : Whole w) (h' : Holds w') (there : conn_at c w ≡ Some x) (here : conn_at c w' ≡ Some v) (others : (d : ℕ) → d ≢ c → conn_at d w' ≡ conn_at d w) (same_actor : v.actor ≡ x.actor) (flight : v.flight ≡ Some f) (landed : out_in (Some f) ≡ None) (strays : w'.strays ≡ w.strays) where
   still_closed : (d : ℕ) → IsClosedAt w d → IsClosedAt w' d
   still_closed d t = elim (either-number d c) [
-    | inl same ↦ (v, ap (λ n. conn_at n w') same ∙ here, ap is_closed same_actor ∙ ap (λ (y : Conn). is_closed y.actor) (some_is (sym there ∙ ap (λ n. conn_at n w) (sym same) ∙ t.1)) ∙ t.2)
+    | inl same ↦ (v, ap (λ n. conn_at n w') same ∙ here, ap is_closed_actor same_actor ∙ ap (λ (y : Conn). is_closed_actor y.actor) (some_is (sym there ∙ ap (λ n. conn_at n w) (sym same) ∙ t.1)) ∙ t.2)
     | inr apart ↦ closed-same w w' d (others d apart) t
   ]
 
@@ -195,13 +195,13 @@ module _ (w w' : World) (c : ℕ) (x v : Conn) (f : Flight) (h : Whole w) (h' : 
   flown-left k d a z r = still_closed d (h.left k d a (ap (λ l. left_in (slice_get l k)) (sym strays) ∙ z) r)
 
   flown-whole : (more : List TranscriptLine) → Precedes w.store w'.store → w'.lines ≡ w.lines ++ more → Frameless more → ((d : ℕ) → d ≢ c → Elsewhere w.lines more d)
-      → ((core : Core) → x.actor ≡ Connection core → is_served core.stage ≡ true → IsServing w'.store w'.lines c core (Some f)) → Whole w'
+      → ((core : Core) → x.actor ≡ Connection core → is_served core.stage ≡ true → IsServingConn w'.store w'.lines c core (Some f)) → Whole w'
   flown-whole more longer lines frameless apart_lines self = record {
     holds = h';
     serving = serving-kept w w' more h h' longer lines (λ d y core e a s. elim (either-number d c) [
       | inl same ↦
           let is : v ≡ y = some_is (sym here ∙ ap (λ n. conn_at n w') (sym same) ∙ e) in
-          inl (subst (λ (z : Conn). IsServing w'.store w'.lines d core z.flight) is (subst (λ g. IsServing w'.store w'.lines d core g) (sym flight) (subst (λ n. IsServing w'.store w'.lines n core (Some f)) (sym same)
+          inl (subst (λ (z : Conn). IsServingConn w'.store w'.lines d core z.flight) is (subst (λ g. IsServingConn w'.store w'.lines d core g) (sym flight) (subst (λ n. IsServingConn w'.store w'.lines n core (Some f)) (sym same)
           (self core (sym same_actor ∙ ap (λ (z : Conn). z.actor) is ∙ a) s))))
       | inr apart ↦ inr (sym (others d apart) ∙ e, apart_lines d apart)
     ]);
@@ -229,8 +229,8 @@ executes-whole w w' c ex h = go (carry w.store (ex.asking).ask) refl ex.carries
     others : (conns : ex.mid.conns ≡ w.conns) (d : ℕ) → d ≢ c → conn_at d w' ≡ conn_at d w
     others conns d apart = ap (conn_at d) ex.result ∙ conn-there ex.mid c d v apart ∙ ap (λ m. get m d) conns
 
-    served : (core : Core) → (ex.conn).actor ≡ Connection core → is_served core.stage ≡ true → IsServing w.store w.lines c core (Some (Out ex.asking))
-    served core a s = subst (IsServing w.store w.lines c core) ex.out (h.serving c ex.conn core ex.found a s)
+    served : (core : Core) → (ex.conn).actor ≡ Connection core → is_served core.stage ≡ true → IsServingConn w.store w.lines c core (Some (Out ex.asking))
+    served core a s = subst (IsServingConn w.store w.lines c core) ex.out (h.serving c ex.conn core ex.found a s)
 
     go : (o : Option (Store × Answer)) → carry w.store (ex.asking).ask ≡ o → CarriedBy w (ex.asking).kind ex.flight ex.mid o → Whole w'
     go None e p =
@@ -238,7 +238,7 @@ executes-whole w w' c ex h = go (carry w.store (ex.asking).ask) refl ex.carries
         let lines : w'.lines ≡ w.lines = ap (λ (u : World). u.lines) ex.result ∙ ap (λ (u : World). u.lines) p.1 in
         flown-whole w w' c ex.conn v Denied h holds ex.found here (others (ap (λ (u : World). u.conns) p.1)) refl (ap (λ f. Some f) p.0) refl (ap (λ (u : World). u.strays) ex.result ∙ ap (λ (u : World). u.strays) p.1)
         [] (same-precedes w.store w'.store (ap (λ (s : Store). s.revisions) store)) (lines ∙ sym (append-nil w.lines)) (λ d i. refl) (λ d apart. elsewhere-none w.lines d)
-        (λ core a s. subst (λ u. IsServing u w'.lines c core (Some Denied)) (sym store) (subst (λ l. IsServing w.store l c core (Some Denied)) (sym lines) (denied-serving w.store w.lines c core ex.asking (served core a s))))
+        (λ core a s. subst (λ u. IsServingConn u w'.lines c core (Some Denied)) (sym store) (subst (λ l. IsServingConn w.store l c core (Some Denied)) (sym lines) (denied-serving w.store w.lines c core ex.asking (served core a s))))
     go (Some r) e p =
         let st = stored-in w ex.mid r.0 (ex.asking).kind p.1 in
         let store : w'.store ≡ r.0 = ap (λ (u : World). u.store) ex.result ∙ st.store in
@@ -246,7 +246,7 @@ executes-whole w w' c ex h = go (carry w.store (ex.asking).ask) refl ex.carries
         flown-whole w w' c ex.conn v (Carried r.1) h holds ex.found here (others st.conns) refl (ap (λ f. Some f) p.0) refl (ap (λ (u : World). u.strays) ex.result ∙ st.strays)
         (update_lines w.store r.0 (ex.asking).kind) (subst (λ u. Precedes w.store u) (sym store) (carry-precedes w.store r.0 (ex.asking).ask r.1 e)) lines (frameless-carried w.store r.0 (ex.asking).kind)
         (λ d apart. elsewhere-carried w.lines d w.store r.0 (ex.asking).kind (λ kind is of. apart (h.own c d ex.conn ex.asking ex.found ex.out (asker-of ex.asking kind d is of))))
-        (λ core a s. subst (λ u. IsServing u w'.lines c core (Some (Carried r.1))) (sym store) (subst (λ l. IsServing r.0 l c core (Some (Carried r.1))) (sym lines)
+        (λ core a s. subst (λ u. IsServingConn u w'.lines c core (Some (Carried r.1))) (sym store) (subst (λ l. IsServingConn r.0 l c core (Some (Carried r.1))) (sym lines)
         (carried-serving w.store r.0 w.lines c core ex.asking r.1 s (h.holds).serves ((h.holds).bound (Of c) ex.asking (ap out_of ex.found ∙ ap out_in ex.out)) (served core a s) e)))
 
 pub stray-whole : (w w' : World) (k : ℕ) → ExecutesStray k w w' → Whole w → Whole w'
@@ -281,4 +281,4 @@ stray-whole w w' k ex h = go (carry w.store (ex.asking).ask) refl ex.carries
         let st = stored-in w ex.mid r.0 (ex.asking).kind p.1 in
         let store : w'.store ≡ r.0 = ap (λ (u : World). u.store) ex.result ∙ st.store in
         whole (update_lines w.store r.0 (ex.asking).kind) st.conns st.strays (subst (λ u. Precedes w.store u) (sym store) (carry-precedes w.store r.0 (ex.asking).ask r.1 e)) (ap (λ (u : World). u.lines) ex.result ∙ st.lines) (frameless-carried w.store r.0 (ex.asking).kind)
-        (λ d y core f a. elsewhere-carried w.lines d w.store r.0 (ex.asking).kind (λ kind is of. no-stray w d y h.left f (ap is_closed a) (k - 1) ex.asking in_air (asker-of ex.asking kind d is of)))
+        (λ d y core f a. elsewhere-carried w.lines d w.store r.0 (ex.asking).kind (λ kind is of. no-stray w d y h.left f (ap is_closed_actor a) (k - 1) ex.asking in_air (asker-of ex.asking kind d is of)))

@@ -30,7 +30,7 @@ use Rattle.zk_transcript.specs.declared.transcript.UpdateKind.{UpdateKind}
 use Rattle.zn_layout.specs.StandsFor.{StandsFor}
 use Rattle.zn_layout.specs.declared.record.LeaseRec.{LeaseRec}
 use Rattle.zn_view.specs.Asks.{plan_txn}
-use Rattle.zp_script.specs.Worlds.{Actor, Closed, Conn, Connection, Reaper, World, conn_at, is_closed, zxid_at}
+use Rattle.zp_script.specs.Worlds.{Actor, Closed, Conn, Connection, Reaper, World, conn_at, is_closed_actor, zxid_at}
 use Rattle.zp_script.specs.declared.flight.Flight.TheVariants.{Carried, Denied, Out}
 use Rattle.zp_script.specs.declared.flight.Flight.{Flight}
 use Rattle.zp_laws.proofs.Growing.{frames-push as frames-longer}
@@ -50,7 +50,7 @@ use Rattle.zp_world_laws.specs.Connecting.{HasOwnLine, IsConnectFlight, IsConnec
 use Rattle.zp_world_laws.specs.Connections.{IsClosedAt}
 use Rattle.zp_world_laws.specs.Counting.{HasFrames, IsLined}
 use Rattle.zp_world_laws.specs.Knowing.{IsKnownAs, Known, HasClose}
-use Rattle.zp_world_laws.specs.Naming.{is_unnamed, names}
+use Rattle.zp_world_laws.specs.Naming.{is_unnamed, names_conn}
 use Rattle.zp_world_laws.specs.Reaping.{IsReapAsk, IsReapFlight, IsStanding}
 use Rattle.zp_world_laws.specs.Serving.{kind_lines, update_lines}
 use Rattle.zs_reap.specs.declared.reap.Phase.TheVariants as reaps
@@ -273,13 +273,13 @@ known-push s u lines more c x (Connection core) g aside (n, st) = (counted-aside
 known-push s u lines more c x (Reaper r) g aside k = reap-flies s u r x.flight g.longer k
 known-push s u lines more c x Closed g aside k = close-left lines more c k
 
-closed-push : (s u : Store) (lines more : List TranscriptLine) (c : ℕ) (x : Conn) (a : Actor) → is_closed a ≡ true → IsKnownAs s lines c x a → IsKnownAs u (lines ++ more) c x a
+closed-push : (s u : Store) (lines more : List TranscriptLine) (c : ℕ) (x : Conn) (a : Actor) → is_closed_actor a ≡ true → IsKnownAs s lines c x a → IsKnownAs u (lines ++ more) c x a
 closed-push s u lines more c x (Connection core) h k = absurd (cc)
 closed-push s u lines more c x (Reaper r) h k = absurd (cc)
 closed-push s u lines more c x Closed h k = close-left lines more c k
 
 unnamed-append : (c : ℕ) (lines more : List TranscriptLine) → is_unnamed c lines ≡ true → is_unnamed c more ≡ true → is_unnamed c (lines ++ more) ≡ true
-unnamed-append c lines more a b = list_all-append (λ l. not (names c l)) lines more ∙ both-true (is_unnamed c lines) (is_unnamed c more) a b
+unnamed-append c lines more a b = list_all-append (λ l. not (names_conn c l)) lines more ∙ both-true (is_unnamed c lines) (is_unnamed c more) a b
 
 -- ---- a world in which one connection acts
 
@@ -298,7 +298,7 @@ module _ (w w' : World) (c : ℕ) (more : List TranscriptLine) (h : Known w) (a 
 
   other-used : (d : ℕ) (x : Conn) → d ≢ c → conn_at d w' ≡ Some x → IsKnownAs w'.store w'.lines d x x.actor
   other-used d x apart e = elim (a.unnamed d apart) [
-    | inl t ↦ subst (λ l. IsKnownAs w'.store l d x x.actor) (sym a.lines) (closed-push w.store w'.store w.lines more d x x.actor (ap (λ (y : Conn). is_closed y.actor) (some_is (sym e ∙ a.others d apart ∙ t.1)) ∙ t.2) (h.used d x (sym (a.others d apart) ∙ e)))
+    | inl t ↦ subst (λ l. IsKnownAs w'.store l d x x.actor) (sym a.lines) (closed-push w.store w'.store w.lines more d x x.actor (ap (λ (y : Conn). is_closed_actor y.actor) (some_is (sym e ∙ a.others d apart ∙ t.1)) ∙ t.2) (h.used d x (sym (a.others d apart) ∙ e)))
     | inr n ↦ subst (λ l. IsKnownAs w'.store l d x x.actor) (sym a.lines) (known-push w.store w'.store w.lines more d x x.actor (grows d n) (unnamed-aside more d n) (h.used d x (sym (a.others d apart) ∙ e)))
   ]
 

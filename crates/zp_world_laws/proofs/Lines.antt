@@ -5,7 +5,7 @@ use Rattle.ev_types.specs.Store.{Store}
 use Rattle.zk_transcript.proofs.Attachments.{attach_of-skip}
 use Rattle.zk_transcript.specs.Conversations.{IsShownFresh}
 use Rattle.zk_transcript.specs.History.{after}
-use Rattle.zk_transcript.specs.Legal.{attach_of, attach_shown, index_shown, is_below}
+use Rattle.zk_transcript.specs.Legal.{attach_of, attach_shown, index_shown, is_below_place}
 use Rattle.zk_transcript.specs.Walks.{own_update_shown, packets, packets_from}
 use Rattle.zk_transcript.specs.declared.transcript.TranscriptLine.{TranscriptLine}
 use Rattle.zk_transcript.specs.declared.transcript.TranscriptLine.TheVariants.{Update, Frame as FrameLine, Send}
@@ -19,7 +19,7 @@ use Rattle.zp_world_laws.proofs.Packets.{packets-append}
 use Rattle.zp_world_laws.proofs.Talking.{ahead-push, is_quiet, talks-push}
 use Rattle.zp_world_laws.specs.Bounds.{IsBoundAsk}
 use Rattle.zp_world_laws.specs.Holding.{Holds, IsAhead, Source, Talks, air}
-use Rattle.zp_world_laws.specs.Serving.{Serves}
+use Rattle.zp_world_laws.specs.Serving.{StoreServes}
 
 -- ---- what may still be carried out could be carried out before, perhaps under another number
 
@@ -33,9 +33,9 @@ same-air w w' h = record { before = λ o. o; was = h; apart = λ a b x y ea eb e
 
 -- ---- no line
 
-pub silent-holds : (w w' : World) → Precedes w.store w'.store → Serves w'.store w.lines → w'.lines ≡ w.lines → Renamed w w' → Holds w → Holds w'
+pub silent-holds : (w w' : World) → Precedes w.store w'.store → StoreServes w'.store w.lines → w'.lines ≡ w.lines → Renamed w w' → Holds w → Holds w'
 silent-holds w w' x serves same r h = record {
-  serves = subst (λ l. Serves w'.store l) (sym same) serves;
+  serves = subst (λ l. StoreServes w'.store l) (sym same) serves;
   fresh = subst IsShownFresh (sym same) h.fresh;
   bound = λ o a e. kept-still w.store w'.store w.lines w'.lines a x same (h.bound (r.before o) a (r.was o a e));
   alone = λ a b p q c ea eb ca cb. r.apart a b p q ea eb (h.alone (r.before a) (r.before b) p q c (r.was a p ea) (r.was b q eb) ca cb);
@@ -78,9 +78,9 @@ packets-plain c lines l plain = packets-append c lines (l ∷ []) ∙ ap (λ p. 
 abbrev pub ShowsLast : List TranscriptLine → TranscriptLine → Type 0
 ShowsLast lines l = (c i : ℕ) (z : ℤ) (bytes : List ℕ) → l ≡ FrameLine c i z bytes → z ≡ (after lines).zxid
 
-pub line-holds : (w w' : World) (l : TranscriptLine) → is_plain l ≡ true → Precedes w.store w'.store → Serves w'.store (w.lines ++ l ∷ []) → w'.lines ≡ w.lines ++ l ∷ [] → ShowsLast w.lines l → Renamed w w' → Holds w → Holds w'
+pub line-holds : (w w' : World) (l : TranscriptLine) → is_plain l ≡ true → Precedes w.store w'.store → StoreServes w'.store (w.lines ++ l ∷ []) → w'.lines ≡ w.lines ++ l ∷ [] → ShowsLast w.lines l → Renamed w w' → Holds w → Holds w'
 line-holds w w' l plain x serves same new r h = record {
-  serves = subst (λ k. Serves w'.store k) (sym same) serves;
+  serves = subst (λ k. StoreServes w'.store k) (sym same) serves;
   fresh = subst IsShownFresh (sym same) (shown-push w.lines l new h.fresh);
   bound = λ o a e. subst (λ k. IsBoundAsk w'.store k a) (sym same)
       (ask-kept w.store w'.store w.lines (l ∷ []) a x
@@ -95,10 +95,10 @@ line-holds w w' l plain x serves same new r h = record {
             (talks-push w.lines l c k a sp.walker (λ j small. plain-own c j l plain) (plain-packets c (length w.lines) l plain) sp.talks);
         ahead = λ o p i eo q.
             let b = sp.ahead (r.before o) p i (r.was o p eo) q in
-            record { unanswered = b.unanswered; follows = subst (λ m. is_ahead m c i ≡ true) (sym same) (ahead-push w.lines l c i (ap (is_below i) (plain-index c l plain)) b.follows) };
+            record { unanswered = b.unanswered; follows = subst (λ m. is_ahead m c i ≡ true) (sym same) (ahead-push w.lines l c i (ap (is_below_place i) (plain-index c l plain)) b.follows) };
       };
 }
 
 pub quiet-holds : (w w' : World) (l : TranscriptLine) → is_plain l ≡ true → is_quiet l ≡ true → w'.store ≡ w.store → w'.lines ≡ w.lines ++ l ∷ [] → ShowsLast w.lines l → Renamed w w' → Holds w → Holds w'
 quiet-holds w w' l plain quiet store same new r h =
-    line-holds w w' l plain (same-precedes w.store w'.store (ap (λ (s : Store). s.revisions) store)) (subst (λ s. Serves s (w.lines ++ l ∷ [])) (sym store) (serves-quiet w.store w.lines l quiet h.serves)) same new r h
+    line-holds w w' l plain (same-precedes w.store w'.store (ap (λ (s : Store). s.revisions) store)) (subst (λ s. StoreServes s (w.lines ++ l ∷ [])) (sym store) (serves-quiet w.store w.lines l quiet h.serves)) same new r h

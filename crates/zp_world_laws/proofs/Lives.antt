@@ -42,7 +42,7 @@ use Rattle.zp_world_laws.proofs.Within.{within-close, within-more}
 use Rattle.zp_world_laws.specs.Accounting.{IsAccounted}
 use Rattle.zp_world_laws.specs.Bounds.{attachment}
 use Rattle.zp_world_laws.specs.Connecting.{IsConnecting, IsInStage}
-use Rattle.zp_world_laws.specs.Connections.{IsFlying, IsServing, Whole, is_carried}
+use Rattle.zp_world_laws.specs.Connections.{IsFlying, IsServingConn, Whole, is_carried}
 use Rattle.zp_world_laws.specs.Counting.{HasFrames}
 use Rattle.zp_world_laws.specs.Knowing.{IsKnownAs, Known}
 use Rattle.zp_world_laws.specs.Reaping.{IsReapFlight}
@@ -257,7 +257,7 @@ entry-comes w w' c (input.Lagged p n) e h = refl
 entry-comes w w' c input.FeedClosed e h = refl
 entry-comes w w' c (input.ClientEnd p) e h = refl
 
-entry-true : (w : World) (c : ℕ) (x : Conn) (core : Core) (e : Entry) (i : Input) → IsEntry e i → IsTrueEntry w.lines core e → IsServing w.store w.lines c core x.flight → x.flight ≡ None → But w c → is_served core.stage ≡ true → IsReadyFor w c x core i
+entry-true : (w : World) (c : ℕ) (x : Conn) (core : Core) (e : Entry) (i : Input) → IsEntry e i → IsTrueEntry w.lines core e → IsServingConn w.store w.lines c core x.flight → x.flight ≡ None → But w c → is_served core.stage ≡ true → IsReadyFor w c x core i
 entry-true w c x core e (input.Entry s) is t k none b served = record {
   but = b;
   nothing_out = none;

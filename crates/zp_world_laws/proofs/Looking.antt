@@ -8,7 +8,7 @@ use Rattle.zk_transcript.proofs.Longer.{if_Some, then_Some, then_due-next}
 use Rattle.zk_transcript.proofs.Walks.{first_place-bound}
 use Rattle.zk_transcript.specs.Answers.{Told, plain_reply, xid_of}
 use Rattle.zk_transcript.specs.History.{first_place, frame_shown, when}
-use Rattle.zk_transcript.specs.Legal.{attach_of, attach_shown, index_in, index_shown, is_below, is_legal}
+use Rattle.zk_transcript.specs.Legal.{attach_of, attach_shown, index_in, index_shown, is_below_place, is_legal}
 use Rattle.zk_transcript.specs.Walks.{Answer, Choice, Due, Plain, Tell, Walker, answer_as_of, answer_plainly, at_start, fired_above, has_header, later_of, may_answer_at, move, next_update, own_update, own_update_in, own_update_shown, placed_frame, plain_answer, reply_step_if, then_due, told_update, walk}
 use Rattle.zk_transcript.specs.declared.transcript.TranscriptLine.{TranscriptLine}
 use Rattle.zk_transcript.specs.declared.transcript.TranscriptLine.TheVariants.{Update, Open, Frame as FrameLine, Send, Lapse, Close}
@@ -95,15 +95,15 @@ past-now lines c i j bytes e = let b = first_place-bound (frame_shown c i) 0 lin
 
 -- ---- a request without a line
 
-below-none : (c i e j : ℕ) (u : UpdateRec) → is_below i (when (c == e) j) ≡ true → when ((c == e) && (i == j)) u ≡ None
+below-none : (c i e j : ℕ) (u : UpdateRec) → is_below_place i (when (c == e) j) ≡ true → when ((c == e) && (i == j)) u ≡ None
 below-none c i e j u h = go (c == e) (i == j) refl h
   where
-    go : (p q : Bool) → (i == j) ≡ q → is_below i (when p j) ≡ true → when (p && q) u ≡ None
+    go : (p q : Bool) → (i == j) ≡ q → is_below_place i (when p j) ≡ true → when (p && q) u ≡ None
     go false q s g = refl
     go true false s g = refl
     go true true s g = let same : i ≡ j = grind (arith, nat_tests) in let less : j < i = grind (arith, nat_tests) in absurd (omega (arith, same, less))
 
-kind-none : (c i : ℕ) (u : UpdateRec) (kind : UpdateKind) → is_below i (index_in c kind) ≡ true → own_update_in c i u kind ≡ None
+kind-none : (c i : ℕ) (u : UpdateRec) (kind : UpdateKind) → is_below_place i (index_in c kind) ≡ true → own_update_in c i u kind ≡ None
 kind-none c i u (Begin now) h = refl
 kind-none c i u (NewSession id d) h = refl
 kind-none c i u (Attach id d) h = refl
@@ -111,7 +111,7 @@ kind-none c i u (Asked d j now) h = below-none c i d j u h
 kind-none c i u (Closed id d j) h = below-none c i d j u h
 kind-none c i u (Reaped id) h = refl
 
-shown-none : (c i : ℕ) (l : TranscriptLine) → is_below i (index_shown c l) ≡ true → own_update_shown c i l ≡ None
+shown-none : (c i : ℕ) (l : TranscriptLine) → is_below_place i (index_shown c l) ≡ true → own_update_shown c i l ≡ None
 shown-none c i (Update u) h = kind-none c i u u.kind h
 shown-none c i (Open a b d e) h = refl
 shown-none c i (FrameLine a b d e) h = refl
@@ -122,7 +122,7 @@ shown-none c i (Close a b) h = refl
 pub ahead-none : (lines : List TranscriptLine) (k c i : ℕ) → is_ahead lines c i ≡ true → first_place (own_update_shown c i) k lines ≡ None
 ahead-none [] k c i h = refl
 ahead-none (l ∷ ls) k c i h =
-    let q = and_parts (is_below i (index_shown c l)) (is_ahead ls c i) h in
+    let q = and_parts (is_below_place i (index_shown c l)) (is_ahead ls c i) h in
     ap (λ o. elim o as (λ (p : Option UpdateRec). Option (ℕ × UpdateRec)) [ Some z ↦ Some (k, z) | None ↦ first_place (own_update_shown c i) (k + 1) ls ]) (shown-none c i l q.0) ∙ ahead-none ls (k + 1) c i q.1
 
 pub get-last : {A : Type 0} (ls : List A) (l : A) → slice_get (ls ++ l ∷ []) (length ls) ≡ Some l

@@ -4,7 +4,7 @@ use Rattle.std.proofs.lemmas.Bool.{and_parts}
 use Rattle.std.specs.Prelude.{None, Option, Some, if◌then◌else◌, not, ◌&&◌, ◌==◌}
 use Rattle.zk_transcript.specs.Conversations.{close_shown}
 use Rattle.zk_transcript.specs.History.{first_place, first_shown, frame_shown, open_shown, opening, when}
-use Rattle.zk_transcript.specs.Legal.{Attachment, attach_of, attach_shown, index_shown, is_below}
+use Rattle.zk_transcript.specs.Legal.{Attachment, attach_of, attach_shown, index_shown, is_below_place}
 use Rattle.zk_transcript.specs.Walks.{Walker, own_update, own_update_shown, packets, packets_from}
 use Rattle.zk_transcript.specs.declared.transcript.TranscriptLine.TheVariants.{Close, Frame as FrameLine, Lapse as LapseLine, Open, Send, Update}
 use Rattle.zk_transcript.specs.declared.transcript.TranscriptLine.{TranscriptLine}
@@ -17,7 +17,7 @@ use Rattle.zp_world_laws.proofs.Packets.{both-true, packets-append}
 use Rattle.zp_world_laws.proofs.Serving.{Elsewhere}
 use Rattle.zp_world_laws.proofs.Talking.{ahead-push, first_place-front, own-none, talks-push}
 use Rattle.zp_world_laws.specs.Holding.{Talks, made_for}
-use Rattle.zp_world_laws.specs.Naming.{is_made_for, is_unnamed, names}
+use Rattle.zp_world_laws.specs.Naming.{is_made_for, is_unnamed, names_conn}
 use Rattle.zx_base.proofs.Options.{none_some, some_is}
 
 not-true : (b : Bool) → not b ≡ true → b ≡ false
@@ -38,50 +38,50 @@ pub made-of : (c : ℕ) (o : Option ℕ) → is_made_for c o ≡ true → o ≡ 
 made-of c None h = absurd (cc)
 made-of c (Some d) h = ap one (sym (number-same c d h))
 
-unmade : (c : ℕ) (u : UpdateRec) → names c (Update u) ≡ false → made_for u.kind ≡ one c → ⊥
+unmade : (c : ℕ) (u : UpdateRec) → names_conn c (Update u) ≡ false → made_for u.kind ≡ one c → ⊥
 unmade c u h = number-made c (made_for u.kind) h
 
-unnamed-attach : (c : ℕ) (l : TranscriptLine) → names c l ≡ false → attach_shown c l ≡ None
+unnamed-attach : (c : ℕ) (l : TranscriptLine) → names_conn c l ≡ false → attach_shown c l ≡ None
 unnamed-attach c (Update u) h = no-attach c u.zxid u.kind (unmade c u h)
 unnamed-attach c _ h = refl
 
-unnamed-index : (c : ℕ) (l : TranscriptLine) → names c l ≡ false → index_shown c l ≡ None
+unnamed-index : (c : ℕ) (l : TranscriptLine) → names_conn c l ≡ false → index_shown c l ≡ None
 unnamed-index c (Update u) h = no-index c u.zxid u.kind (unmade c u h)
 unnamed-index c _ h = refl
 
-unnamed-own : (c i : ℕ) (l : TranscriptLine) → names c l ≡ false → own_update_shown c i l ≡ None
+unnamed-own : (c i : ℕ) (l : TranscriptLine) → names_conn c l ≡ false → own_update_shown c i l ≡ None
 unnamed-own c i (Update u) h = own-none c i (i + 1) u.zxid u.kind (λ j r. absurd (unmade c u h (requested-for u.kind c j r))) (omega arith)
 unnamed-own c i _ h = refl
 
-unnamed-frame : (c i : ℕ) (l : TranscriptLine) → names c l ≡ false → frame_shown c i l ≡ None
+unnamed-frame : (c i : ℕ) (l : TranscriptLine) → names_conn c l ≡ false → frame_shown c i l ≡ None
 unnamed-frame c i (FrameLine d j z bytes) h = ap (λ b. when (b && (i == j)) bytes) h
 unnamed-frame c i _ h = refl
 
-unnamed-open : (c : ℕ) (l : TranscriptLine) → names c l ≡ false → open_shown c l ≡ None
+unnamed-open : (c : ℕ) (l : TranscriptLine) → names_conn c l ≡ false → open_shown c l ≡ None
 unnamed-open c (Open d p id passwd) h = ap (λ b. when b (id, passwd)) h
 unnamed-open c _ h = refl
 
-unnamed-close : (c : ℕ) (l : TranscriptLine) → names c l ≡ false → close_shown c l ≡ None
+unnamed-close : (c : ℕ) (l : TranscriptLine) → names_conn c l ≡ false → close_shown c l ≡ None
 unnamed-close c (Close d end) h = ap (λ b. when b d) h
 unnamed-close c _ h = refl
 
-unnamed-packets : (c k : ℕ) (l : TranscriptLine) → names c l ≡ false → packets_from c k (l ∷ []) ≡ []
+unnamed-packets : (c k : ℕ) (l : TranscriptLine) → names_conn c l ≡ false → packets_from c k (l ∷ []) ≡ []
 unnamed-packets c k (Send d bytes) h = ap (λ b. if b then (k, bytes) ∷ [] else []) h
 unnamed-packets c k _ h = refl
 
 -- ---- several lines
 
-no-place : {A : Type 0} (show : TranscriptLine → Option A) (c k : ℕ) (ls : List TranscriptLine) → ((l : TranscriptLine) → names c l ≡ false → show l ≡ None) → is_unnamed c ls ≡ true → first_place show k ls ≡ None
+no-place : {A : Type 0} (show : TranscriptLine → Option A) (c k : ℕ) (ls : List TranscriptLine) → ((l : TranscriptLine) → names_conn c l ≡ false → show l ≡ None) → is_unnamed c ls ≡ true → first_place show k ls ≡ None
 no-place show c k [] h f = refl
 no-place {A} show c k (l ∷ ls) h f =
-    let q = and_parts (not (names c l)) (is_unnamed c ls) f in
-    ap (λ o. elim o as (λ (p : Option A). Option (ℕ × A)) [ Some z ↦ Some (k, z) | None ↦ first_place show (k + 1) ls ]) (h l (not-true (names c l) q.0)) ∙ no-place show c (k + 1) ls h q.1
+    let q = and_parts (not (names_conn c l)) (is_unnamed c ls) f in
+    ap (λ o. elim o as (λ (p : Option A). Option (ℕ × A)) [ Some z ↦ Some (k, z) | None ↦ first_place show (k + 1) ls ]) (h l (not-true (names_conn c l) q.0)) ∙ no-place show c (k + 1) ls h q.1
 
-none-shown : {A : Type 0} (show : TranscriptLine → Option A) (c : ℕ) (ls : List TranscriptLine) → ((l : TranscriptLine) → names c l ≡ false → show l ≡ None) → is_unnamed c ls ≡ true → first_shown show ls ≡ None
+none-shown : {A : Type 0} (show : TranscriptLine → Option A) (c : ℕ) (ls : List TranscriptLine) → ((l : TranscriptLine) → names_conn c l ≡ false → show l ≡ None) → is_unnamed c ls ≡ true → first_shown show ls ≡ None
 none-shown show c [] h f = refl
 none-shown {A} show c (l ∷ ls) h f =
-    let q = and_parts (not (names c l)) (is_unnamed c ls) f in
-    ap (λ o. elim o as (λ (p : Option A). Option A) [ Some z ↦ Some z | None ↦ first_shown show ls ]) (h l (not-true (names c l) q.0)) ∙ none-shown show c ls h q.1
+    let q = and_parts (not (names_conn c l)) (is_unnamed c ls) f in
+    ap (λ o. elim o as (λ (p : Option A). Option A) [ Some z ↦ Some z | None ↦ first_shown show ls ]) (h l (not-true (names_conn c l) q.0)) ∙ none-shown show c ls h q.1
 
 pub attach-unnamed : (c : ℕ) (lines more : List TranscriptLine) → is_unnamed c more ≡ true → attach_of c (lines ++ more) ≡ attach_of c lines
 attach-unnamed c lines more h = first_place-front (attach_shown c) 0 lines more (λ n. no-place (attach_shown c) c n more (unnamed-attach c) h)
@@ -94,7 +94,7 @@ no-packets c k [] h = refl
 no-packets c k (Send d bytes ∷ ls) h =
     let q = and_parts (not (c == d)) (is_unnamed c ls) h in
     ap (λ b. if b then (k, bytes) ∷ packets_from c (k + 1) ls else packets_from c (k + 1) ls) (not-true (c == d) q.0) ∙ no-packets c (k + 1) ls q.1
-no-packets c k (Update u ∷ ls) h = no-packets c (k + 1) ls ((and_parts (not (names c (Update u))) (is_unnamed c ls) h).1)
+no-packets c k (Update u ∷ ls) h = no-packets c (k + 1) ls ((and_parts (not (names_conn c (Update u))) (is_unnamed c ls) h).1)
 no-packets c k (Open d p id passwd ∷ ls) h = no-packets c (k + 1) ls ((and_parts (not (c == d)) (is_unnamed c ls) h).1)
 no-packets c k (FrameLine d i z bytes ∷ ls) h = no-packets c (k + 1) ls ((and_parts (not (c == d)) (is_unnamed c ls) h).1)
 no-packets c k (LapseLine r id ∷ ls) h = no-packets c (k + 1) ls h
@@ -106,14 +106,14 @@ packets-unnamed c lines more h = packets-append c lines more ∙ ap (λ p. packe
 pub ahead-unnamed : (c i : ℕ) (lines more : List TranscriptLine) → is_unnamed c more ≡ true → is_ahead lines c i ≡ true → is_ahead (lines ++ more) c i ≡ true
 ahead-unnamed c i lines [] h f = subst (λ l. is_ahead l c i ≡ true) (sym (append-nil lines)) f
 ahead-unnamed c i lines (l ∷ ls) h f =
-    let q = and_parts (not (names c l)) (is_unnamed c ls) h in
-    subst (λ k. is_ahead k c i ≡ true) (append_assoc lines (l ∷ []) ls) (ahead-unnamed c i (lines ++ l ∷ []) ls q.1 (ahead-push lines l c i (ap (is_below i) (unnamed-index c l (not-true (names c l) q.0))) f))
+    let q = and_parts (not (names_conn c l)) (is_unnamed c ls) h in
+    subst (λ k. is_ahead k c i ≡ true) (append_assoc lines (l ∷ []) ls) (ahead-unnamed c i (lines ++ l ∷ []) ls q.1 (ahead-push lines l c i (ap (is_below_place i) (unnamed-index c l (not-true (names_conn c l) q.0))) f))
 
 talks-unnamed : (lines more : List TranscriptLine) (c k : ℕ) (a : Attachment) (w : Walker) → is_unnamed c more ≡ true → Talks lines c k a w → Talks (lines ++ more) c k a w
 talks-unnamed lines [] c k a w h t = subst (λ l. Talks l c k a w) (sym (append-nil lines)) t
 talks-unnamed lines (l ∷ ls) c k a w h t =
-    let q = and_parts (not (names c l)) (is_unnamed c ls) h in
-    let n : names c l ≡ false = not-true (names c l) q.0 in
+    let q = and_parts (not (names_conn c l)) (is_unnamed c ls) h in
+    let n : names_conn c l ≡ false = not-true (names_conn c l) q.0 in
     subst (λ m. Talks m c k a w) (append_assoc lines (l ∷ []) ls)
     (talks-unnamed (lines ++ l ∷ []) ls c k a w q.1 (talks-push lines l c k a w (λ j small. unnamed-own c j l n) (unnamed-packets c (length lines) l n) t))
 
@@ -144,5 +144,5 @@ never-sent c lines h = no-packets c 0 lines h
 pub never-carried : (c i : ℕ) (lines : List TranscriptLine) → is_unnamed c lines ≡ true → is_ahead lines c i ≡ true
 never-carried c i [] h = refl
 never-carried c i (l ∷ ls) h =
-    let q = and_parts (not (names c l)) (is_unnamed c ls) h in
-    both-true (is_below i (index_shown c l)) (is_ahead ls c i) (ap (is_below i) (unnamed-index c l (not-true (names c l) q.0))) (never-carried c i ls q.1)
+    let q = and_parts (not (names_conn c l)) (is_unnamed c ls) h in
+    both-true (is_below_place i (index_shown c l)) (is_ahead ls c i) (ap (is_below_place i) (unnamed-index c l (not-true (names_conn c l) q.0))) (never-carried c i ls q.1)

@@ -23,7 +23,7 @@ use Rattle.zp_world_laws.proofs.Plans.{request-commits}
 use Rattle.zp_world_laws.proofs.Transactions.{other-carried, txn-carried, txn-reads}
 use Rattle.zp_world_laws.specs.Bounds.{IsBound, IsBoundAs, IsBoundAsk, IsReading}
 use Rattle.zp_world_laws.specs.Holding.{requested_by}
-use Rattle.zp_world_laws.specs.Serving.{Commits, GuardsHold, Serves, next_revision, only_reads, update_lines}
+use Rattle.zp_world_laws.specs.Serving.{Commits, GuardsHold, StoreServes, next_revision, only_reads, update_lines}
 
 -- the store has the revisions that it had
 pub record Still (s u : Store) (kind : Option UpdateKind) : Type 0 where
@@ -46,7 +46,7 @@ pub record Updated (s u : Store) (lines : List TranscriptLine) (o : Option Updat
 abbrev pub IsNext : List TranscriptLine → UpdateKind → Type 0
 IsNext lines kind = (c i : ℕ) → requested_by kind ≡ Some (record { connection = c; index = i }) → is_ahead lines c i ≡ true
 
-bound-commits : (s : Store) (lines : List TranscriptLine) (kind : UpdateKind) (t : TxnReq) → Serves s lines → next_revision s ≤ℤ last_revision → IsNext lines kind → IsBound s lines kind t → GuardsHold s t → Commits s lines kind t
+bound-commits : (s : Store) (lines : List TranscriptLine) (kind : UpdateKind) (t : TxnReq) → StoreServes s lines → next_revision s ≤ℤ last_revision → IsNext lines kind → IsBound s lines kind t → GuardsHold s t → Commits s lines kind t
 bound-commits s lines (Begin n) t w room next b h = absurd b
 bound-commits s lines (NewSession id c) t w room next b h = new-commits s lines c id t w room b h
 bound-commits s lines (Attach id c) t w room next b h = attach-commits s lines c id t w room b h
@@ -58,7 +58,7 @@ pub next-room : (s : Store) → revision s <ℤ last_revision → next_revision 
 next-room s h = omega (arith, ints, h)
 
 -- a transaction whose guards hold: either it changed nothing, or there was room and it commits
-update-outcome : (s u : Store) (lines : List TranscriptLine) (kind : UpdateKind) (t : TxnReq) (a : Answer) → Serves s lines → IsNext lines kind → IsBound s lines kind t → only_reads t.failure ≡ true → carry s (ask.Txn t) ≡ Some (u, a)
+update-outcome : (s u : Store) (lines : List TranscriptLine) (kind : UpdateKind) (t : TxnReq) (a : Answer) → StoreServes s lines → IsNext lines kind → IsBound s lines kind t → only_reads t.failure ≡ true → carry s (ask.Txn t) ≡ Some (u, a)
     → Still s u (Some kind) ⊎ Updated s u lines (Some kind)
 update-outcome s u lines kind t a w next b reads h = go (succeeds s t) refl
   where
@@ -79,7 +79,7 @@ update-outcome s u lines kind t a w next b reads h = go (succeeds s t) refl
     ]
 
 -- where there is room and the guards hold it commits
-pub plan-commits : (s u : Store) (lines : List TranscriptLine) (kind : UpdateKind) (t : TxnReq) (a : Answer) → Serves s lines → revision s <ℤ last_revision → IsNext lines kind → IsBound s lines kind t → succeeds s t ≡ true → carry s (ask.Txn t) ≡ Some (u, a)
+pub plan-commits : (s u : Store) (lines : List TranscriptLine) (kind : UpdateKind) (t : TxnReq) (a : Answer) → StoreServes s lines → revision s <ℤ last_revision → IsNext lines kind → IsBound s lines kind t → succeeds s t ≡ true → carry s (ask.Txn t) ≡ Some (u, a)
     → Committed s u lines kind × Precedes s u
 plan-commits s u lines kind t a w room next b e h =
     let is : u ≡ grown s (worked s t.success).changes = (txn-carried s u t a h).store ∙ ap (λ q. grown s (worked s (chosen q t)).changes) e in
@@ -92,7 +92,7 @@ reading-outcome s u t a r h = still s u None (ap (λ (v : Store). v.revisions) (
     go true e = txn-reads s u t a true h e r.success
     go false e = txn-reads s u t a false h e r.failure
 
-outcome-as : (s u : Store) (lines : List TranscriptLine) (o : Option UpdateKind) (q : Ask) (a : Answer) → Serves s lines → ((kind : UpdateKind) → o ≡ Some kind → IsNext lines kind) → IsBoundAs s lines o q → carry s q ≡ Some (u, a)
+outcome-as : (s u : Store) (lines : List TranscriptLine) (o : Option UpdateKind) (q : Ask) (a : Answer) → StoreServes s lines → ((kind : UpdateKind) → o ≡ Some kind → IsNext lines kind) → IsBoundAs s lines o q → carry s q ≡ Some (u, a)
     → Still s u o ⊎ Updated s u lines o
 outcome-as s u lines (Some kind) (ask.Txn t) a w next b h = update-outcome s u lines kind t a w (next kind refl) b.0 b.1 h
 outcome-as s u lines (Some kind) (ask.Range r) a w next b h = absurd b
@@ -103,6 +103,6 @@ outcome-as s u lines None (ask.Range r) a w next b h = inl (still s u None (othe
 outcome-as s u lines None (ask.Grant id ttl) a w next b h = inl (still s u None (other-carried s u (ask.Grant id ttl) a tt h))
 outcome-as s u lines None (ask.Alive id) a w next b h = inl (still s u None (other-carried s u (ask.Alive id) a tt h))
 
-pub outcome : (s u : Store) (lines : List TranscriptLine) (x : Asking) (a : Answer) → Serves s lines → ((kind : UpdateKind) → x.kind ≡ Some kind → IsNext lines kind) → IsBoundAsk s lines x → carry s x.ask ≡ Some (u, a)
+pub outcome : (s u : Store) (lines : List TranscriptLine) (x : Asking) (a : Answer) → StoreServes s lines → ((kind : UpdateKind) → x.kind ≡ Some kind → IsNext lines kind) → IsBoundAsk s lines x → carry s x.ask ≡ Some (u, a)
     → Still s u x.kind ⊎ Updated s u lines x.kind
 outcome s u lines x a w next b h = outcome-as s u lines x.kind x.ask a w next b h

@@ -22,7 +22,7 @@ use Rattle.zk_model.specs.declared.request.Request.{Request}
 use Rattle.zk_model.specs.declared.request.Request.TheVariants as req
 use Rattle.zk_transcript.proofs.Lookups.{first_shown-place}
 use Rattle.zk_transcript.proofs.SoundHistories.{legal-sound}
-use Rattle.zk_transcript.specs.Answers.{Told, limit_in, plain_request}
+use Rattle.zk_transcript.specs.Answers.{Told, owned_limit_in, plain_request}
 use Rattle.zk_transcript.specs.History.{Commit, Session, State, after, asked_commit, asked_in, attached_session, commit, committed, frame, frame_shown, limit_of, request, session_at, updated}
 use Rattle.zk_transcript.specs.Legal.{attach_of, follows, is_close, is_id, is_in_order, is_legal, is_live, is_live_as, is_small_frame, is_within_parts, may_update}
 use Rattle.zk_transcript.specs.declared.transcript.TranscriptLine.{TranscriptLine}
@@ -43,7 +43,7 @@ use Rattle.zp_laws.specs.Standing.{IsForTree, is_ahead}
 use Rattle.zp_world_laws.proofs.Commits.{stands-now, zxid-next}
 use Rattle.zp_world_laws.proofs.Packets.{both-true}
 use Rattle.zp_world_laws.specs.Bounds.{IsBoundRequest}
-use Rattle.zp_world_laws.specs.Serving.{Commits, GuardsHold, Serves, next_revision}
+use Rattle.zp_world_laws.specs.Serving.{Commits, GuardsHold, StoreServes, next_revision}
 
 -- ---- the guard on the record of the session's life
 
@@ -129,7 +129,7 @@ changes : (lines : List TranscriptLine) (s : State) (z id : ℤ) (c i now : ℕ)
     → (may_update lines s z (Asked c i now) ≡ true) × (updated lines s z (Asked c i now) ≡ committed s z (commit s.tree (limit_at id s) id q z now))
 unfolding may_update updated
 changes lines s z id c i now q y a some =
-    let limit : limit_of (a.session) ≡ limit_at id s = sym (ap limit_in a.there) in
+    let limit : limit_of (a.session) ≡ limit_at id s = sym (ap owned_limit_in a.there) in
     let is : asked_commit lines s z c i now ≡ commit s.tree (limit_at id s) id q z now = asked_commit-is lines s z c i now id a.session q a.at_c a.asked ∙ ap (λ n. commit s.tree n id q z now) limit in (
       five _ _ _ _ _ (ap is_live a.at_c ∙ ap not a.alive) a.index a.small (ap is_within_parts a.asked ∙ within-parts q a.tree) (ap is_some (is ∙ some)),
       ap (committed s z) is,
@@ -167,7 +167,7 @@ at-last lines c who x a there same =
     subst (λ l. attached_session c (after l) ≡ Some (who.session, x)) e (acts-here lines c who (length lines) a x (ap (λ l. session_at who.session (after l)) e ∙ there) same)
 
 -- a request's plan is an update that the service could make, wherever its guards hold
-pub request-commits : (s : Store) (lines : List TranscriptLine) (c i : ℕ) (t : TxnReq) (kind : UpdateKind) → Serves s lines → next_revision s ≤ℤ last_revision → is_ahead lines c i ≡ true
+pub request-commits : (s : Store) (lines : List TranscriptLine) (c i : ℕ) (t : TxnReq) (kind : UpdateKind) → StoreServes s lines → next_revision s ≤ℤ last_revision → is_ahead lines c i ≡ true
     → IsBoundRequest s lines c i kind t → GuardsHold s t → Commits s lines kind t
 request-commits s lines c i t kind w room last b h =
     let z = next_revision s in

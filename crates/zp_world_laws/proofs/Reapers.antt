@@ -30,7 +30,7 @@ use Rattle.zn_view.specs.declared.want.Want.{Want}
 use Rattle.zp_script.specs.Handing.{Reaps}
 use Rattle.zp_script.specs.Kinds.{kind_asked, kind_of_reap}
 use Rattle.zp_script.specs.StepOutcomes.{StepOutcome, ended_by, ends, leaves, quiet, reap_acts}
-use Rattle.zp_script.specs.Worlds.{Closed, Conn, Connection, Reaper, World, after_reap, conn_at, is_closed, is_over, with_conn}
+use Rattle.zp_script.specs.Worlds.{Closed, Conn, Connection, Reaper, World, after_reap, conn_at, is_closed_actor, is_over, with_conn}
 use Rattle.zp_script.specs.declared.flight.Asking.{Asking}
 use Rattle.zp_script.specs.declared.flight.Flight.TheVariants.{Out}
 use Rattle.zp_laws.proofs.Parts.{revision-kept}
@@ -49,11 +49,11 @@ use Rattle.zp_world_laws.specs.Bounds.{IsBoundAs, IsBoundAsk, IsBoundReap}
 use Rattle.zp_world_laws.specs.Connections.{Whole}
 use Rattle.zp_world_laws.specs.Holding.{asker_in, made_for}
 use Rattle.zp_world_laws.specs.Reaping.{IsReapAnswer, IsReapAsk, IsReapOut, IsStanding}
-use Rattle.zp_world_laws.specs.Serving.{Serves}
+use Rattle.zp_world_laws.specs.Serving.{StoreServes}
 use Rattle.zs_close.specs.Reaping.{IfReaped, IsReapPlan}
 use Rattle.zs_close.specs.declared.reap.Reaping.TheVariants.{Gone, Kept, Planned, TooMany}
 use Rattle.zs_close.specs.declared.reap.Reaping.{Reaping}
-use Rattle.zs_reap.specs.Steps.{Answered, Asks, Decides, Ends, Follows, IsCounted, IsTested, Looked, LookedAgain, LooksFirst, Moves, first_wants}
+use Rattle.zs_reap.specs.Steps.{Answered, Asks, ReaperDecides, ReaperEnds, ReaperFollows, IsReaperCounted, IsReaperTested, ReaperLooked, ReaperLookedAgain, ReaperLooksFirst, ReaperMoves, reaper_wants}
 use Rattle.zs_reap.specs.declared.reap.Phase.TheVariants.{Counting, Looking, Over, Removing, Unasked}
 use Rattle.zs_reap.specs.declared.reap.Phase.{Phase}
 use Rattle.zs_reap.specs.declared.reap.Reap.{Reap}
@@ -64,7 +64,7 @@ use Rattle.zx_base.proofs.Options.{none_some}
 
 -- ---- its ask is carried out
 
-pub reap-carried : (s u : Store) (lines : List TranscriptLine) (r : Reap) (x : Asking) (b : Answer) → Serves u lines → Precedes s u → carry s x.ask ≡ Some (u, b) → IsReapOut s r x → IsReapAnswer u r b
+pub reap-carried : (s u : Store) (lines : List TranscriptLine) (r : Reap) (x : Asking) (b : Answer) → StoreServes u lines → Precedes s u → carry s x.ask ≡ Some (u, b) → IsReapOut s r x → IsReapAnswer u r b
 reap-carried s u lines r x b w p h k = record {
   asked = x.ask;
   before = s;
@@ -90,8 +90,8 @@ pub data ComesTo (store : Store) (id : ℤ) (phase : Phase) : ReapStep → Type 
 comes-on : (store : Store) (id : ℤ) (phase next : Phase) (step : ReapStep) (q : Ask) → IsReapAsk store id next q → Asks next q phase step → ComesTo store id phase step
 comes-on store id phase next step q h (e, is) = subst (ComesTo store id phase) (sym is) (on q (subst (λ p. IsReapAsk store id p q) (sym e) h))
 
-looks-first : (store : Store) (id : ℤ) (phase : Phase) (step : ReapStep) → LooksFirst id phase step → ComesTo store id phase step
-looks-first store id phase step h = comes-on store id phase Looking step (reading (pos 0) (first_wants id)) refl h
+looks-first : (store : Store) (id : ℤ) (phase : Phase) (step : ReapStep) → ReaperLooksFirst id phase step → ComesTo store id phase step
+looks-first store id phase step h = comes-on store id phase Looking step (reading (pos 0) (reaper_wants id)) refl h
 
 -- the view is of a revision whose keys stand for a state
 record IsSeen (store : Store) (v : View) (z : ℤ) : Type 0 where
@@ -112,21 +112,21 @@ module _ (store : Store) (id : ℤ) (v : View) (z : ℤ) (k : IsSeen store v z) 
     txn = refl;
   }
 
-  follows-to : (r : Reaping) (phase : Phase) (step : ReapStep) → IfReaped (IsReapPlan id v) r → Follows v r phase step → ComesTo store id phase step
+  follows-to : (r : Reaping) (phase : Phase) (step : ReapStep) → IfReaped (IsReapPlan id v) r → ReaperFollows v r phase step → ComesTo store id phase step
   follows-to (Planned p) phase step plan h = comes-on store id phase (Removing p.again) step (transaction p) (p, refl, refl, bound p plan) h
   follows-to Kept phase step plan (e, is) = subst (ComesTo store id phase) (sym is) (kept e v.revision)
   follows-to Gone phase step plan (e, is) = subst (ComesTo store id phase) (sym is) (gone e v.revision)
   follows-to TooMany phase step plan h = absurd h
 
-  decides-to : (phase : Phase) (step : ReapStep) → Decides id v phase step → ComesTo store id phase step
+  decides-to : (phase : Phase) (step : ReapStep) → ReaperDecides id v phase step → ComesTo store id phase step
   decides-to phase step d = follows-to d.reaping phase step d.plan d.follows
 
-  counted-to : (phase : Phase) (step : ReapStep) → IsCounted id v phase step → ComesTo store id phase step
-  counted-to phase step c = comes-on store id phase (Counting v.revision (first_wants id ++ c.wants)) step (reading v.revision (first_wants id ++ c.wants)) (subst (IsStanding store) (sym k.same) k.at, refl) c.asks
+  counted-to : (phase : Phase) (step : ReapStep) → IsReaperCounted id v phase step → ComesTo store id phase step
+  counted-to phase step c = comes-on store id phase (Counting v.revision (reaper_wants id ++ c.wants)) step (reading v.revision (reaper_wants id ++ c.wants)) (subst (IsStanding store) (sym k.same) k.at, refl) c.asks
 
   -- after the first look, of a number below 1 or of another
   looked-by : (ws : List Want) (parts : List ActAns) (r : ℤ) (phase : Phase) (step : ReapStep) (below : Bool)
-      → MatchBool below (AreRecords ws parts × Ends (steps.Gone r) phase step) (IsTested id ws r parts × (Decides id v phase step ⊎ IsCounted id v phase step)) → ComesTo store id phase step
+      → MatchBool below (AreRecords ws parts × ReaperEnds (steps.Gone r) phase step) (IsReaperTested id ws r parts × (ReaperDecides id v phase step ⊎ IsReaperCounted id v phase step)) → ComesTo store id phase step
   looked-by ws parts r phase step true h = subst (ComesTo store id phase) (sym h.1.1) (gone h.1.0 r)
   looked-by ws parts r phase step false (tested, inl d) = decides-to phase step d
   looked-by ws parts r phase step false (tested, inr c) = counted-to phase step c
@@ -143,16 +143,16 @@ empty-agrees : (r : ℤ) (m : Keys) → Agrees (record empty_view { revision = r
 empty-agrees r m = record { keys = All-nil (λ (x : SeenKey). get m x.key ≡ x.found); lists = All-nil (λ (x : SeenChildren). x.paths ≡ children_kept m x.path) }
 
 module _ (store : Store) (reap : Reap) (r : ℤ) (b : Bool) (parts : List ActAns) (k : IsReapAnswer store reap (answer.Txn r b parts)) where
-  looked-to : k.asked ≡ reading (pos 0) (first_wants reap.session) → (phase : Phase) (step : ReapStep) → Looked reap.session (first_wants reap.session) r parts phase step → ComesTo store reap.session phase step
+  looked-to : k.asked ≡ reading (pos 0) (reaper_wants reap.session) → (phase : Phase) (step : ReapStep) → ReaperLooked reap.session (reaper_wants reap.session) r parts phase step → ComesTo store reap.session phase step
   looked-to e phase step h =
-      let ws = first_wants reap.session in
+      let ws = reaper_wants reap.session in
       let first = first-shown k.before k.then_store ws r b parts (ap (carry k.before) (sym e) ∙ k.carried_out) in
       let v = viewed r ws parts in
       let agrees : Agrees v (present k.then_store) = subst (λ (t : Store). Agrees v (present t)) (sym (first.1).same) (first.1).agrees in
       let seen = present-seen store k.then_store k.state v r k.is k.begun k.stands (revision-kept (record empty_view { revision = r }) ws parts) first.0 agrees in
       looked-by store reap.session v r seen ws parts r phase step (int_lt reap.session (pos 1)) h
 
-  counting-to : (z : ℤ) (ws : List Want) → IsStanding k.before z → k.asked ≡ reading z ws → (phase : Phase) (step : ReapStep) → LookedAgain reap.session ws z parts phase step → ComesTo store reap.session phase step
+  counting-to : (z : ℤ) (ws : List Want) → IsStanding k.before z → k.asked ≡ reading z ws → (phase : Phase) (step : ReapStep) → ReaperLookedAgain reap.session ws z parts phase step → ComesTo store reap.session phase step
   counting-to z ws st e phase step (tested, h) =
       let v0 : View = record empty_view { revision = z } in
       let v = viewed z ws parts in
@@ -179,7 +179,7 @@ answered-to store reap r b parts k (Counting z ws) (st, e) phase step h = counti
 answered-to store reap r b parts k (Removing again) out phase step h = removing-to store reap r b parts again k out phase step h
 answered-to store reap r b parts k Over out phase step h = absurd h
 
-pub reaps-to : (store : Store) (reap : Reap) (a : Answer) → IsReapAnswer store reap a → (phase : Phase) (step : ReapStep) → Moves reap (Some a) phase step → ComesTo store reap.session phase step
+pub reaps-to : (store : Store) (reap : Reap) (a : Answer) → IsReapAnswer store reap a → (phase : Phase) (step : ReapStep) → ReaperMoves reap (Some a) phase step → ComesTo store reap.session phase step
 reaps-to store reap (answer.Txn r b parts) k phase step h = answered-to store reap r b parts k reap.phase k.out phase step h
 reaps-to store reap (answer.Range r f) k phase step h = absurd h
 reaps-to store reap (answer.Granted r i t) k phase step h = absurd h
@@ -190,7 +190,7 @@ reaps-to store reap (answer.Alive r i t) k phase step h = absurd h
 -- what it asks is an update where it removes, and bound
 reap-bound : (store : Store) (lines : List TranscriptLine) (id : ℤ) (phase : Phase) (q : Ask) → IsReapAsk store id phase q → IsBoundAs store lines (kind_of_reap id phase) q
 reap-bound store lines id Unasked q h = absurd h
-reap-bound store lines id Looking q h = subst (IsBoundAs store lines None) (sym h) (record { success = ranges-read (pos 0) (first_wants id); failure = refl })
+reap-bound store lines id Looking q h = subst (IsBoundAs store lines None) (sym h) (record { success = ranges-read (pos 0) (reaper_wants id); failure = refl })
 reap-bound store lines id (Counting z ws) q (st, e) = subst (IsBoundAs store lines None) (sym e) (record { success = ranges-read z ws; failure = refl })
 reap-bound store lines id (Removing again) q (p, same, e, b) = subst (IsBoundAs store lines (Some (Reaped id))) (sym e) (b, ranges-read (pos 0) p.again)
 reap-bound store lines id Over q h = absurd h
@@ -218,7 +218,7 @@ module _ (w w' : World) (c : ℕ) (x : Conn) (reap : Reap) (a : Answer) (there :
   going-whole next q asks = sets-whole w c x (going next q) (record {
     but = but-of w c h;
     there = there;
-    opens = ap is_closed actor;
+    opens = ap is_closed_actor actor;
     unshut = λ core e. absurd (reaper-core core e);
     serves = λ core e s. absurd (reaper-core core e);
     bound = λ b e. subst (IsBoundAsk w.store w.lines) (out-same _ b e) (reap-bound w.store w.lines next.session next.phase q asks);

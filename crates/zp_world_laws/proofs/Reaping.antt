@@ -18,7 +18,7 @@ use Rattle.zp_world_laws.proofs.Numbers.{conn-here, conn-there, either-number}
 use Rattle.zp_world_laws.specs.Bounds.{IsBoundAsk}
 use Rattle.zp_world_laws.specs.Connections.{IsClosedAt, Whole}
 use Rattle.zp_world_laws.specs.Holding.{Holds, Left, Of, Source, air, asker_in, out_in, out_of, request_in}
-use Rattle.zs_reap.specs.Steps.{first_wants}
+use Rattle.zs_reap.specs.Steps.{reaper_wants}
 use Rattle.zs_reap.specs.declared.reap.Phase.{Phase}
 use Rattle.zs_reap.specs.declared.reap.Reap.{Reap}
 use Rattle.zs_reap.specs.declared.reap.ReapStep.TheVariants as reaped
@@ -99,12 +99,12 @@ module _ (w : World) (c : ℕ) (v : Conn) (reap : Reap) (q : Ask) (free : conn_a
 
 -- the reaper that has looked
 abbrev pub looking_reaper : ℕ → ℤ → Reap → Conn
-looking_reaper p id next = record (new_reaper p id) { actor = Reaper next; flight = Some (Out (record { ask = reading (pos 0) (first_wants id); kind = None })) }
+looking_reaper p id next = record (new_reaper p id) { actor = Reaper next; flight = Some (Out (record { ask = reading (pos 0) (reaper_wants id); kind = None })) }
 
 pub looks-first : (w w' : World) (c p : ℕ) (id : ℤ) (r : ReapSteps c w (new_reaper p id) (new_reap id) None w') → w' ≡ with_conn w c (looking_reaper p id r.next)
 looks-first w w' c p id r =
     let m = (r.stepped).moves in
-    let q : Ask = reading (pos 0) (first_wants id) in
+    let q : Ask = reading (pos 0) (reaper_wants id) in
     let v : Conn = looking_reaper p id r.next in
     r.result
     ∙ ap (λ s. leaves c w (new_reaper p id) (if is_over (r.next).phase then Closed else Reaper r.next) (reap_acts c (kind_of_reap (r.next).session (r.next).phase) None s)) m.1
@@ -114,7 +114,7 @@ looks-first w w' c p id r =
 
 first-look : (w w' : World) (c p : ℕ) (id : ℤ) → conn_at c w ≡ None → ReapSteps c w (new_reaper p id) (new_reap id) None w' → Whole w → Whole w'
 first-look w w' c p id free r h =
-    subst Whole (sym (looks-first w w' c p id r)) (placed-whole w c (looking_reaper p id r.next) r.next (reading (pos 0) (first_wants id)) free refl refl (record { success = ranges-read (pos 0) (first_wants id); failure = refl }) h)
+    subst Whole (sym (looks-first w w' c p id r)) (placed-whole w c (looking_reaper p id r.next) r.next (reading (pos 0) (reaper_wants id)) free refl refl (record { success = ranges-read (pos 0) (reaper_wants id); failure = refl }) h)
 
 pub damaged-memory : (k v : Bytes) → Damaged k v ≡ Memory → ⊥
 damaged-memory k v f = cc

@@ -14,7 +14,7 @@ use Rattle.zp_script.specs.Entries.{cursor_at, next_entry}
 use Rattle.zp_script.specs.Faults.{fault, flight_at, if_fails, is_kept_key}
 use Rattle.zp_script.specs.Happens.{Effect, Happens, Settles, flight_line, is_waiting, max_settling, settling, settling_conn}
 use Rattle.zp_script.specs.Runs.{IsFirst, Runs, RunsFrom}
-use Rattle.zp_script.specs.Worlds.{Conn, World, conn_at, is_closed}
+use Rattle.zp_script.specs.Worlds.{Conn, World, conn_at, is_closed_actor}
 use Rattle.zp_script.specs.declared.flight.Flight.TheVariants.{Carried, Denied, Out}
 use Rattle.zp_script.specs.declared.flight.Flight.{Flight}
 use Rattle.zp_step.specs.Stages.{max_count}
@@ -98,7 +98,7 @@ settling-is c w h e = by-conn (conn_at c w) refl e
 
     by-conn : (o : Option Conn) → conn_at c w ≡ o → settling_conn c w o ≡ Some h → Settling c w h
     by-conn None f p = absurd (none_some p)
-    by-conn (Some x) f p = by-flight x x.flight f refl (if-is (is_closed x.actor) (flight_line c w x x.flight) h p)
+    by-conn (Some x) f p = by-flight x x.flight f refl (if-is (is_closed_actor x.actor) (flight_line c w x x.flight) h p)
 
 settling-grown : (c : ℕ) (w w' : World) (h : Happening) → Settling c w h → Does w h w' → Grown w w'
 settling-grown c w w' _ carries h = exec-grown w w' c h

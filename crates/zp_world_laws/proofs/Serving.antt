@@ -8,7 +8,7 @@ use Rattle.ev_types.specs.declared.answer.Answer.TheVariants as answer
 use Rattle.zk_transcript.proofs.Attachments.{attach_of-push}
 use Rattle.zk_transcript.proofs.Lookups.{first_place-skip, slice_get-front}
 use Rattle.zk_transcript.proofs.Walks.{state_at-push}
-use Rattle.zk_transcript.specs.Legal.{Attachment, is_below, is_legal}
+use Rattle.zk_transcript.specs.Legal.{Attachment, is_below_place, is_legal}
 use Rattle.zk_transcript.specs.Walks.{Walker, own_update, own_update_shown, packets}
 use Rattle.zk_transcript.specs.declared.transcript.TranscriptLine.{TranscriptLine}
 use Rattle.zk_transcript.specs.declared.transcript.TranscriptLine.TheVariants.{Update}
@@ -27,7 +27,7 @@ use Rattle.zp_world_laws.proofs.Lines.{is_plain, packets-plain, plain-index, pla
 use Rattle.zp_world_laws.proofs.Packets.{packets-append}
 use Rattle.zp_world_laws.proofs.Talking.{ahead-push, own-none, talks-push}
 use Rattle.zp_world_laws.specs.Bounds.{attachment}
-use Rattle.zp_world_laws.specs.Connections.{IsFlying, IsServing, is_carried}
+use Rattle.zp_world_laws.specs.Connections.{IsFlying, IsServingConn, is_carried}
 use Rattle.zp_world_laws.specs.Holding.{Talks, made_for}
 
 -- ---- lines more that aren't a connection's own
@@ -44,7 +44,7 @@ elsewhere-none lines c = record { below = λ i f. subst (λ l. is_ahead l c i �
 -- an update of another connection, or of none
 pub elsewhere-update : (lines : List TranscriptLine) (c : ℕ) (z : ℤ) (kind : UpdateKind) → (made_for kind ≡ one c → ⊥) → Elsewhere lines (Update (record { zxid = z; kind = kind }) ∷ []) c
 elsewhere-update lines c z kind h = record {
-  below = λ i f. ahead-push lines (Update (record { zxid = z; kind = kind })) c i (ap (is_below i) (no-index c z kind h)) f;
+  below = λ i f. ahead-push lines (Update (record { zxid = z; kind = kind })) c i (ap (is_below_place i) (no-index c z kind h)) f;
   same = λ i. first_place-skip (own_update_shown c i) 0 lines (Update (record { zxid = z; kind = kind })) (own-none c i (i + 1) z kind (λ j r. absurd (h (requested-for kind c j r))) (omega arith));
   packets = packets-append c lines (Update (record { zxid = z; kind = kind }) ∷ []) ∙ append-nil (packets c lines);
   talks = λ k a w t. talks-push lines (Update (record { zxid = z; kind = kind })) c k a w (λ j small. own-none c j (j + 1) z kind (λ i r. absurd (h (requested-for kind c i r))) (omega arith)) refl t;
@@ -53,7 +53,7 @@ elsewhere-update lines c z kind h = record {
 -- a line that is neither update nor packet
 pub elsewhere-plain : (lines : List TranscriptLine) (c : ℕ) (l : TranscriptLine) → is_plain l ≡ true → Elsewhere lines (l ∷ []) c
 elsewhere-plain lines c l h = record {
-  below = λ i f. ahead-push lines l c i (ap (is_below i) (plain-index c l h)) f;
+  below = λ i f. ahead-push lines l c i (ap (is_below_place i) (plain-index c l h)) f;
   same = λ i. first_place-skip (own_update_shown c i) 0 lines l (plain-own c i l h);
   packets = packets-plain c lines l h;
   talks = λ k a w t. talks-push lines l c k a w (λ j small. plain-own c j l h) (plain-packets c (length lines) l h) t;
@@ -122,7 +122,7 @@ ready-ahead : (s : Store) (lines : List TranscriptLine) (c : ℕ) (core : Core) 
 ready-ahead s lines c core w looked r k = let q : Knows s lines c core w looked Ready = subst (Knows s lines c core w looked) r k in q
 
 pub serving-push : (s u : Store) (lines more : List TranscriptLine) (c : ℕ) (core : Core) (f : Option Flight) → is_legal lines ≡ true → is_legal (lines ++ more) ≡ true → Precedes s u → Elsewhere lines more c
-    → IsServing s lines c core f → IsServing u (lines ++ more) c core f
+    → IsServingConn s lines c core f → IsServingConn u (lines ++ more) c core f
 serving-push s u lines more c core f legal still x e k = record {
   place = k.place;
   attached = attach_of-push lines more c (k.place, attachment core.who) k.attached;

@@ -3,7 +3,7 @@ use Rattle.std.proofs.Common.{ap, false, inl, inr, refl, subst, sym, true, ℕ, 
 use Rattle.std.specs.Prelude.{None, Option, Some, ◌⊎◌}
 use Rattle.zk_transcript.specs.Legal.{Attachment, attach_of}
 use Rattle.zk_transcript.specs.Walks.{Walker}
-use Rattle.zp_script.specs.Worlds.{Conn, Connection, World, conn_at, is_closed, with_conn}
+use Rattle.zp_script.specs.Worlds.{Conn, Connection, World, conn_at, is_closed_actor, with_conn}
 use Rattle.zp_script.specs.declared.flight.Asking.{Asking}
 use Rattle.zp_script.specs.declared.flight.Flight.TheVariants.{Carried, Denied, Out}
 use Rattle.zp_script.specs.declared.flight.Flight.{Flight}
@@ -14,12 +14,12 @@ use Rattle.zp_world_laws.proofs.Closing.{But}
 use Rattle.zp_world_laws.proofs.Kept.{closed-same, no-stray, true-false}
 use Rattle.zp_world_laws.proofs.Numbers.{conn-here, conn-there, either-number, of-same}
 use Rattle.zp_world_laws.specs.Bounds.{IsBoundAsk}
-use Rattle.zp_world_laws.specs.Connections.{IsClosedAt, IsServing, Whole}
+use Rattle.zp_world_laws.specs.Connections.{IsClosedAt, IsServingConn, Whole}
 use Rattle.zp_world_laws.specs.Holding.{Holds, IsAhead, IsSpoken, Left, Of, Source, Talks, air, asker_in, out_in, out_of, request_in}
 use Rattle.zx_base.proofs.Options.{none_some, some_is}
 
 -- nothing of c may still be carried out but what is out of it
-pub lone : (w : World) (c : ℕ) (x : Conn) → ((e d : ℕ) (y : Conn) (a : Asking) → conn_at e w ≡ Some y → y.flight ≡ Some (Out a) → asker_in a ≡ Some d → d ≡ e) → ((k d : ℕ) (a : Asking) → air w (Left k) ≡ Some a → asker_in a ≡ Some d → IsClosedAt w d) → conn_at c w ≡ Some x → is_closed x.actor ≡ false
+pub lone : (w : World) (c : ℕ) (x : Conn) → ((e d : ℕ) (y : Conn) (a : Asking) → conn_at e w ≡ Some y → y.flight ≡ Some (Out a) → asker_in a ≡ Some d → d ≡ e) → ((k d : ℕ) (a : Asking) → air w (Left k) ≡ Some a → asker_in a ≡ Some d → IsClosedAt w d) → conn_at c w ≡ Some x → is_closed_actor x.actor ≡ false
     → (o : Source) (a : Asking) → air w o ≡ Some a → asker_in a ≡ one c → o ≡ Of c
 lone w c x own left there opens (Left k) a e r = absurd (no-stray w c x left there opens k a e r)
 lone w c x own left there opens (Of d) a e r = ap Of (at-conn (conn_at d w) refl e)
@@ -43,9 +43,9 @@ pub record IsHeardAs (w : World) (c : ℕ) (v : Conn) (k : ℕ) (a : Attachment)
 pub record Sets (w : World) (c : ℕ) (x v : Conn) : Type 0 where
   pub but : But w c
   pub there : conn_at c w ≡ Some x
-  pub opens : is_closed x.actor ≡ false
+  pub opens : is_closed_actor x.actor ≡ false
   pub unshut : (core : Core) → v.actor ≡ Connection core → is_shut core.stage ≡ false
-  pub serves : (core : Core) → v.actor ≡ Connection core → is_served core.stage ≡ true → IsServing w.store w.lines c core v.flight
+  pub serves : (core : Core) → v.actor ≡ Connection core → is_served core.stage ≡ true → IsServingConn w.store w.lines c core v.flight
   pub bound : (a : Asking) → v.flight ≡ Some (Out a) → IsBoundAsk w.store w.lines a
   pub own : (a : Asking) (d : ℕ) → v.flight ≡ Some (Out a) → asker_in a ≡ Some d → d ≡ c
   pub heard : (k : ℕ) (a : Attachment) → attach_of c w.lines ≡ Some (k, a) → IsHeardAs w c v k a
@@ -119,7 +119,7 @@ module _ (w : World) (c : ℕ) (x v : Conn) (s : Sets w c x v) where
 
   still : (d : ℕ) → IsClosedAt w d → IsClosedAt (with_conn w c v) d
   still d t = elim (either-number d c) [
-    | inl same ↦ absurd (true-false (sym t.2 ∙ ap (λ (y : Conn). is_closed y.actor) (some_is (sym t.1 ∙ ap (λ n. conn_at n w) same ∙ s.there)) ∙ s.opens))
+    | inl same ↦ absurd (true-false (sym t.2 ∙ ap (λ (y : Conn). is_closed_actor y.actor) (some_is (sym t.1 ∙ ap (λ n. conn_at n w) same ∙ s.there)) ∙ s.opens))
     | inr apart ↦ closed-same w (with_conn w c v) d (others d apart) t
   ]
 
@@ -129,7 +129,7 @@ module _ (w : World) (c : ℕ) (x v : Conn) (s : Sets w c x v) where
     serving = λ d y q e a t. elim (either-number d c) [
       | inl same ↦
           let is = is-here d y same e in
-          subst (λ n. IsServing w.store w.lines n q y.flight) (sym same) (subst (λ (z : Conn). IsServing w.store w.lines c q z.flight) is (s.serves q (ap (λ (z : Conn). z.actor) is ∙ a) t))
+          subst (λ n. IsServingConn w.store w.lines n q y.flight) (sym same) (subst (λ (z : Conn). IsServingConn w.store w.lines c q z.flight) is (s.serves q (ap (λ (z : Conn). z.actor) is ∙ a) t))
       | inr apart ↦ (s.but).serving d y q apart (sym (others d apart) ∙ e) a t
     ];
     unshut = λ d y q e a. elim (either-number d c) [

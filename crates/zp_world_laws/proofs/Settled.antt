@@ -13,7 +13,7 @@ use Rattle.zk_transcript.specs.declared.transcript.TranscriptLine.{TranscriptLin
 use Rattle.zn_layout.specs.declared.entry.Entry.{Entry}
 use Rattle.zp_script.specs.Entries.{cursor_at, cursor_of, cursor_wanted, entry_after, next_entry}
 use Rattle.zp_script.specs.Happens.{entry_line, flight_line, is_waiting, settling, settling_conn, wants_entry}
-use Rattle.zp_script.specs.Worlds.{Actor, Closed, Conn, Connection, Reaper, World, conn_at, is_closed}
+use Rattle.zp_script.specs.Worlds.{Actor, Closed, Conn, Connection, Reaper, World, conn_at, is_closed_actor}
 use Rattle.zp_script.specs.declared.flight.Flight.{Flight}
 use Rattle.zp_script.specs.declared.flight.Flight.TheVariants.{Out, Carried, Denied}
 use Rattle.zp_laws.proofs.Strides.{placed}
@@ -24,7 +24,7 @@ use Rattle.zp_world_laws.proofs.Arrivals.{core-of}
 use Rattle.zp_world_laws.proofs.Lives.{known-at}
 use Rattle.zp_world_laws.specs.Accounting.{IsAccounted}
 use Rattle.zp_world_laws.specs.Connecting.{IsInStage}
-use Rattle.zp_world_laws.specs.Connections.{IsFlying, IsServing}
+use Rattle.zp_world_laws.specs.Connections.{IsFlying, IsServingConn}
 use Rattle.zp_world_laws.specs.Counting.{HasFrames}
 use Rattle.zp_world_laws.specs.Entering.{AreEntries}
 use Rattle.zp_world_laws.specs.Reaping.{IsReapFlight}
@@ -47,7 +47,7 @@ at-end lines entries cursor line looked all none is up most = elim (slice_get_ca
   | inr q ↦ omega (arith, q.0, all.count, is, up, most)
 ]
 
-waits-on : (w : World) (c : ℕ) (core : Core) (p : Pending) (flight : Option Flight) → core.stage ≡ Waiting p → IsAccounted w → IsServing w.store w.lines c core flight → entry_after w.entries core.cursor ≡ None → ⊥
+waits-on : (w : World) (c : ℕ) (core : Core) (p : Pending) (flight : Option Flight) → core.stage ≡ Waiting p → IsAccounted w → IsServingConn w.store w.lines c core flight → entry_after w.entries core.cursor ≡ None → ⊥
 waits-on w c core p flight e h k none =
     let legal = (h.whole.holds.serves).legal in
     let at = placed w.lines core k.walker legal (k.stands).matches in
@@ -78,9 +78,9 @@ module _ (w : World) (c : ℕ) (x : Conn) (h : IsAccounted w) (there : conn_at c
   none-out (Some (Carried a)) e = absurd (none_some (sym e))
   none-out (Some Denied) e = absurd (none_some (sym e))
 
-  module _ (open_now : is_closed x.actor ≡ false) where
+  module _ (open_now : is_closed_actor x.actor ≡ false) where
     no-line : flight_line c w x x.flight ≡ None
-    no-line = lineless (is_closed x.actor) (flight_line c w x x.flight) open_now done-here
+    no-line = lineless (is_closed_actor x.actor) (flight_line c w x x.flight) open_now done-here
 
     idle : x.flight ≡ None
     idle = none-out x.flight no-line
@@ -89,8 +89,8 @@ module _ (w : World) (c : ℕ) (x : Conn) (h : IsAccounted w) (there : conn_at c
     no-entry-line = sym (ap (flight_line c w x) idle) ∙ no-line
 
   module _ (core : Core) (actor : x.actor ≡ Connection core) where
-    open_now : is_closed x.actor ≡ false
-    open_now = ap is_closed actor
+    open_now : is_closed_actor x.actor ≡ false
+    open_now = ap is_closed_actor actor
 
     known : HasFrames w.lines c x.frames core × IsInStage w.store w.lines c core x.flight core.stage
     known = core-of w c x core h.known there actor
@@ -129,7 +129,7 @@ module _ (w : World) (c : ℕ) (x : Conn) (h : IsAccounted w) (there : conn_at c
 
   by-actor : (a : Actor) → x.actor ≡ a → IsIdle x a
   by-actor (Connection core) e = rests core e
-  by-actor (Reaper r) e = absurd (subst (IsReapFlight w.store r) (idle (ap is_closed e)) (known-at w c x (Reaper r) h.known there e))
+  by-actor (Reaper r) e = absurd (subst (IsReapFlight w.store r) (idle (ap is_closed_actor e)) (known-at w c x (Reaper r) h.known there e))
   by-actor Closed e = tt
 
 pub settled-idle : SettledIsIdle

@@ -63,7 +63,7 @@ use Rattle.zp_world_laws.proofs.Speaking.{all-quiet}
 use Rattle.zp_world_laws.proofs.Talking.{is_quiet}
 use Rattle.zp_world_laws.specs.Holding.{Left, Of, Source, air, left_in, out_in, out_of}
 use Rattle.zp_world_laws.specs.Serving.{kind_lines, update_lines}
-use Rattle.zs_reap.specs.Steps.{first_wants}
+use Rattle.zs_reap.specs.Steps.{reaper_wants}
 use Rattle.zs_reap.specs.declared.reap.Phase.TheVariants.{Counting, Looking, Over, Removing, Unasked}
 use Rattle.zs_reap.specs.declared.reap.Phase.{Phase as ReapPhase}
 use Rattle.zs_reap.specs.declared.reap.Reap.{Reap}
@@ -501,7 +501,7 @@ begin-since w w' c p id free (inl e) = absurd (damaged-memory e.key e.value e.fo
 begin-since w w' c p id free (inr r) =
     let v : Conn = looking_reaper p id r.next in
     since-to w (with_conn w c v) w' (looks-first w w' c p id r)
-    (since-quiet w (with_conn w c v) [] refl (new-since w c v free (λ x f. none-now w.clock x (ap (λ (y : Asking). y.kind) (sym (out-same (record { ask = reading (pos 0) (first_wants id); kind = None }) x f))))) (sym (append-nil w.lines)) refl)
+    (since-quiet w (with_conn w c v) [] refl (new-since w c v free (λ x f. none-now w.clock x (ap (λ (y : Asking). y.kind) (sym (out-same (record { ask = reading (pos 0) (reaper_wants id); kind = None }) x f))))) (sym (append-nil w.lines)) refl)
   where
     out-same : (y z : Asking) → Some (Out y) ≡ Some (Out z) → y ≡ z
     out-same y z e = cc

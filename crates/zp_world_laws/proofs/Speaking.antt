@@ -7,7 +7,7 @@ use Rattle.std.specs.Prelude.{None, Some, if◌then◌else◌, ◌==◌}
 use Rattle.zk_transcript.proofs.Appending.{after-push}
 use Rattle.zk_transcript.specs.Conversations.{IsShownFresh}
 use Rattle.zk_transcript.specs.History.{State, after, first_place}
-use Rattle.zk_transcript.specs.Legal.{Attachment, attach_of, attach_shown, index_shown, is_below}
+use Rattle.zk_transcript.specs.Legal.{Attachment, attach_of, attach_shown, index_shown, is_below_place}
 use Rattle.zk_transcript.specs.Walks.{Walker, own_update, own_update_shown, packets, packets_from}
 use Rattle.zk_transcript.specs.declared.transcript.TranscriptLine.TheVariants.{Close, Frame as FrameLine, Lapse as LapseLine, Open, Send, Update}
 use Rattle.zk_transcript.specs.declared.transcript.TranscriptLine.{TranscriptLine}
@@ -25,7 +25,7 @@ use Rattle.zp_world_laws.proofs.Packets.{both-true, packets-append}
 use Rattle.zp_world_laws.proofs.Serving.{Elsewhere, serving-push}
 use Rattle.zp_world_laws.proofs.Talking.{ahead-push, first_place-front, is_quiet, talks-push}
 use Rattle.zp_world_laws.specs.Holding.{Holds, IsSpoken, Left, Of, Source, Talks, air, asker_in}
-use Rattle.zp_world_laws.specs.Serving.{Serves}
+use Rattle.zp_world_laws.specs.Serving.{StoreServes}
 use Rattle.zx_base.proofs.Options.{some_is}
 
 speech-quiet : (c : ℕ) (l : TranscriptLine) → is_speech c l ≡ true → is_quiet l ≡ true
@@ -40,11 +40,11 @@ speech-frame : (c : ℕ) (l : TranscriptLine) → is_speech c l ≡ true → (d 
 speech-frame c (Send e bytes) h d i z b f = cc
 speech-frame c _ h d i z b f = absurd (cc)
 
-serves-speech : (c : ℕ) (s : Store) (lines ls : List TranscriptLine) → list_all (is_speech c) ls ≡ true → Serves s lines → Serves s (lines ++ ls)
-serves-speech c s lines [] h w = subst (λ l. Serves s l) (sym (append-nil lines)) w
+serves-speech : (c : ℕ) (s : Store) (lines ls : List TranscriptLine) → list_all (is_speech c) ls ≡ true → StoreServes s lines → StoreServes s (lines ++ ls)
+serves-speech c s lines [] h w = subst (λ l. StoreServes s l) (sym (append-nil lines)) w
 serves-speech c s lines (l ∷ ls) h w =
     let q = and_parts (is_speech c l) (list_all (is_speech c) ls) h in
-    subst (λ k. Serves s k) (append_assoc lines (l ∷ []) ls) (serves-speech c s (lines ++ l ∷ []) ls q.1 (serves-quiet s lines l (speech-quiet c l q.0) w))
+    subst (λ k. StoreServes s k) (append_assoc lines (l ∷ []) ls) (serves-speech c s (lines ++ l ∷ []) ls q.1 (serves-quiet s lines l (speech-quiet c l q.0) w))
 
 fresh-speech : (c : ℕ) (lines ls : List TranscriptLine) → list_all (is_speech c) ls ≡ true → IsShownFresh lines → IsShownFresh (lines ++ ls)
 fresh-speech c lines [] h w = subst IsShownFresh (sym (append-nil lines)) w
@@ -99,7 +99,7 @@ pub ahead-speech : (c d i : ℕ) (lines ls : List TranscriptLine) → list_all (
 ahead-speech c d i lines [] h f = subst (λ l. is_ahead l d i ≡ true) (sym (append-nil lines)) f
 ahead-speech c d i lines (l ∷ ls) h f =
     let q = and_parts (is_speech c l) (list_all (is_speech c) ls) h in
-    subst (λ k. is_ahead k d i ≡ true) (append_assoc lines (l ∷ []) ls) (ahead-speech c d i (lines ++ l ∷ []) ls q.1 (ahead-push lines l d i (ap (is_below i) (speech-index c d l q.0)) f))
+    subst (λ k. is_ahead k d i ≡ true) (append_assoc lines (l ∷ []) ls) (ahead-speech c d i (lines ++ l ∷ []) ls q.1 (ahead-push lines l d i (ap (is_below_place i) (speech-index c d l q.0)) f))
 
 pub speech-zxid : (c : ℕ) (lines ls : List TranscriptLine) → list_all (is_speech c) ls ≡ true → (after (lines ++ ls)).zxid ≡ (after lines).zxid
 speech-zxid c lines [] h = ap (λ l. (after l).zxid) (append-nil lines)

@@ -9,7 +9,7 @@ use Rattle.std.proofs.lemmas.List.Folds.{list_all-append}
 use Rattle.zk_transcript.proofs.Choices.{choices-append, fresh-push, turn-push}
 use Rattle.zk_transcript.proofs.Longer.{stays-line, walk-push}
 use Rattle.zk_transcript.specs.History.{first_place, when}
-use Rattle.zk_transcript.specs.Legal.{Attachment, index_shown, is_below}
+use Rattle.zk_transcript.specs.Legal.{Attachment, index_shown, is_below_place}
 use Rattle.zk_transcript.specs.Walks.{Choice, Due, Walker, all_choices, are_fresh, are_in_turn, are_sent, at_start, is_fresh, is_in_turn, own_update_shown, packets, packets_from, walk}
 use Rattle.zk_transcript.specs.declared.transcript.TranscriptLine.{TranscriptLine}
 use Rattle.zk_transcript.specs.declared.transcript.TranscriptLine.TheVariants.{Update, Lapse}
@@ -122,7 +122,7 @@ own-none c j n z (Reaped id) h small = refl
 
 -- ---- the requests of a connection from an index on have no line
 
-pub ahead-push : (lines : List TranscriptLine) (l : TranscriptLine) (c i : ℕ) → is_below i (index_shown c l) ≡ true → is_ahead lines c i ≡ true → is_ahead (lines ++ l ∷ []) c i ≡ true
+pub ahead-push : (lines : List TranscriptLine) (l : TranscriptLine) (c i : ℕ) → is_below_place i (index_shown c l) ≡ true → is_ahead lines c i ≡ true → is_ahead (lines ++ l ∷ []) c i ≡ true
 ahead-push lines l c i h f =
-    list_all-append (λ x. is_below i (index_shown c x)) lines (l ∷ [])
-    ∙ both-true (is_ahead lines c i) (is_below i (index_shown c l) && true) f (both-true (is_below i (index_shown c l)) true h refl)
+    list_all-append (λ x. is_below_place i (index_shown c x)) lines (l ∷ [])
+    ∙ both-true (is_ahead lines c i) (is_below_place i (index_shown c l) && true) f (both-true (is_below_place i (index_shown c l)) true h refl)

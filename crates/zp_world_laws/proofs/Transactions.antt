@@ -2,7 +2,7 @@
 use Rattle.std.proofs.Common.{◌≡◌, List, [], ◌∷◌, refl, sym, ap, ◌∙◌, arith, Bool, true, false, ℤ, inl, inr}
 use Rattle.std.specs.Prelude.{Some, None, ◌⊎◌, ◌<ℤ◌, ◌||◌, if◌then◌else◌}
 use Rattle.std.proofs.lemmas.Int.{ints}
-use Rattle.ev_types.specs.Denials.{carry, is_denied, is_full}
+use Rattle.ev_types.specs.Denials.{carry, is_denied, is_full_store}
 use Rattle.ev_types.specs.Ranges.{Keys}
 use Rattle.ev_types.specs.Store.{Store, Change, acts_from, carried_out, chosen, grown, last_revision, present, revision, succeeds, txn_done, worked}
 use Rattle.ev_types.specs.declared.answer.ActAns.{ActAns}
@@ -27,13 +27,13 @@ or-last false b h = h
 abbrev HasRoom : Store → List Change → Type 0
 HasRoom s cs = (grown s cs ≡ s) ⊎ (revision s <ℤ last_revision)
 
-not-full : (s : Store) (cs : List Change) → is_full s cs ≡ false → HasRoom s cs
+not-full : (s : Store) (cs : List Change) → is_full_store s cs ≡ false → HasRoom s cs
 not-full s [] h = inl refl
 not-full s (c ∷ cs) h = inr (grind (arith, ints, h))
 
-txn-room : (s : Store) (t : TxnReq) → is_denied s (ask.Txn t) ≡ false → is_full s (worked s (chosen (succeeds s t) t)).changes ≡ false
+txn-room : (s : Store) (t : TxnReq) → is_denied s (ask.Txn t) ≡ false → is_full_store s (worked s (chosen (succeeds s t) t)).changes ≡ false
 unfolding is_denied
-txn-room s t h = or-last _ (is_full s (worked s (chosen (succeeds s t) t)).changes) h
+txn-room s t h = or-last _ (is_full_store s (worked s (chosen (succeeds s t) t)).changes) h
 
 pub record IsTxnDone (s u : Store) (t : TxnReq) : Type 0 where
   pub store : u ≡ grown s (worked s (chosen (succeeds s t) t)).changes

@@ -37,7 +37,7 @@ use Rattle.zp_world_laws.proofs.Knowing.{rests-push}
 use Rattle.zp_world_laws.proofs.Refusing.{again-parts, may-be-refused}
 use Rattle.zp_world_laws.specs.Connecting.{HasOwnLine, IsConnectAnswer, IsOwnSession, IsSeenLife, RestsOn}
 use Rattle.zs_session.specs.Answering.{viewed}
-use Rattle.zs_session.specs.Connecting.{Answers, Attached, Created, Ends, Kept, Looked, LooksFirst, Resumes, SawMine, Waits, asked_in, is_taken, number_shown, timeout_in}
+use Rattle.zs_session.specs.Connecting.{ConnectAnswers, Attached, Created, ConnectEnds, Kept, ConnectLooked, ConnectLooksFirst, Resumes, SawMine, Waits, asked_in_phase, is_taken, number_shown, timeout_in}
 use Rattle.zs_session.specs.Sessions.{attach_changes, attach_guards, attach_txn, attach_wants, first_wants, life_key, session_wants}
 use Rattle.zs_session.specs.declared.connect.Connect.{Connect}
 use Rattle.zs_session.specs.declared.connect.ConnectStep.TheVariants as steps
@@ -50,7 +50,7 @@ use Rattle.zx_base.proofs.Options.{none_some, some_is}
 
 -- the next ask and what it rests on; or an end, of which the client is told where its resume is refused; or the welcome
 pub data LeadsTo (store : Store) (lines : List TranscriptLine) (c : ℕ) (s : State) (x : Connect) (phase : Phase) : ConnectStep → Type 0 where
-  goes_on : (q : Ask) (asked : asked_in x phase ≡ Some q) (rests : RestsOn store s.zxid x.request phase) (none : attach_of c lines ≡ None) → LeadsTo store lines c s x phase (steps.Ask q)
+  goes_on : (q : Ask) (asked : asked_in_phase x phase ≡ Some q) (rests : RestsOn store s.zxid x.request phase) (none : attach_of c lines ≡ None) → LeadsTo store lines c s x phase (steps.Ask q)
   ahead : (client head : ℤ) → LeadsTo store lines c s x phase (steps.Ahead client head)
   taken : (r : ℤ) → LeadsTo store lines c s x phase (steps.Taken r)
   unknown : (none : attach_of c lines ≡ None) (refused : may_refuse x.request s ≡ true) → LeadsTo store lines c s x phase steps.Unknown
@@ -65,14 +65,14 @@ pub record IsLookAt (store : Store) (s : State) (v : View) : Type 0 where
   pub agrees : Agrees v (store_at store number)
 
 module _ (store : Store) (lines : List TranscriptLine) (c : ℕ) (s : State) (x : Connect) (phase : Phase) (none : attach_of c lines ≡ None) where
-  waits-on : (next : Phase) (step : ConnectStep) (q : Ask) → asked_in x next ≡ Some q → RestsOn store s.zxid x.request next → Waits x next phase step → LeadsTo store lines c s x phase step
-  waits-on next (steps.Ask a) q e r (p, same) = goes_on a (ap (asked_in x) p ∙ sym same) (subst (RestsOn store s.zxid x.request) (sym p) r) none
+  waits-on : (next : Phase) (step : ConnectStep) (q : Ask) → asked_in_phase x next ≡ Some q → RestsOn store s.zxid x.request next → Waits x next phase step → LeadsTo store lines c s x phase step
+  waits-on next (steps.Ask a) q e r (p, same) = goes_on a (ap (asked_in_phase x) p ∙ sym same) (subst (RestsOn store s.zxid x.request) (sym p) r) none
   waits-on next (steps.Attached response who timeout number zxid) q e r (p, same) = absurd (none_some (same ∙ e))
   waits-on next (steps.Ahead client head) q e r (p, same) = absurd (none_some (same ∙ e))
   waits-on next steps.Unknown q e r (p, same) = absurd (none_some (same ∙ e))
   waits-on next (steps.Taken rev) q e r (p, same) = absurd (none_some (same ∙ e))
 
-  ends-so : (step end : ConnectStep) → LeadsTo store lines c s x phase end → Ends end phase step → LeadsTo store lines c s x phase step
+  ends-so : (step end : ConnectStep) → LeadsTo store lines c s x phase end → ConnectEnds end phase step → LeadsTo store lines c s x phase step
   ends-so step end h (p, same) = subst (LeadsTo store lines c s x phase) (sym same) h
 
 module _ (store : Store) (lines : List TranscriptLine) (c : ℕ) (s : State) (x : Connect) (v : View) (look : IsLookAt store s v) (sound : IsSound s) (looked : pos 1 ≤ℤ x.request.session → seen v (key_bytes (life_key x.request.session)) ≡ None → ⊥) (phase : Phase) (step : ConnectStep) (none : attach_of c lines ≡ None) where
@@ -92,13 +92,13 @@ module _ (store : Store) (lines : List TranscriptLine) (c : ℕ) (s : State) (x 
         was = record { number = look.number; known = look.known; kv = a.kv; there = there; put = sym a.revision; value = (a.value).1 };
       }
 
-  pub resumes-to : int_eq x.request.session (pos 0) ≡ false → x.request.last_zxid ≤ℤ s.zxid → (next : ℤ → LeaseRec → Phase) → ((seen : ℤ) (life : LeaseRec) → IsSeenLife store x.request seen life → RestsOn store s.zxid x.request (next seen life)) → ((seen : ℤ) (life : LeaseRec) → (q : Ask) × (asked_in x (next seen life) ≡ Some q))
+  pub resumes-to : int_eq x.request.session (pos 0) ≡ false → x.request.last_zxid ≤ℤ s.zxid → (next : ℤ → LeaseRec → Phase) → ((seen : ℤ) (life : LeaseRec) → IsSeenLife store x.request seen life → RestsOn store s.zxid x.request (next seen life)) → ((seen : ℤ) (life : LeaseRec) → (q : Ask) × (asked_in_phase x (next seen life) ≡ Some q))
       → Resumes x v next phase step → LeadsTo store lines c s x phase step
   resumes-to some past next rests asks (inl gone) = ends-so store lines c s x phase none step steps.Unknown (unknown none (may-be-refused x.request s v (store_at store look.number) sound look.stands look.agrees looked gone.0 some past)) gone.1
   resumes-to some past next rests asks (inr (seen, life, mine, waits)) = let q = asks seen life in waits-on store lines c s x phase none (next seen life) step q.0 q.1 (rests seen life (saw-life seen life mine)) waits
 
   -- the head that was seen is that of the state
-  pub looks-to : (seen v (key_bytes HeadKey) ≡ None → ⊥) → LooksFirst x v phase step → LeadsTo store lines c s x phase step
+  pub looks-to : (seen v (key_bytes HeadKey) ≡ None → ⊥) → ConnectLooksFirst x v phase step → LeadsTo store lines c s x phase step
   looks-to there h = go (int_lt (head_zxid (head_of v)) x.request.last_zxid) refl h
     where
       told : head_zxid (head_of v) ≡ s.zxid
@@ -115,7 +115,7 @@ module _ (store : Store) (lines : List TranscriptLine) (c : ℕ) (s : State) (x 
       by-session false e past k = resumes-to e past Keeping (λ seen life saw. (saw, past)) (λ seen life. (ask.Alive x.request.session, refl)) k
 
       go : (b : Bool) → int_lt (head_zxid (head_of v)) x.request.last_zxid ≡ b
-          → MatchBool b (Ends (steps.Ahead x.request.last_zxid (head_zxid (head_of v))) phase step) (MatchBool (int_eq x.request.session (pos 0)) (Waits x Granting phase step) (Resumes x v Keeping phase step)) → LeadsTo store lines c s x phase step
+          → MatchBool b (ConnectEnds (steps.Ahead x.request.last_zxid (head_zxid (head_of v))) phase step) (MatchBool (int_eq x.request.session (pos 0)) (Waits x Granting phase step) (Resumes x v Keeping phase step)) → LeadsTo store lines c s x phase step
       go true e k = ends-so store lines c s x phase none step (steps.Ahead x.request.last_zxid (head_zxid (head_of v))) (ahead x.request.last_zxid (head_zxid (head_of v))) k
       go false e k = by-session (int_eq x.request.session (pos 0)) refl (subst (λ y. x.request.last_zxid ≤ℤ y) told (not-less (head_zxid (head_of v)) x.request.last_zxid e)) k
 
@@ -160,8 +160,8 @@ module _ (store : Store) (lines : List TranscriptLine) (c place : ℕ) (x : Conn
       let first = first-shown k.before k.then_store ws r b parts (ap (carry k.before) (sym e) ∙ k.carried_out) in
       at-then (viewed r ws parts) (subst (λ (t : Store). Agrees (viewed r ws parts) (present t)) (sym (first.1).same) (first.1).agrees)
 
-  asks-in : (p : Phase) (q : Ask) → x.phase ≡ p → asked_in x p ≡ Some q → k.asked ≡ q
-  asks-in p q e is = some_is (sym k.out ∙ ap (asked_in x) e ∙ is)
+  asks-in : (p : Phase) (q : Ask) → x.phase ≡ p → asked_in_phase x p ≡ Some q → k.asked ≡ q
+  asks-in p q e is = some_is (sym k.out ∙ ap (asked_in_phase x) e ∙ is)
 
   rests-in : (p : Phase) → x.phase ≡ p → RestsOn store (state_at lines k.looked).zxid x.request p
   rests-in p e = subst (RestsOn store (state_at lines k.looked).zxid x.request) e (rests-push k.then_store store (state_at lines k.looked).zxid (state_at lines k.looked).zxid x.request x.phase k.is (omega (arith, ints)) k.rests)
@@ -169,7 +169,7 @@ module _ (store : Store) (lines : List TranscriptLine) (c place : ℕ) (x : Conn
   own-in : (p : Phase) → x.phase ≡ p → HasOwnLine lines c x p (answer.Txn r b parts)
   own-in p e = subst (λ q. HasOwnLine lines c x q (answer.Txn r b parts)) e k.own
 
-  first-to : x.phase ≡ Looking → (phase : Phase) (step : ConnectStep) → Looked x r parts phase step → LeadsTo store lines c (state_at lines k.looked) x phase step
+  first-to : x.phase ≡ Looking → (phase : Phase) (step : ConnectStep) → ConnectLooked x r parts phase step → LeadsTo store lines c (state_at lines k.looked) x phase step
   first-to e phase step (records, h) =
       let asks = asks-in Looking (reading (pos 0) (first_wants x.request)) e refl in
       looks-to store lines c (state_at lines k.looked) x (viewed r (first_wants x.request) parts) (read-look (first_wants x.request) asks) k.sound (λ least none. wanted-seen k.before k.then_store (first_wants x.request) r b parts (record empty_view { revision = r }) (life_key x.request.session) (ap (carry k.before) (sym asks) ∙ k.carried_out) (life-wanted x.request least) none) phase step (own-in Looking e)
@@ -206,7 +206,7 @@ attached-to store lines c place x r false parts k seen life e phase step (record
     let rests = rests-in store lines c place x r false parts k (Attaching seen life) e in
     again-to store lines c place x r false parts k v look (λ least none. wanted-shown (record empty_view { revision = r }) (attach_wants x.request.session) parts (key_want (life_key x.request.session)) (omega (arith, again-parts k.before k.then_store (attach_plan x.request.session seen life) r parts (ap (carry k.before) (sym asks) ∙ k.carried_out))) (0, omega arith, refl) none) (rests.0).session (own-in store lines c place x r false parts k (Attaching seen life) e) rests.1 phase step h
 
-txn-to : (store : Store) (lines : List TranscriptLine) (c place : ℕ) (x : Connect) (r : ℤ) (b : Bool) (parts : List ActAns) (k : IsConnectAnswer store lines c place x (answer.Txn r b parts)) (p : Phase) → x.phase ≡ p → (phase : Phase) (step : ConnectStep) → Answers x p (answer.Txn r b parts) phase step
+txn-to : (store : Store) (lines : List TranscriptLine) (c place : ℕ) (x : Connect) (r : ℤ) (b : Bool) (parts : List ActAns) (k : IsConnectAnswer store lines c place x (answer.Txn r b parts)) (p : Phase) → x.phase ≡ p → (phase : Phase) (step : ConnectStep) → ConnectAnswers x p (answer.Txn r b parts) phase step
     → LeadsTo store lines c (state_at lines k.looked) x phase step
 txn-to store lines c place x r b parts k Unasked e phase step h = absurd h
 txn-to store lines c place x r b parts k Looking e phase step h = first-to store lines c place x r b parts k e phase step h
@@ -238,11 +238,11 @@ module _ (store : Store) (lines : List TranscriptLine) (c place : ℕ) (x : Conn
       (λ w. waits-on store lines c (state_at lines k.looked) x phase none LookingAgain step _ refl ((rests.0).session, rests.1) w)
       (λ w. waits-on store lines c (state_at lines k.looked) x phase none (Attaching seen life) step _ refl rests w)
 
-pub leads-to : (store : Store) (lines : List TranscriptLine) (c place : ℕ) (x : Connect) (a : Answer) (k : IsConnectAnswer store lines c place x a) (phase : Phase) (step : ConnectStep) → Answers x x.phase a phase step → LeadsTo store lines c (state_at lines k.looked) x phase step
+pub leads-to : (store : Store) (lines : List TranscriptLine) (c place : ℕ) (x : Connect) (a : Answer) (k : IsConnectAnswer store lines c place x a) (phase : Phase) (step : ConnectStep) → ConnectAnswers x x.phase a phase step → LeadsTo store lines c (state_at lines k.looked) x phase step
 leads-to store lines c place x (answer.Txn r b parts) k phase step h = txn-to store lines c place x r b parts k x.phase refl phase step h
 leads-to store lines c place x (answer.Alive r i seconds) k phase step h = go x.phase refl h
   where
-    go : (p : Phase) → x.phase ≡ p → Answers x p (answer.Alive r i seconds) phase step → LeadsTo store lines c (state_at lines k.looked) x phase step
+    go : (p : Phase) → x.phase ≡ p → ConnectAnswers x p (answer.Alive r i seconds) phase step → LeadsTo store lines c (state_at lines k.looked) x phase step
     go Unasked e g = absurd g
     go Looking e g = absurd g
     go Granting e g = granted-to store lines c place x (answer.Alive r i seconds) k e phase step g
@@ -253,7 +253,7 @@ leads-to store lines c place x (answer.Alive r i seconds) k phase step h = go x.
     go Over e g = absurd g
 leads-to store lines c place x (answer.Range r f) k phase step h = go x.phase refl h
   where
-    go : (p : Phase) → x.phase ≡ p → Answers x p (answer.Range r f) phase step → LeadsTo store lines c (state_at lines k.looked) x phase step
+    go : (p : Phase) → x.phase ≡ p → ConnectAnswers x p (answer.Range r f) phase step → LeadsTo store lines c (state_at lines k.looked) x phase step
     go Unasked e g = absurd g
     go Looking e g = absurd g
     go Granting e g = granted-to store lines c place x (answer.Range r f) k e phase step g
@@ -264,7 +264,7 @@ leads-to store lines c place x (answer.Range r f) k phase step h = go x.phase re
     go Over e g = absurd g
 leads-to store lines c place x (answer.Granted r i t) k phase step h = go x.phase refl h
   where
-    go : (p : Phase) → x.phase ≡ p → Answers x p (answer.Granted r i t) phase step → LeadsTo store lines c (state_at lines k.looked) x phase step
+    go : (p : Phase) → x.phase ≡ p → ConnectAnswers x p (answer.Granted r i t) phase step → LeadsTo store lines c (state_at lines k.looked) x phase step
     go Unasked e g = absurd g
     go Looking e g = absurd g
     go Granting e g = granted-to store lines c place x (answer.Granted r i t) k e phase step g

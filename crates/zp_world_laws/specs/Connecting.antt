@@ -26,7 +26,7 @@ use Rattle.zp_laws.specs.Inputs.{Precedes}
 use Rattle.zp_laws.specs.Standing.{is_ahead}
 use Rattle.zp_step.specs.Stages.{Connecting, Core, Stage, Unconnected}
 use Rattle.zp_world_laws.specs.Bounds.{WasLifeOf}
-use Rattle.zs_session.specs.Connecting.{asked_in, number_shown, timeout_in}
+use Rattle.zs_session.specs.Connecting.{asked_in_phase, number_shown, timeout_in}
 use Rattle.zs_session.specs.declared.connect.Connect.{Connect}
 use Rattle.zs_session.specs.declared.connect.Fresh.{Fresh}
 use Rattle.zs_session.specs.declared.connect.Phase.TheVariants.{Attaching, Creating, Granting, Keeping, Looking, LookingAgain, Over, Unasked}
@@ -100,7 +100,7 @@ HasOwnLine lines c x phase a = attach_of c lines ≡ None
 -- what the phase asks was carried out at the moment `looked`, after the connect's line
 pub record IsConnectAnswer (store : Store) (lines : List TranscriptLine) (c place : ℕ) (x : Connect) (a : Answer) : Type 0 where
   pub asked : Ask
-  pub out : asked_in x x.phase ≡ Some asked
+  pub out : asked_in_phase x x.phase ≡ Some asked
   pub before : Store
   pub then_store : Store
   pub carried_out : carry before asked ≡ Some (then_store, a)
@@ -119,7 +119,7 @@ pub record IsConnectAnswer (store : Store) (lines : List TranscriptLine) (c plac
 
 -- what the phase asks, which may be carried out at any later time
 pub record IsConnectOut (store : Store) (lines : List TranscriptLine) (c : ℕ) (x : Connect) (a : Asking) : Type 0 where
-  pub asked : asked_in x x.phase ≡ Some a.ask
+  pub asked : asked_in_phase x x.phase ≡ Some a.ask
   pub kind : a.kind ≡ kind_of_connect c x x.phase
   pub rests : RestsOn store (after lines).zxid x.request x.phase
   pub unattached : attach_of c lines ≡ None

@@ -15,7 +15,7 @@ use Rattle.zp_script.specs.declared.flight.Asking.{Asking}
 use Rattle.zp_script.specs.declared.flight.Flight.{Flight}
 use Rattle.zp_script.specs.declared.flight.Flight.TheVariants.{Out, Carried, Denied}
 use Rattle.zp_script.specs.Kinds.{kind_in_stage}
-use Rattle.zp_script.specs.Worlds.{Conn, Connection, World, conn_at, is_closed}
+use Rattle.zp_script.specs.Worlds.{Conn, Connection, World, conn_at, is_closed_actor}
 use Rattle.zp_world_laws.specs.Bounds.{attachment}
 use Rattle.zp_world_laws.specs.Holding.{Holds, Left, Talks, air, asker_in}
 
@@ -39,7 +39,7 @@ is_carried _ = false
 
 -- ---- an open connection with a session
 
-pub record IsServing (store : Store) (lines : List TranscriptLine) (c : ℕ) (core : Core) (flight : Option Flight) : Type 0 where
+pub record IsServingConn (store : Store) (lines : List TranscriptLine) (c : ℕ) (core : Core) (flight : Option Flight) : Type 0 where
   pub place : ℕ
   pub attached : attach_of c lines ≡ Some (place, attachment core.who)
   pub least : pos 1 ≤ℤ core.who.session
@@ -61,14 +61,14 @@ pub record IsServing (store : Store) (lines : List TranscriptLine) (c : ℕ) (co
 -- ---- all of them
 
 abbrev pub IsClosedAt : World → ℕ → Type 0
-IsClosedAt w c = (y : Conn) × (conn_at c w ≡ Some y) × (is_closed y.actor ≡ true)
+IsClosedAt w c = (y : Conn) × (conn_at c w ≡ Some y) × (is_closed_actor y.actor ≡ true)
 
 abbrev pub HasSmallFrames : List TranscriptLine → ℕ → Type 0
 HasSmallFrames lines c = (i : ℕ) (bytes : List ℕ) → frame c i lines ≡ Some bytes → length bytes ≤ max_frame
 
 pub record Whole (w : World) : Type 0 where
   pub holds : Holds w
-  pub serving : (c : ℕ) (x : Conn) (core : Core) → conn_at c w ≡ Some x → x.actor ≡ Connection core → is_served core.stage ≡ true → IsServing w.store w.lines c core x.flight
+  pub serving : (c : ℕ) (x : Conn) (core : Core) → conn_at c w ≡ Some x → x.actor ≡ Connection core → is_served core.stage ≡ true → IsServingConn w.store w.lines c core x.flight
   -- a connection that is shut keeps no core
   pub unshut : (c : ℕ) (x : Conn) (core : Core) → conn_at c w ≡ Some x → x.actor ≡ Connection core → is_shut core.stage ≡ false
   -- an update that is out was asked by the connection for which it is made; where it is a stray, that connection has closed

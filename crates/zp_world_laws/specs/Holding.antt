@@ -16,7 +16,7 @@ use Rattle.zp_script.specs.declared.flight.Asking.{Asking}
 use Rattle.zp_script.specs.declared.flight.Flight.{Flight}
 use Rattle.zp_script.specs.declared.flight.Flight.TheVariants.{Out, Carried, Denied}
 use Rattle.zp_script.specs.Worlds.{World, Conn, conn_at}
-use Rattle.zp_world_laws.specs.Serving.{Serves, update_lines}
+use Rattle.zp_world_laws.specs.Serving.{StoreServes, update_lines}
 use Rattle.zp_world_laws.specs.Bounds.{IsBoundAsk}
 
 -- ---- what may still be carried out
@@ -98,7 +98,7 @@ pub record IsSpoken (w : World) (c k : ℕ) (a : Attachment) : Type 0 where
 -- ---- the world
 
 pub record Holds (w : World) : Type 0 where
-  pub serves : Serves w.store w.lines
+  pub serves : StoreServes w.store w.lines
   pub fresh : IsShownFresh w.lines
   pub bound : (src : Source) (x : Asking) → air w src ≡ Some x → IsBoundAsk w.store w.lines x
   -- of one connection at most one update may still be carried out

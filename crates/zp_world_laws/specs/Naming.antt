@@ -10,13 +10,13 @@ is_made_for c None = false
 is_made_for c (Some d) = c == d
 
 -- its own lines, and the updates that are made for it
-abbrev pub names : ℕ → TranscriptLine → Bool
-names c (Update u) = is_made_for c (made_for u.kind)
-names c (Open d p id passwd) = c == d
-names c (FrameLine d i zxid bytes) = c == d
-names c (Send d bytes) = c == d
-names c (LapseLine revision id) = false
-names c (Close d end) = c == d
+abbrev pub names_conn : ℕ → TranscriptLine → Bool
+names_conn c (Update u) = is_made_for c (made_for u.kind)
+names_conn c (Open d p id passwd) = c == d
+names_conn c (FrameLine d i zxid bytes) = c == d
+names_conn c (Send d bytes) = c == d
+names_conn c (LapseLine revision id) = false
+names_conn c (Close d end) = c == d
 
 abbrev pub is_unnamed : ℕ → List TranscriptLine → Bool
-is_unnamed c lines = list_all (λ l. not (names c l)) lines
+is_unnamed c lines = list_all (λ l. not (names_conn c l)) lines

@@ -14,7 +14,7 @@ use Rattle.zp_script.specs.declared.flight.Flight.TheVariants.{Carried, Denied, 
 use Rattle.zp_script.specs.declared.flight.Flight.{Flight}
 use Rattle.zp_laws.specs.Inputs.{Precedes}
 use Rattle.zp_world_laws.specs.Bounds.{IsBoundReap}
-use Rattle.zs_reap.specs.Steps.{first_wants}
+use Rattle.zs_reap.specs.Steps.{reaper_wants}
 use Rattle.zs_reap.specs.declared.reap.Phase.TheVariants.{Counting, Looking, Over, Removing, Unasked}
 use Rattle.zs_reap.specs.declared.reap.Reap.{Reap}
 use Rattle.zs_reap.specs.declared.reap.Phase.{Phase}
@@ -31,7 +31,7 @@ pub record IsStanding (store : Store) (revision : ℤ) : Type 0 where
 -- what it asked: a look at the present, or at a revision that the store had; or its plan, which is bound
 abbrev pub IsReapAsk : Store → ℤ → Phase → Ask → Type 0
 IsReapAsk store id Unasked a = ⊥
-IsReapAsk store id Looking a = a ≡ reading (pos 0) (first_wants id)
+IsReapAsk store id Looking a = a ≡ reading (pos 0) (reaper_wants id)
 IsReapAsk store id (Counting revision wants) a = IsStanding store revision × (a ≡ reading revision wants)
 IsReapAsk store id (Removing again) a = (p : Plan) × (p.again ≡ again) × (a ≡ transaction p) × IsBoundReap store id (plan_txn p)
 IsReapAsk store id Over a = ⊥

@@ -13,7 +13,7 @@ use Rattle.zk_transcript.specs.declared.transcript.TranscriptLine.{TranscriptLin
 use Rattle.zk_transcript.specs.declared.transcript.TranscriptLine.TheVariants.{Update, Lapse}
 use Rattle.zk_transcript.specs.declared.transcript.UpdateKind.{UpdateKind}
 use Rattle.zn_layout.specs.StandsFor.{StandsFor}
-use Rattle.zp_script.specs.Carrying.{update_line}
+use Rattle.zp_script.specs.Carrying.{update_line_of}
 use Rattle.zp_script.specs.Worlds.{zxid_at}
 
 -- ---- the moment of a revision
@@ -38,7 +38,7 @@ moment_of lines r = moment_from r 0 0 lines
 
 -- ---- a store serves
 
-pub record Serves (store : Store) (lines : List TranscriptLine) : Type 0 where
+pub record StoreServes (store : Store) (lines : List TranscriptLine) : Type 0 where
   pub legal : is_legal lines ≡ true
   pub ordered : is_ordered lines ≡ true
   -- the store has reached revision 2, that of the first update
@@ -76,7 +76,7 @@ only_reads acts = list_all is_read acts
 
 abbrev pub kind_lines : Store → Option UpdateKind → List TranscriptLine
 kind_lines s None = []
-kind_lines s (Some kind) = update_line s kind ∷ []
+kind_lines s (Some kind) = update_line_of s kind ∷ []
 
 abbrev pub update_lines : Store → Store → Option UpdateKind → List TranscriptLine
 update_lines old new kind = if int_eq (zxid_at old) (zxid_at new) then [] else kind_lines new kind

@@ -11,7 +11,7 @@ use Rattle.zk_model.specs.Paths.{is_child}
 use Rattle.zx_base.specs.Maps.{Bytes, same}
 use Rattle.zx_base.proofs.MapLaws.{same-refl}
 use Rattle.zn_layout.specs.declared.record.CountRec.{CountRec}
-use Rattle.zn_layout.specs.Changes.{Put, Change, delete_key, put_key, head_put, last, or_else, writes_key, are_distinct}
+use Rattle.zn_layout.specs.Changes.{Put, KeyChange, delete_key, put_key, head_put, last, put_or_else, writes_key, are_distinct}
 use Rattle.zn_layout.specs.Keys.{Key, HeadKey, DataKey, CountsKey, SessionKey, LeaseKey, same_key}
 use Rattle.zn_layout.specs.Records.{counts_value}
 use Rattle.zn_view.specs.Asks.{IsLeaseless}
@@ -22,7 +22,7 @@ use Rattle.zs_close.proofs.Written.{gone_if, put_if, put_of, parents_put, parent
 
 -- ---- what isn't written
 
-none_else : (x y : Option (Option Put)) → or_else x y ≡ None → (x ≡ None) × (y ≡ None)
+none_else : (x y : Option (Option Put)) → put_or_else x y ≡ None → (x ≡ None) × (y ≡ None)
 none_else None y h = (refl, h)
 none_else (Some w) y h = absurd (cc)
 
@@ -30,16 +30,16 @@ cond_none : (b : Bool) (w : Option Put) → cond b (Some w) None ≡ None → b 
 cond_none true w h = absurd (cc)
 cond_none false w h = refl
 
-unwritten : (k : Key) (cs : List Change) → last cs k ≡ None → list_any (writes_key k) cs ≡ false
+unwritten : (k : Key) (cs : List KeyChange) → last cs k ≡ None → list_any (writes_key k) cs ≡ false
 unwritten k [] h = refl
 unwritten k (c ∷ cs) h =
     let parts = none_else (last cs k) (cond (same_key k c.key) (Some c.put) None) h in
     (λ i. cond_none (same_key k c.key) c.put parts.1 i || unwritten k cs parts.0 i)
 
-abbrev ApartFrom : List Change → List Change → Type 0
-ApartFrom ds cs = AllByRecursion (λ (c : Change). last ds c.key ≡ None) cs
+abbrev ApartFrom : List KeyChange → List KeyChange → Type 0
+ApartFrom ds cs = AllByRecursion (λ (c : KeyChange). last ds c.key ≡ None) cs
 
-distinct-append : (cs ds : List Change) → are_distinct cs ≡ true → are_distinct ds ≡ true → ApartFrom ds cs → are_distinct (cs ++ ds) ≡ true
+distinct-append : (cs ds : List KeyChange) → are_distinct cs ≡ true → are_distinct ds ≡ true → ApartFrom ds cs → are_distinct (cs ++ ds) ≡ true
 distinct-append [] ds f g apart = g
 distinct-append (c ∷ cs) ds f g apart =
     let parts = and_parts _ _ f in
@@ -47,7 +47,7 @@ distinct-append (c ∷ cs) ds f g apart =
     (ap not (list_any-append (writes_key c.key) cs ds ∙ ap (λ b. list_any (writes_key c.key) cs || b) (unwritten c.key ds apart.0) ∙ or-false _) ∙ parts.0)
     (distinct-append cs ds parts.1 g apart.1)
 
-apart-append : (ds cs es : List Change) → ApartFrom ds cs → ApartFrom ds es → ApartFrom ds (cs ++ es)
+apart-append : (ds cs es : List KeyChange) → ApartFrom ds cs → ApartFrom ds es → ApartFrom ds (cs ++ es)
 apart-append ds [] es f g = g
 apart-append ds (c ∷ cs) es f g = (f.0, apart-append ds cs es f.1 g)
 
@@ -70,7 +70,7 @@ parent_distinct : (ps : List Bytes) (q : Bytes) (o : Option CountRec) → are_di
 parent_distinct ps q None = refl
 parent_distinct ps q (Some c) = refl
 
-parent_apart : (ds : List Change) (ps : List Bytes) (q : Bytes) (o : Option CountRec) → last ds (CountsKey q) ≡ None → ApartFrom ds (put_parent ps q o)
+parent_apart : (ds : List KeyChange) (ps : List Bytes) (q : Bytes) (o : Option CountRec) → last ds (CountsKey q) ≡ None → ApartFrom ds (put_parent ps q o)
 parent_apart ds ps q None h = tt
 parent_apart ds ps q (Some c) h = (h, tt)
 
@@ -87,7 +87,7 @@ session_from_nodes true id ps = (nodes_leave-life ps (nat_abs id), (nodes_leave-
 session_from_nodes false id ps = (nodes_leave-session ps (nat_abs id), tt)
 
 module _ (counts : Bytes → Option CountRec) (ps : List Bytes) (childless : (r : Bytes) → list_any (same r) ps ≡ true → list_any (is_child r) ps ≡ false) where
-  abbrev puts : List Change
+  abbrev puts : List KeyChange
   puts = put_parents counts ps (parents ps)
 
   session_from_parents : (alive : Bool) (id : ℤ) → ApartFrom puts (delete_session alive id)
@@ -127,13 +127,13 @@ same_key-turned (CountsKey p) h = refl
 same_key-turned (SessionKey i) h = refl
 same_key-turned (LeaseKey i) h = refl
 
-head_apart : (ts : List Trigger) (cs : List Change) → last cs HeadKey ≡ None → ApartFrom (head_put ts ∷ []) cs
+head_apart : (ts : List Trigger) (cs : List KeyChange) → last cs HeadKey ≡ None → ApartFrom (head_put ts ∷ []) cs
 head_apart ts [] h = tt
 head_apart ts (c ∷ cs) h =
     let parts = none_else (last cs HeadKey) (cond (same_key HeadKey c.key) (Some c.put) None) h in
     (ap (λ b. cond b (Some (head_put ts).put) None) (same_key-turned c.key (cond_none (same_key HeadKey c.key) c.put parts.1)), head_apart ts cs parts.0)
 
-pub with_head-distinct : (ts : List Trigger) (cs : List Change) → last cs HeadKey ≡ None → are_distinct cs ≡ true → are_distinct (cs ++ head_put ts ∷ []) ≡ true
+pub with_head-distinct : (ts : List Trigger) (cs : List KeyChange) → last cs HeadKey ≡ None → are_distinct cs ≡ true → are_distinct (cs ++ head_put ts ∷ []) ≡ true
 with_head-distinct ts cs none h = distinct-append cs (head_put ts ∷ []) h refl (head_apart ts cs none)
 
 -- ---- no put has a lease

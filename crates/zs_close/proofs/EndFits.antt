@@ -22,8 +22,8 @@ use Rattle.zk_transcript.specs.History.{State, Session, IsSound, session_at, ses
 use Rattle.zk_transcript.proofs.Owned.{if_owned, get-owned_as}
 use Rattle.zk_transcript.proofs.SessionMaps.{at-remove_same, at-remove_other}
 use Rattle.zn_layout.specs.declared.record.CountRec.{CountRec}
-use Rattle.zn_layout.specs.Changes.{Put, last, or_else}
-use Rattle.zn_layout.specs.Fits.{KeyFits, Fits}
+use Rattle.zn_layout.specs.Changes.{Put, last, put_or_else}
+use Rattle.zn_layout.specs.Fits.{KeyFits, ChangesFit}
 use Rattle.zn_layout.specs.Keys.{Key, HeadKey, DataKey, CountsKey, SessionKey, LeaseKey}
 use Rattle.zn_layout.specs.Records.{counts_value, IsCountRec}
 use Rattle.zn_layout.specs.StandsFor.{Stored, DataMeans, CountsMean, NodesMean, LifeMeans, counts_record}
@@ -138,11 +138,11 @@ module _ (s : State) (z id : ℤ) (alive : Bool) (counts : Bytes → Option Coun
       let left : num_children s.tree r - count_by (is_child r) ps ≡ num_children new.tree r = omega arith in
       ap (λ (k : ℕ). record { creates = n.creates; children = pos k }) left
 
-  parent_fits : (r : Bytes) → IsPlain r → get new.tree r ≡ left_over (list_any (same r) ps) true z (get s.tree r) → KeyFits z (or_else (put_of ps r (counts r)) (gone_if (list_any (same r) ps))) (CountsKey r) s new
+  parent_fits : (r : Bytes) → IsPlain r → get new.tree r ≡ left_over (list_any (same r) ps) true z (get s.tree r) → KeyFits z (put_or_else (put_of ps r (counts r)) (gone_if (list_any (same r) ps))) (CountsKey r) s new
   parent_fits r p is =
       let left : get new.tree r ≡ Some (without_child p.node z) = is ∙ (λ i. left_over (not_mine r p i) true z (p.there i)) in
       subst (λ (w : Option (Option Put)). KeyFits z w (CountsKey r) s new)
-      (sym (ap (λ (c : Option CountRec). or_else (put_of ps r c) (gone_if (list_any (same r) ps))) (told r p.node p.there)))
+      (sym (ap (λ (c : Option CountRec). put_or_else (put_of ps r c) (gone_if (list_any (same r) ps))) (told r p.node p.there)))
       (subst (λ (n : Option Node). CountsMean n (num_children new.tree r) (Some (record { value = counts_value (fewer (counts_record p.node (num_children s.tree r)) (count_by (is_child r) ps)); revision = z; lease = pos 0 }))) (sym left)
       (record { fits = counts_within r p.node p.there; value = ap counts_value (counts_is r p.node); pzxid = refl; free = refl }))
 
@@ -156,9 +156,9 @@ module _ (s : State) (z id : ℤ) (alive : Bool) (counts : Bytes → Option Coun
         subst (λ (n : Option Node). CountsMean n (num_children new.tree r) o) (sym is) (subst (λ (k : ℕ). CountsMean (get s.tree r) k o) same_count was)
   ]
 
-  counts_fits : (r : Bytes) → KeyFits z (or_else (put_if (list_any (is_child r) ps) (put_of ps r (counts r))) (gone_if (list_any (same r) ps))) (CountsKey r) s new
+  counts_fits : (r : Bytes) → KeyFits z (put_or_else (put_if (list_any (is_child r) ps) (put_of ps r (counts r))) (gone_if (list_any (same r) ps))) (CountsKey r) s new
   counts_fits r =
-      elim (list_any (is_child r) ps) as (λ b. list_any (is_child r) ps ≡ b → get new.tree r ≡ left_over (list_any (same r) ps) b z (get s.tree r) → KeyFits z (or_else (put_if b (put_of ps r (counts r))) (gone_if (list_any (same r) ps))) (CountsKey r) s new) [
+      elim (list_any (is_child r) ps) as (λ b. list_any (is_child r) ps ≡ b → get new.tree r ≡ left_over (list_any (same r) ps) b z (get s.tree r) → KeyFits z (put_or_else (put_if b (put_of ps r (counts r))) (gone_if (list_any (same r) ps))) (CountsKey r) s new) [
         | true ↦ λ e is. parent_fits r (parent_plain r e) is
         | false ↦ λ e is. leaf_fits r e is
       ] refl (after r)
@@ -249,5 +249,5 @@ module _ (s : State) (z id : ℤ) (alive : Bool) (counts : Bytes → Option Coun
   key_fits (SessionKey i) = subst (λ (w : Option (Option Put)). KeyFits z w (SessionKey i) s new) (sym (written-session alive id counts ps i)) (session_fits i)
   key_fits (LeaseKey i) = subst (λ (w : Option (Option Put)). KeyFits z w (LeaseKey i) s new) (sym (written-life alive id counts ps i)) (life_fits i)
 
-  pub end-fits : Fits z (end_changes alive id counts ps) s new
+  pub end-fits : ChangesFit z (end_changes alive id counts ps) s new
   end-fits = record { each = key_fits }

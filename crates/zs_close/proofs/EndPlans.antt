@@ -22,8 +22,8 @@ use Rattle.zk_model.specs.Znodes.{num_children, owned}
 use Rattle.zk_transcript.specs.History.{State, Session, IsSound, session_at, session_ended}
 use Rattle.zx_base.specs.Maps.{Bytes}
 use Rattle.zn_layout.specs.declared.record.CountRec.{CountRec}
-use Rattle.zn_layout.specs.Changes.{Change, act_of, acts_of, head_put, update_acts}
-use Rattle.zn_layout.specs.Fits.{Fits}
+use Rattle.zn_layout.specs.Changes.{KeyChange, act_of, acts_of, head_put, update_acts}
+use Rattle.zn_layout.specs.Fits.{ChangesFit}
 use Rattle.zn_layout.specs.Keys.{Key, HeadKey, CountsKey, SessionKey, LeaseKey, key_bytes}
 use Rattle.zn_layout.specs.Records.{IsHeadRec}
 use Rattle.zn_layout.specs.StandsFor.{stored_of, CountsMean, NodesMean, LifeMeans, counts_record, StandsFor}
@@ -69,7 +69,7 @@ plan-made alive id v ps p acts valid few guards again success draft triggers wri
   triggers = triggers;
 }
   where
-    updates : (cs : List Change) → acts ≡ acts_of cs → p.success ≡ update_acts cs p.triggers
+    updates : (cs : List KeyChange) → acts ≡ acts_of cs → p.success ≡ update_acts cs p.triggers
     updates cs is =
         success
         ∙ ap (λ (l : List Act). (l ++ act_of (head_put p.triggers) ∷ []) ++ read_key (key_bytes HeadKey) ∷ []) is
@@ -145,8 +145,8 @@ module _ (v : View) (id : ℤ) (real : pos 1 ≤ℤ id) (m : Keys) (s : State) (
     nodes-few sound = subst (λ (l : List Bytes). length l ≤ max_owned) (session-open).owns (sound.limited id (session-open).session (session-open).is_open)
 
     module _ (sound : IsSound s) (alive : Bool) (lapsed : alive ≡ false → (x : Session) → session_at id s ≡ Some x → x.lapsed ≡ true) where
-      pub ended-fits : (z : ℤ) → Fits z (end_changes alive id (counts_in s) ps) s (session_ended s z id)
-      ended-fits z = subst (λ (l : List Bytes). Fits z (end_changes alive id (counts_in s) l) s (session_ended s z id)) (session-open).owns
+      pub ended-fits : (z : ℤ) → ChangesFit z (end_changes alive id (counts_in s) ps) s (session_ended s z id)
+      ended-fits z = subst (λ (l : List Bytes). ChangesFit z (end_changes alive id (counts_in s) l) s (session_ended s z id)) (session-open).owns
           (end-fits s z id alive (counts_in s) sound real (λ q n there. ap (option_map (λ (x : Node). counts_record x (num_children s.tree q))) there)
           (subst (IsStrictlySortedBy (slice_cmp nat_cmp)) (sym (session-open).owns) nodes.0.rising) lapsed)
 

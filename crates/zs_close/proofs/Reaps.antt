@@ -27,7 +27,7 @@ use Rattle.zn_view.proofs.Narrowing.{picked-told}
 use Rattle.zs_close.specs.declared.reap.Reaping.{Reaping}
 use Rattle.zs_close.specs.declared.reap.Reaping.TheVariants.{Planned, Kept, Gone, TooMany}
 use Rattle.zs_close.specs.Closing.{IsEndPlan}
-use Rattle.zs_close.specs.Reaping.{lives, IfReaped, IsReady, IsReap, IsReapBy, IsReapDecision, IsReapPlan, IsReapedBy, IsReapedWith, IsReapingOf, whose}
+use Rattle.zs_close.specs.Reaping.{lives, IfReaped, IsReadyToReap, IsReap, IsReapBy, IsReapDecision, IsReapPlan, IsReapedBy, IsReapedWith, IsReapingOf, whose}
 use Rattle.zs_close.specs.Wanting.{end_keys, read_keys, AreParentsSeen, IsNodesSeen}
 use Rattle.zs_close.proofs.Taken.{end-taken}
 use Rattle.zs_close.proofs.KeysRead.{end-reads, whole-life, whole-parents, whole-session}
@@ -55,7 +55,7 @@ module _ (k : Bytes) (o : Option Kv) (apart : k ≡ key_bytes HeadKey → ⊥) w
 
 -- ---- what decides was looked up
 
-module _ (id : ℤ) (v : View) (ready : IsReady id v) where
+module _ (id : ℤ) (v : View) (ready : IsReadyToReap id v) where
   pub ready-life : HasSeen v (LeaseKey (nat_abs id))
   ready-life none = whole-life (whose id) v (ready (ap (λ (o : Option (Option Kv)). is_some (found_of o)) none)) none
 

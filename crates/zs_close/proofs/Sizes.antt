@@ -6,7 +6,7 @@ use Rattle.std.proofs.lemmas.List.Elements.{All-nil, All-cons, All-head, All-tai
 use Rattle.zk_model.specs.Paths.{is_child, is_path}
 use Rattle.zx_base.specs.Maps.{Bytes}
 use Rattle.zn_layout.specs.declared.record.CountRec.{CountRec}
-use Rattle.zn_layout.specs.Changes.{Change, put_key, delete_key, change_size}
+use Rattle.zn_layout.specs.Changes.{KeyChange, put_key, delete_key, change_size}
 use Rattle.zn_layout.specs.Keys.{DataKey, CountsKey, SessionKey, LeaseKey}
 use Rattle.zn_layout.specs.Records.{counts_value}
 use Rattle.zn_layout.proofs.Paths.{path_short}
@@ -16,7 +16,7 @@ use Rattle.zs_close.proofs.ParentPaths.{parents-valid, parents-length}
 
 -- ---- changes
 
-abbrev IsSmall : Change → Type 0
+abbrev IsSmall : KeyChange → Type 0
 IsSmall c = change_size c ≤ 1042
 
 list-small : (id : ℤ) → All IsSmall (delete_key (SessionKey (nat_abs id)) ∷ [])

@@ -15,7 +15,7 @@ use Rattle.zk_model.specs.Paths.{is_child, is_path}
 use Rattle.zk_model.specs.Znodes.{num_children, owned}
 use Rattle.zk_transcript.specs.History.{State, IsSound}
 use Rattle.zx_base.specs.Maps.{Bytes, same}
-use Rattle.zn_layout.specs.Changes.{Change, head_put, are_distinct, update_acts}
+use Rattle.zn_layout.specs.Changes.{KeyChange, head_put, are_distinct, update_acts}
 use Rattle.zn_layout.specs.Keys.{Key, HeadKey, CountsKey, SessionKey, LeaseKey, key_bytes}
 use Rattle.zn_layout.specs.Records.{IsHeadRec}
 use Rattle.zn_layout.specs.StandsFor.{counts_record}
@@ -72,7 +72,7 @@ module _ (alive : Bool) (id : ℤ) (v : View) (real : pos 1 ≤ℤ id) (kv : Kv)
   owns : owned s.tree id ≡ ps
   owns = (session-open v id real of.0 s of.1 ps as_seen kv saw nodes).owns
 
-  abbrev changes : List Change
+  abbrev changes : List KeyChange
   changes = end_changes alive id (counts_in s) ps
 
   acts : p.success ≡ update_acts changes p.triggers

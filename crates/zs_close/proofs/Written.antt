@@ -6,7 +6,7 @@ use Rattle.zx_base.specs.Maps.{Bytes, same}
 use Rattle.zx_base.proofs.MapLaws.{same-refl, same-true}
 use Rattle.zk_model.specs.Paths.{is_child}
 use Rattle.zn_layout.specs.declared.record.CountRec.{CountRec}
-use Rattle.zn_layout.specs.Changes.{Put, last, or_else}
+use Rattle.zn_layout.specs.Changes.{Put, last, put_or_else}
 use Rattle.zn_layout.specs.Keys.{Key, HeadKey, DataKey, CountsKey, SessionKey, LeaseKey}
 use Rattle.zn_layout.specs.Records.{counts_value}
 use Rattle.zn_layout.proofs.Fits.{last-append}
@@ -18,7 +18,7 @@ abbrev pub gone_if : Bool → Option (Option Put)
 gone_if true = Some None
 gone_if false = None
 
-gone_either : (a b : Bool) → or_else (gone_if b) (gone_if a) ≡ gone_if (a || b)
+gone_either : (a b : Bool) → put_or_else (gone_if b) (gone_if a) ≡ gone_if (a || b)
 gone_either true true = refl
 gone_either true false = refl
 gone_either false true = refl
@@ -28,7 +28,7 @@ cond_gone : (b : Bool) → cond b (Some None) None ≡ gone_if b
 cond_gone true = refl
 cond_gone false = refl
 
-or_none : (x : Option (Option Put)) → or_else x None ≡ x
+or_none : (x : Option (Option Put)) → put_or_else x None ≡ x
 or_none None = refl
 or_none (Some w) = refl
 
@@ -51,15 +51,15 @@ life-gone false id i = refl
 pub data-gone : (ps : List Bytes) (r : Bytes) → last (delete_nodes ps) (DataKey r) ≡ gone_if (list_any (same r) ps)
 data-gone [] r = refl
 data-gone (p ∷ ps) r =
-    (λ i. or_else (or_else (data-gone ps r i) None) (cond_gone (same r p) i))
-    ∙ ap (λ x. or_else x (gone_if (same r p))) (or_none (gone_if (list_any (same r) ps)))
+    (λ i. put_or_else (put_or_else (data-gone ps r i) None) (cond_gone (same r p) i))
+    ∙ ap (λ x. put_or_else x (gone_if (same r p))) (or_none (gone_if (list_any (same r) ps)))
     ∙ gone_either (same r p) (list_any (same r) ps)
 
 pub counts-gone : (ps : List Bytes) (r : Bytes) → last (delete_nodes ps) (CountsKey r) ≡ gone_if (list_any (same r) ps)
 counts-gone [] r = refl
 counts-gone (p ∷ ps) r =
     or_none _
-    ∙ (λ i. or_else (counts-gone ps r i) (cond_gone (same r p) i))
+    ∙ (λ i. put_or_else (counts-gone ps r i) (cond_gone (same r p) i))
     ∙ gone_either (same r p) (list_any (same r) ps)
 
 -- ---- the parents' counts
@@ -88,7 +88,7 @@ parent_put counts ps q r = elim (same r q) as (λ b. same r q ≡ b → last (pu
   | false ↦ λ e. parent_other ps q r (counts q) e
 ] refl
 
-put_twice : (a b : Bool) (w : Option (Option Put)) → or_else (put_if b w) (put_if a w) ≡ put_if (a || b) w
+put_twice : (a b : Bool) (w : Option (Option Put)) → put_or_else (put_if b w) (put_if a w) ≡ put_if (a || b) w
 put_twice true true None = refl
 put_twice true true (Some x) = refl
 put_twice true false w = refl
@@ -100,7 +100,7 @@ pub parents_put : (counts : Bytes → Option CountRec) (ps qs : List Bytes) (r :
 parents_put counts ps [] r = refl
 parents_put counts ps (q ∷ qs) r =
     last-append (put_parent ps q (counts q)) (put_parents counts ps qs) (CountsKey r)
-    ∙ (λ i. or_else (parents_put counts ps qs r i) (parent_put counts ps q r i))
+    ∙ (λ i. put_or_else (parents_put counts ps qs r i) (parent_put counts ps q r i))
     ∙ put_twice (same r q) (list_any (same r) qs) (put_of ps r (counts r))
 
 -- ---- other kinds of keys
@@ -124,19 +124,19 @@ pub parents_leave : (counts : Bytes → Option CountRec) (ps qs : List Bytes) (k
 parents_leave counts ps [] k h = refl
 parents_leave counts ps (q ∷ qs) k h =
     last-append (put_parent ps q (counts q)) (put_parents counts ps qs) k
-    ∙ (λ i. or_else (parents_leave counts ps qs k h i) (parent_leaves ps q (counts q) k h i))
+    ∙ (λ i. put_or_else (parents_leave counts ps qs k h i) (parent_leaves ps q (counts q) k h i))
 
 pub nodes_leave-session : (ps : List Bytes) (i : ℕ) → last (delete_nodes ps) (SessionKey i) ≡ None
 nodes_leave-session [] i = refl
-nodes_leave-session (p ∷ ps) i = (λ j. or_else (or_else (nodes_leave-session ps i j) None) None)
+nodes_leave-session (p ∷ ps) i = (λ j. put_or_else (put_or_else (nodes_leave-session ps i j) None) None)
 
 pub nodes_leave-life : (ps : List Bytes) (i : ℕ) → last (delete_nodes ps) (LeaseKey i) ≡ None
 nodes_leave-life [] i = refl
-nodes_leave-life (p ∷ ps) i = (λ j. or_else (or_else (nodes_leave-life ps i j) None) None)
+nodes_leave-life (p ∷ ps) i = (λ j. put_or_else (put_or_else (nodes_leave-life ps i j) None) None)
 
 nodes_leave-head : (ps : List Bytes) → last (delete_nodes ps) HeadKey ≡ None
 nodes_leave-head [] = refl
-nodes_leave-head (p ∷ ps) = (λ j. or_else (or_else (nodes_leave-head ps j) None) None)
+nodes_leave-head (p ∷ ps) = (λ j. put_or_else (put_or_else (nodes_leave-head ps j) None) None)
 
 session_leaves-head : (alive : Bool) (id : ℤ) → last (delete_session alive id) HeadKey ≡ None
 session_leaves-head true id = refl
@@ -153,33 +153,33 @@ session_leaves-counts false id r = refl
 -- ---- together
 
 module _ (alive : Bool) (id : ℤ) (counts : Bytes → Option CountRec) (ps : List Bytes) where
-  three : (k : Key) → last (end_changes alive id counts ps) k ≡ or_else (last (put_parents counts ps (parents ps)) k) (or_else (last (delete_nodes ps) k) (last (delete_session alive id) k))
+  three : (k : Key) → last (end_changes alive id counts ps) k ≡ put_or_else (last (put_parents counts ps (parents ps)) k) (put_or_else (last (delete_nodes ps) k) (last (delete_session alive id) k))
   unfolding end_changes
   three k =
       last-append (delete_session alive id ++ delete_nodes ps) (put_parents counts ps (parents ps)) k
-      ∙ ap (or_else (last (put_parents counts ps (parents ps)) k)) (last-append (delete_session alive id) (delete_nodes ps) k)
+      ∙ ap (put_or_else (last (put_parents counts ps (parents ps)) k)) (last-append (delete_session alive id) (delete_nodes ps) k)
 
   pub written-head : last (end_changes alive id counts ps) HeadKey ≡ None
-  written-head = three HeadKey ∙ (λ i. or_else (parents_leave counts ps (parents ps) HeadKey tt i) (or_else (nodes_leave-head ps i) (session_leaves-head alive id i)))
+  written-head = three HeadKey ∙ (λ i. put_or_else (parents_leave counts ps (parents ps) HeadKey tt i) (put_or_else (nodes_leave-head ps i) (session_leaves-head alive id i)))
 
   pub written-data : (r : Bytes) → last (end_changes alive id counts ps) (DataKey r) ≡ gone_if (list_any (same r) ps)
   written-data r =
       three (DataKey r)
-      ∙ (λ i. or_else (parents_leave counts ps (parents ps) (DataKey r) tt i) (or_else (data-gone ps r i) (session_leaves-data alive id r i)))
+      ∙ (λ i. put_or_else (parents_leave counts ps (parents ps) (DataKey r) tt i) (put_or_else (data-gone ps r i) (session_leaves-data alive id r i)))
       ∙ or_none (gone_if (list_any (same r) ps))
 
-  pub written-counts : (r : Bytes) → last (end_changes alive id counts ps) (CountsKey r) ≡ or_else (put_if (list_any (is_child r) ps) (put_of ps r (counts r))) (gone_if (list_any (same r) ps))
+  pub written-counts : (r : Bytes) → last (end_changes alive id counts ps) (CountsKey r) ≡ put_or_else (put_if (list_any (is_child r) ps) (put_of ps r (counts r))) (gone_if (list_any (same r) ps))
   written-counts r =
       three (CountsKey r)
-      ∙ (λ i. or_else (parents_put counts ps (parents ps) r i) (or_else (counts-gone ps r i) (session_leaves-counts alive id r i)))
-      ∙ (λ i. or_else (put_if (parents-any ps r i) (put_of ps r (counts r))) (or_none (gone_if (list_any (same r) ps)) i))
+      ∙ (λ i. put_or_else (parents_put counts ps (parents ps) r i) (put_or_else (counts-gone ps r i) (session_leaves-counts alive id r i)))
+      ∙ (λ i. put_or_else (put_if (parents-any ps r i) (put_of ps r (counts r))) (or_none (gone_if (list_any (same r) ps)) i))
 
   pub written-session : (i : ℕ) → last (end_changes alive id counts ps) (SessionKey i) ≡ gone_if (nat_eq i (nat_abs id))
   written-session i =
       three (SessionKey i)
-      ∙ (λ j. or_else (parents_leave counts ps (parents ps) (SessionKey i) tt j) (or_else (nodes_leave-session ps i j) (session-gone alive id i j)))
+      ∙ (λ j. put_or_else (parents_leave counts ps (parents ps) (SessionKey i) tt j) (put_or_else (nodes_leave-session ps i j) (session-gone alive id i j)))
 
   pub written-life : (i : ℕ) → last (end_changes alive id counts ps) (LeaseKey i) ≡ gone_if (life_gone alive id i)
   written-life i =
       three (LeaseKey i)
-      ∙ (λ j. or_else (parents_leave counts ps (parents ps) (LeaseKey i) tt j) (or_else (nodes_leave-life ps i j) (life-gone alive id i j)))
+      ∙ (λ j. put_or_else (parents_leave counts ps (parents ps) (LeaseKey i) tt j) (put_or_else (nodes_leave-life ps i j) (life-gone alive id i j)))

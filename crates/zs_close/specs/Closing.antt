@@ -9,7 +9,7 @@ use Rattle.zk_model.specs.Codes.{system_error}
 use Rattle.zk_model.specs.Limits.{max_owned}
 use Rattle.zx_base.specs.Maps.{Bytes}
 use Rattle.zn_layout.specs.declared.record.CountRec.{CountRec}
-use Rattle.zn_layout.specs.Changes.{Change, acts_of, update_acts}
+use Rattle.zn_layout.specs.Changes.{KeyChange, acts_of, update_acts}
 use Rattle.zn_layout.specs.Keys.{CountsKey, SessionKey, LeaseKey}
 use Rattle.zn_view.specs.declared.plan.Decision.{Decision}
 use Rattle.zn_view.specs.declared.plan.Decision.TheVariants.{Answered, Planned, Expired, Moved}
@@ -42,7 +42,7 @@ TellsCounts v counts qs = All (TellsCountsOf v counts) qs
 
 -- the new operations are the old ones, and after them some that write keys without a lease
 abbrev pub AreWritesAfter : List Act → List Act → Type 0
-AreWritesAfter old new = (cs : List Change) × All IsLeaseless cs × (new ≡ old ++ acts_of cs)
+AreWritesAfter old new = (cs : List KeyChange) × All IsLeaseless cs × (new ≡ old ++ acts_of cs)
 
 -- A plan with the operations of the end of a session with these nodes, the last of which reads the head. It guards what the end
 -- reads, but for the head, as the view saw it, and reads that and the head again where a guard fails. It writes keys of the service

@@ -7,7 +7,7 @@ use Rattle.zk_model.specs.Paths.{parent, is_child}
 use Rattle.zk_model.specs.Single.{removal}
 use Rattle.zx_base.specs.Maps.{Bytes, same}
 use Rattle.zn_layout.specs.declared.record.CountRec.{CountRec}
-use Rattle.zn_layout.specs.Changes.{Change, put_key, delete_key}
+use Rattle.zn_layout.specs.Changes.{KeyChange, put_key, delete_key}
 use Rattle.zn_layout.specs.Keys.{DataKey, CountsKey, SessionKey, LeaseKey}
 use Rattle.zn_layout.specs.Records.{counts_value}
 
@@ -31,28 +31,28 @@ abbrev pub fewer : CountRec → ℕ → CountRec
 fewer c n = record { creates = c.creates; children = pos (nat_abs c.children - n) }
 
 -- puts a parent's counts without the nodes that go; a parent without counts is not there
-abbrev pub put_parent : List Bytes → Bytes → Option CountRec → List Change
+abbrev pub put_parent : List Bytes → Bytes → Option CountRec → List KeyChange
 put_parent ps q None = []
 put_parent ps q (Some c) = put_key (CountsKey q) (counts_value (fewer c (count_by (is_child q) ps))) ∷ []
 
 -- puts the counts of each of these parents, by the counts that it has
-abbrev pub put_parents : (Bytes → Option CountRec) → List Bytes → List Bytes → List Change
+abbrev pub put_parents : (Bytes → Option CountRec) → List Bytes → List Bytes → List KeyChange
 put_parents counts ps [] = []
 put_parents counts ps (q ∷ qs) = put_parent ps q (counts q) ++ put_parents counts ps qs
 
-abbrev pub delete_nodes : List Bytes → List Change
+abbrev pub delete_nodes : List Bytes → List KeyChange
 delete_nodes [] = []
 delete_nodes (p ∷ ps) = delete_key (DataKey p) ∷ delete_key (CountsKey p) ∷ delete_nodes ps
 
 -- a session that is closed lives until then; one that is reaped has lapsed, and its life is gone
-abbrev pub delete_life : Bool → ℤ → List Change
+abbrev pub delete_life : Bool → ℤ → List KeyChange
 delete_life alive id = if alive then delete_key (LeaseKey (nat_abs id)) ∷ [] else []
 
-abbrev pub delete_session : Bool → ℤ → List Change
+abbrev pub delete_session : Bool → ℤ → List KeyChange
 delete_session alive id = delete_life alive id ++ delete_key (SessionKey (nat_abs id)) ∷ []
 
 -- the end of a session with these nodes
-unfoldable pub end_changes : Bool → ℤ → (Bytes → Option CountRec) → List Bytes → List Change
+unfoldable pub end_changes : Bool → ℤ → (Bytes → Option CountRec) → List Bytes → List KeyChange
 end_changes alive id counts ps = (delete_session alive id ++ delete_nodes ps) ++ put_parents counts ps (parents ps)
 
 -- what watches see of it: each delete, in the order of the list, which is that of the paths' bytes

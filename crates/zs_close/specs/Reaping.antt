@@ -31,8 +31,8 @@ abbrev pub lives : ℤ → View → Bool
 lives id v = is_some (found_at v (LeaseKey (nat_abs id)))
 
 -- the view shows what decides: the record of the session's life, or else all that the end of the session reads
-abbrev pub IsReady : ℤ → View → Type 0
-IsReady id v = lives id v ≡ false → IsWhole req.Close (whose id) v
+abbrev pub IsReadyToReap : ℤ → View → Type 0
+IsReadyToReap id v = lives id v ≡ false → IsWhole req.Close (whose id) v
 
 -- ---- the decision
 
@@ -74,7 +74,7 @@ IfReaped P Gone = Unit {0}
 IfReaped P TooMany = Unit {0}
 
 -- the session has lapsed, and its end is carried out
-pub record IsEnd (id : ℤ) (p : Plan) (m : Keys) (s : State) (z : ℤ) : Type 0 where
+pub record IsSessionEnd (id : ℤ) (p : Plan) (m : Keys) (s : State) (z : ℤ) : Type 0 where
   pub session : Session
   pub is_open : session_at id s ≡ Some session
   pub lapsed : session.lapsed ≡ true
@@ -85,7 +85,7 @@ pub record IsEnd (id : ℤ) (p : Plan) (m : Keys) (s : State) (z : ℤ) : Type 0
 -- session reads, but for the head, as the view saw it, and so the absence of the record of its life. It writes keys of the service
 -- alone, and reads the head last.
 pub record IsReapPlan (id : ℤ) (v : View) (p : Plan) : Type 0 where
-  pub ends : (m : Keys) (s : State) (z : ℤ) → IsSound s → StandsFor m s → MayCommit p v m → s.zxid <ℤ z → z ≤ℤ last_revision → IsEnd id p m s z
+  pub ends : (m : Keys) (s : State) (z : ℤ) → IsSound s → StandsFor m s → MayCommit p v m → s.zxid <ℤ z → z ≤ℤ last_revision → IsSessionEnd id p m s z
   pub reads : GuardsReads req.Close (whose id) v p
   pub absent : Contains p.guards (record { key = key_bytes (LeaseKey (nat_abs id)); mod_revision = pos 0 })
   pub shows : ShowsHead p.success

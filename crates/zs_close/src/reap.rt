@@ -10,7 +10,7 @@ ghost use Rattle.zn_view.specs.Deciding.{IsTaken};
 ghost use Rattle.zn_view.specs.Needs.{AreNeeds};
 ghost use Rattle.zn_view.specs.Views.{IsOf};
 ghost use Rattle.zs_close.specs.Ending.{parents};
-ghost use Rattle.zs_close.specs.Reaping.{lives, IfReaped, IsReady, IsReap, IsReapDecision, IsReapPlan, IsReapedBy, IsReapedWith};
+ghost use Rattle.zs_close.specs.Reaping.{lives, IfReaped, IsReadyToReap, IsReap, IsReapDecision, IsReapPlan, IsReapedBy, IsReapedWith};
 ghost use Rattle.zs_close.specs.Wanting.{AreEndWants, AreParentsSeen};
 
 use crate::plan::end_plan;
@@ -108,7 +108,7 @@ fn reap(alloc: Global, session: i64, view: &View) -> Result<Reaping, Memory>
 /// nodes has more than 40.
 pub fn plan_reap(alloc: Global, session: i64, view: &View) -> Result<Reaping, Memory>
     requires real { pos 1 ≤ℤ session }
-    requires ready { IsReady session view.now }
+    requires ready { IsReadyToReap session view.now }
     ensures seen { IfOk result (IsReap session view.now) }
     ensures decision { IfOk result (IsReapDecision session view.now) }
     ensures plan { IfOk result (IfReaped (IsReapPlan session view.now)) }

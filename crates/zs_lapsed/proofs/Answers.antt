@@ -16,7 +16,7 @@ use Rattle.ev_types.specs.declared.ask.Ask.{Ask}
 use Rattle.ev_types.specs.declared.ask.Ask.TheVariants as ask
 use Rattle.zn_view.specs.Adding.{AreNumbers, AreNumbersIn}
 use Rattle.zn_view.specs.Seen as seen
-use Rattle.zs_reap.specs.Steps.{IsOfTxn, IsTxn, IsWaiting, MayStep}
+use Rattle.zs_reap.specs.Steps.{IsOfTxn, IsTxn, IsReaperWaiting, MayStepReaper}
 use Rattle.zs_reap.specs.declared.reap.Reap.{Reap}
 use Rattle.zs_reap.specs.declared.reap.ReapStep.TheVariants as steps
 
@@ -56,8 +56,8 @@ txn_grantable (ask.Range q) is = tt
 txn_grantable (ask.Grant i s) is = absurd is
 txn_grantable (ask.Alive i) is = tt
 
-pub may_next : (q : Ask) (r : Reap) (got : Answer) → IsWaiting (steps.Ask q) r.phase → Fits q got → MayStep r (Some got)
+pub may_next : (q : Ask) (r : Reap) (got : Answer) → IsReaperWaiting (steps.Ask q) r.phase → Fits q got → MayStepReaper r (Some got)
 may_next q r got waits fits = (waits.0, fits_txn q got waits.1 fits)
 
-pub granted : (q : Ask) (r : Reap) → IsWaiting (steps.Ask q) r.phase → IsGrantable q
+pub granted : (q : Ask) (r : Reap) → IsReaperWaiting (steps.Ask q) r.phase → IsGrantable q
 granted q r waits = txn_grantable q waits.1

@@ -7,7 +7,7 @@ use Rattle.ev_call.specs.Calls.{Call}
 use Rattle.ev_call.specs.declared.etcd.CallFault.{CallFault}
 use Rattle.ev_call.specs.declared.etcd.CallFault.TheVariants as call
 use Rattle.zs_session.specs.declared.fault.StepFault.TheVariants.{Damaged}
-use Rattle.zs_reap.specs.Steps.{IsReapFault, MayStep, Steps}
+use Rattle.zs_reap.specs.Steps.{IsReapFault, MayStepReaper, ReaperSteps}
 use Rattle.zs_reap.specs.declared.reap.Phase.TheVariants.{Over}
 use Rattle.zs_reap.specs.declared.reap.Reap.{Reap}
 use Rattle.zs_reap.specs.declared.reap.ReapStep.{ReapStep}
@@ -24,13 +24,13 @@ pub record Stands (session : ℤ) (r : Reap) (a : Option Answer) (count : ℕ) (
   pub walks : Walks (begun session) None calls r a
   pub many : length calls ≡ count
 
-may-from : (r s : Reap) (a b : Option Answer) → s ≡ r → b ≡ a → MayStep s b → MayStep r a
-may-from r s a b same answer may = subst (λ (x : Option Answer). MayStep r x) answer (subst (λ (x : Reap). MayStep x b) same may)
+may-from : (r s : Reap) (a b : Option Answer) → s ≡ r → b ≡ a → MayStepReaper s b → MayStepReaper r a
+may-from r s a b same answer may = subst (λ (x : Option Answer). MayStepReaper r x) answer (subst (λ (x : Reap). MayStepReaper x b) same may)
 
-steps-from : (r s : Reap) (a b : Option Answer) (step : ReapStep) (next : Reap) → s ≡ r → b ≡ a → Steps s b step next → Steps r a step next
-steps-from r s a b step next same answer st = subst (λ (x : Option Answer). Steps r x step next) answer (subst (λ (x : Reap). Steps x b step next) same st)
+steps-from : (r s : Reap) (a b : Option Answer) (step : ReapStep) (next : Reap) → s ≡ r → b ≡ a → ReaperSteps s b step next → ReaperSteps r a step next
+steps-from r s a b step next same answer st = subst (λ (x : Option Answer). ReaperSteps r x step next) answer (subst (λ (x : Reap). ReaperSteps x b step next) same st)
 
-walks-more : (r : Reap) (a : Option Answer) (cs : List Call) (s : Reap) (b : Option Answer) (q : Ask) (next : Reap) (got : Answer) → Walks r a cs s b → MayStep s b → Steps s b (steps.Ask q) next → Walks r a (cs ++ record { ask = q; result = Ok got } ∷ []) next (Some got)
+walks-more : (r : Reap) (a : Option Answer) (cs : List Call) (s : Reap) (b : Option Answer) (q : Ask) (next : Reap) (got : Answer) → Walks r a cs s b → MayStepReaper s b → ReaperSteps s b (steps.Ask q) next → Walks r a (cs ++ record { ask = q; result = Ok got } ∷ []) next (Some got)
 walks-more r a [] s b q next got w may st = (next, got, may-from r s a b w.0 w.1 may, steps-from r s a b (steps.Ask q) next w.0 w.1 st, refl, (refl, refl))
 walks-more r a (c ∷ cs) s b q next got w may st = (w.0, w.1, w.2, w.3, w.4, walks-more w.0 (Some w.1) cs s b q next got w.5 may st)
 
@@ -45,10 +45,10 @@ one-of q came was cs is one = one ∙ ap (λ (r : Result Answer CallFault). reco
 pub stands_first : (session : ℤ) (r : Reap) (t : LinkTold) → r ≡ begun session → Makes (Stands session r None 0) t t
 stands_first session r t is = no_calls (Stands session r None 0) t (record { walks = (is, refl); many = refl })
 
-pub may_first : (session : ℤ) (r : Reap) → r ≡ begun session → MayStep r None
+pub may_first : (session : ℤ) (r : Reap) → r ≡ begun session → MayStepReaper r None
 may_first session r is = ap (λ (x : Reap). x.phase) is
 
-stands-next : (session : ℤ) (r : Reap) (a : Option Answer) (n : ℕ) (q : Ask) (next : Reap) (got : Answer) → MayStep r a → Steps r a (steps.Ask q) next → (xs ys : List Call) → Stands session r a n xs → Calls q (Ok got) ys → Stands session next (Some got) (n + 1) (xs ++ ys)
+stands-next : (session : ℤ) (r : Reap) (a : Option Answer) (n : ℕ) (q : Ask) (next : Reap) (got : Answer) → MayStepReaper r a → ReaperSteps r a (steps.Ask q) next → (xs ys : List Call) → Stands session r a n xs → Calls q (Ok got) ys → Stands session next (Some got) (n + 1) (xs ++ ys)
 stands-next session r a n q next got may st xs ys s c =
     let one : ys ≡ record { ask = q; result = Ok got } ∷ [] = one-of q c.0 (Ok got) ys (came_ok got c.0 c.2) c.1 in
     subst (λ (l : List Call). Stands session next (Some got) (n + 1) (xs ++ l)) (sym one) (record {
@@ -56,30 +56,30 @@ stands-next session r a n q next got may st xs ys s c =
       many = one-longer xs (record { ask = q; result = Ok got }) n s.many;
     })
 
-pub stands_more : (session : ℤ) (r : Reap) (a : Option Answer) (n : ℕ) (q : Ask) (next : Reap) (got : Answer) (old mid new : LinkTold) → Makes (Stands session r a n) old mid → MayStep r a → Steps r a (steps.Ask q) next → Makes (Calls q (Ok got)) mid new → Makes (Stands session next (Some got) (n + 1)) old new
+pub stands_more : (session : ℤ) (r : Reap) (a : Option Answer) (n : ℕ) (q : Ask) (next : Reap) (got : Answer) (old mid new : LinkTold) → Makes (Stands session r a n) old mid → MayStepReaper r a → ReaperSteps r a (steps.Ask q) next → Makes (Calls q (Ok got)) mid new → Makes (Stands session next (Some got) (n + 1)) old new
 stands_more session r a n q next got old mid new m may st c = made_then (Stands session r a n) (Calls q (Ok got)) (Stands session next (Some got) (n + 1)) old mid new (stands-next session r a n q next got may st) m c
 
 -- ---- it ends
 
-reaps-of : (session : ℤ) (r : Reap) (a : Option Answer) (n : ℕ) (result : Result Bool TurnFault) (xs cs : List Call) → Stands session r a n xs → MayStep r a → IsReapedTo r a xs result cs → Reaps session result cs
+reaps-of : (session : ℤ) (r : Reap) (a : Option Answer) (n : ℕ) (result : Result Bool TurnFault) (xs cs : List Call) → Stands session r a n xs → MayStepReaper r a → IsReapedTo r a xs result cs → Reaps session result cs
 reaps-of session r a n result xs cs s may ends = record { reap = r; answer = a; answered = xs; walks = s.walks; may = may; ends = ends }
 
-cut : (session : ℤ) (r : Reap) (a : Option Answer) (n : ℕ) (q : Ask) (next : Reap) (e : TurnFault) → MayStep r a → Steps r a (steps.Ask q) next → (xs ys : List Call) → Stands session r a n xs → Calls q (Err e) ys → Reaps session (Err e) (xs ++ ys)
+cut : (session : ℤ) (r : Reap) (a : Option Answer) (n : ℕ) (q : Ask) (next : Reap) (e : TurnFault) → MayStepReaper r a → ReaperSteps r a (steps.Ask q) next → (xs ys : List Call) → Stands session r a n xs → Calls q (Err e) ys → Reaps session (Err e) (xs ++ ys)
 cut session r a n q next turn.Failed may st xs ys s c = reaps-of session r a n (Err turn.Failed) xs (xs ++ ys) s may (q, next, st, ap (λ (l : List Call). xs ++ l) (one-of q c.0 (Err call.Failed) ys (came_failed c.0 c.2) c.1))
 cut session r a n q next turn.Memory may st xs ys s c = reaps-of session r a n (Err turn.Memory) xs (xs ++ ys) s may (inr (q, next, st, ap (λ (l : List Call). xs ++ l) (one-of q c.0 (Err call.Memory) ys (came_memory c.0 c.2) c.1)))
 cut session r a n q next turn.NoList may st xs ys s c = absurd (came_none c.0 c.2)
 
-pub reap_cut : (session : ℤ) (r : Reap) (a : Option Answer) (n : ℕ) (q : Ask) (next : Reap) (e : TurnFault) (old mid new : LinkTold) → Makes (Stands session r a n) old mid → MayStep r a → Steps r a (steps.Ask q) next → Makes (Calls q (Err e)) mid new → Makes (Reaps session (Err e)) old new
+pub reap_cut : (session : ℤ) (r : Reap) (a : Option Answer) (n : ℕ) (q : Ask) (next : Reap) (e : TurnFault) (old mid new : LinkTold) → Makes (Stands session r a n) old mid → MayStepReaper r a → ReaperSteps r a (steps.Ask q) next → Makes (Calls q (Err e)) mid new → Makes (Reaps session (Err e)) old new
 reap_cut session r a n q next e old mid new m may st c = made_then (Stands session r a n) (Calls q (Err e)) (Reaps session (Err e)) old mid new (cut session r a n q next e may st) m c
 
-pub reap_ended : (session : ℤ) (r : Reap) (a : Option Answer) (n : ℕ) (step : ReapStep) (over : Reap) (old new : LinkTold) → Makes (Stands session r a n) old new → MayStep r a → Steps r a step over → over.phase ≡ Over → Makes (Reaps session (Ok false)) old new
+pub reap_ended : (session : ℤ) (r : Reap) (a : Option Answer) (n : ℕ) (step : ReapStep) (over : Reap) (old new : LinkTold) → Makes (Stands session r a n) old new → MayStepReaper r a → ReaperSteps r a step over → over.phase ≡ Over → Makes (Reaps session (Ok false)) old new
 reap_ended session r a n step over old new m may st is = made_as (Stands session r a n) (Reaps session (Ok false)) old new (λ cs s. reaps-of session r a n (Ok false) cs cs s may (refl, inl (step, over, st, is))) m
 
-pub reap_damaged : (session : ℤ) (r : Reap) (a : Option Answer) (n : ℕ) (key value : List ℕ) (old new : LinkTold) → Makes (Stands session r a n) old new → MayStep r a → IsReapFault r a (Damaged key value) → Makes (Reaps session (Ok true)) old new
+pub reap_damaged : (session : ℤ) (r : Reap) (a : Option Answer) (n : ℕ) (key value : List ℕ) (old new : LinkTold) → Makes (Stands session r a n) old new → MayStepReaper r a → IsReapFault r a (Damaged key value) → Makes (Reaps session (Ok true)) old new
 reap_damaged session r a n key value old new m may fault = made_as (Stands session r a n) (Reaps session (Ok true)) old new (λ cs s. reaps-of session r a n (Ok true) cs cs s may (refl, (key, value, fault))) m
 
-pub reap_starved : (session : ℤ) (r : Reap) (a : Option Answer) (n : ℕ) (old new : LinkTold) → Makes (Stands session r a n) old new → MayStep r a → Makes (Reaps session (Err turn.Memory)) old new
+pub reap_starved : (session : ℤ) (r : Reap) (a : Option Answer) (n : ℕ) (old new : LinkTold) → Makes (Stands session r a n) old new → MayStepReaper r a → Makes (Reaps session (Err turn.Memory)) old new
 reap_starved session r a n old new m may = made_as (Stands session r a n) (Reaps session (Err turn.Memory)) old new (λ cs s. reaps-of session r a n (Err turn.Memory) cs cs s may (inl refl)) m
 
-pub reap_left : (session : ℤ) (r : Reap) (a : Option Answer) (n : ℕ) (old new : LinkTold) → Makes (Stands session r a n) old new → MayStep r a → n ≡ max_asks → Makes (Reaps session (Ok false)) old new
+pub reap_left : (session : ℤ) (r : Reap) (a : Option Answer) (n : ℕ) (old new : LinkTold) → Makes (Stands session r a n) old new → MayStepReaper r a → n ≡ max_asks → Makes (Reaps session (Ok false)) old new
 reap_left session r a n old new m may many = made_as (Stands session r a n) (Reaps session (Ok false)) old new (λ cs s. reaps-of session r a n (Ok false) cs cs s may (refl, inr (s.many ∙ many))) m

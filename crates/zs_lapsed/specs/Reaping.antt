@@ -10,7 +10,7 @@ use Rattle.zs_reap.specs.declared.reap.Phase.TheVariants.{Unasked, Over}
 use Rattle.zs_reap.specs.declared.reap.Reap.{Reap}
 use Rattle.zs_reap.specs.declared.reap.ReapStep.{ReapStep}
 use Rattle.zs_reap.specs.declared.reap.ReapStep.TheVariants as steps
-use Rattle.zs_reap.specs.Steps.{IsReapFault, MayStep, Steps}
+use Rattle.zs_reap.specs.Steps.{IsReapFault, MayStepReaper, ReaperSteps}
 use Rattle.zs_lapsed.specs.declared.calling.TurnFault.{TurnFault}
 use Rattle.zs_lapsed.specs.declared.calling.TurnFault.TheVariants as turn
 
@@ -28,17 +28,17 @@ begun session = record { session = session; phase = Unasked }
 -- next step is made with its answer.
 abbrev pub Walks : Reap → Option Answer → List Call → Reap → Option Answer → Type 0
 Walks r a [] r' a' = (r' ≡ r) × (a' ≡ a)
-Walks r a (c ∷ cs) r' a' = (next : Reap) × (got : Answer) × MayStep r a × Steps r a (steps.Ask c.ask) next × (c.result ≡ Ok got) × Walks next (Some got) cs r' a'
+Walks r a (c ∷ cs) r' a' = (next : Reap) × (got : Answer) × MayStepReaper r a × ReaperSteps r a (steps.Ask c.ask) next × (c.result ≡ Ok got) × Walks next (Some got) cs r' a'
 
 -- ---- how they end
 
 -- a step asks nothing: the session is gone, or lives
 abbrev pub IsEnded : Reap → Option Answer → Type 0
-IsEnded r a = (step : ReapStep) × (over : Reap) × Steps r a step over × (over.phase ≡ Over)
+IsEnded r a = (step : ReapStep) × (over : Reap) × ReaperSteps r a step over × (over.phase ≡ Over)
 
 -- the last step's ask was called, and this came of it
 abbrev pub IsCalled : Reap → Option Answer → List Call → Result Answer CallFault → List Call → Type 0
-IsCalled r a answered came calls = (q : Ask) × (next : Reap) × Steps r a (steps.Ask q) next × (calls ≡ answered ++ record { ask = q; result = came } ∷ [])
+IsCalled r a answered came calls = (q : Ask) × (next : Reap) × ReaperSteps r a (steps.Ask q) next × (calls ≡ answered ++ record { ask = q; result = came } ∷ [])
 
 -- whether a key is damaged; or why the turn stops
 abbrev pub IsReapedTo : Reap → Option Answer → List Call → Result Bool TurnFault → List Call → Type 0
@@ -54,7 +54,7 @@ pub record Reaps (session : ℤ) (result : Result Bool TurnFault) (calls : List 
   pub answer : Option Answer
   pub answered : List Call
   pub walks : Walks (begun session) None answered reap answer
-  pub may : MayStep reap answer
+  pub may : MayStepReaper reap answer
   pub ends : IsReapedTo reap answer answered result calls
 
 -- ---- one after the other

@@ -27,14 +27,14 @@ use Rattle.zn_view.specs.Views.{IsOf}
 use Rattle.zs_close.specs.declared.reap.Reaping.{Reaping}
 use Rattle.zs_close.specs.declared.reap.Reaping.TheVariants.{Planned}
 use Rattle.zn_view.specs.Deciding.{IsTaken}
-use Rattle.zs_close.specs.Reaping.{lives, IfReaped, IsReady, IsReap, IsReapDecision, IsReapPlan, whose}
+use Rattle.zs_close.specs.Reaping.{lives, IfReaped, IsReadyToReap, IsReap, IsReapDecision, IsReapPlan, whose}
 use Rattle.zs_session.specs.Answering.{viewed}
 use Rattle.zs_reap.specs.declared.moves.Move.{Move}
 use Rattle.zs_reap.specs.declared.reap.Phase.{Phase}
 use Rattle.zs_reap.specs.declared.reap.Phase.TheVariants.{Removing}
 use Rattle.zs_reap.specs.declared.reap.ReapStep.{ReapStep}
 use Rattle.zs_reap.specs.declared.reap.ReapStep.TheVariants as steps
-use Rattle.zs_reap.specs.Steps.{AreFew, Asks, Decides, Ends, Follows, IsCounted, IsInPhase, IsLookedAt, IsTested, LacksSome, Looked, LooksFirst}
+use Rattle.zs_reap.specs.Steps.{AreFewOwned, Asks, ReaperDecides, ReaperEnds, ReaperFollows, IsReaperCounted, IsReaperPhase, IsLookedAt, IsReaperTested, LacksSome, ReaperLooked, ReaperLooksFirst}
 
 -- ---- a view of which nothing is lacking
 
@@ -65,7 +65,7 @@ lacks-some id v ws kept needs some =
     record { lapsed = lapsed; needs = needs lapsed; some = λ e. some (ap (λ (l : List Want). length l) e) }
 
 pub looked-at : (id r : ℤ) (ws : List Want) (parts : List ActAns) (v : View) (phase : Phase) (step : ReapStep) (lacking : List Want) → v ≡ viewed r ws parts
-    → LacksSome id v lacking → LooksFirst id phase step → IsLookedAt id (viewed r ws parts) phase step
+    → LacksSome id v lacking → ReaperLooksFirst id phase step → IsLookedAt id (viewed r ws parts) phase step
 looked-at id r ws parts v phase step lacking is lacks asks =
     subst (λ (w : View). IsLookedAt id w phase step) is (record { wants = lacking; lacking = lacks; asks = asks })
 
@@ -78,13 +78,13 @@ not-below id real = go (int_lt id (pos 1)) refl
     go true e = absurd (grind (arith, ints, e, real))
     go false e = refl
 
-pub looked-there : (id r : ℤ) (ws : List Want) (parts : List ActAns) (phase : Phase) (step : ReapStep) → pos 1 ≤ℤ id → IsTested id ws r parts × (Decides id (viewed r ws parts) phase step ⊎ IsCounted id (viewed r ws parts) phase step) → Looked id ws r parts phase step
+pub looked-there : (id r : ℤ) (ws : List Want) (parts : List ActAns) (phase : Phase) (step : ReapStep) → pos 1 ≤ℤ id → IsReaperTested id ws r parts × (ReaperDecides id (viewed r ws parts) phase step ⊎ IsReaperCounted id (viewed r ws parts) phase step) → ReaperLooked id ws r parts phase step
 looked-there id r ws parts phase step real h =
-    subst (λ b. MatchBool b (AreRecords ws parts × Ends (steps.Gone r) phase step) (IsTested id ws r parts × (Decides id (viewed r ws parts) phase step ⊎ IsCounted id (viewed r ws parts) phase step))) (sym (not-below id real)) h
+    subst (λ b. MatchBool b (AreRecords ws parts × ReaperEnds (steps.Gone r) phase step) (IsReaperTested id ws r parts × (ReaperDecides id (viewed r ws parts) phase step ⊎ IsReaperCounted id (viewed r ws parts) phase step))) (sym (not-below id real)) h
 
 -- ---- a view saw one list of nodes
 
-pub few-seen : (id : ℤ) (v : View) (kv : Kv) (ps : List Bytes) → sees v (SessionKey (nat_abs id)) ≡ Some (Some kv) → IsNodesIn kv ps → length ps ≤ max_owned → AreFew id v
+pub few-seen : (id : ℤ) (v : View) (kv : Kv) (ps : List Bytes) → sees v (SessionKey (nat_abs id)) ≡ Some (Some kv) → IsNodesIn kv ps → length ps ≤ max_owned → AreFewOwned id v
 few-seen id v kv ps saw nodes few other qs also are =
     let one : other ≡ kv = some_is (some_is (sym also ∙ saw)) in
     let same : qs ≡ ps = session_value-injective qs ps are.0 nodes.0 (sym are.1 ∙ ap (λ (x : Kv). x.value) one ∙ nodes.1) in
@@ -95,8 +95,8 @@ few-seen id v kv ps saw nodes few other qs also are =
 abbrev AsksPlan : Plan → Move → Type 0
 AsksPlan p m = Asks (Removing p.again) (transaction p) m.phase m.step
 
-pub planned-decides : (id : ℤ) (v : View) (r : Reaping) (p : Plan) → r ≡ Planned p → (result : Result Move Refused) → IsReady id v → IsReap id v r → IsReapDecision id v r → IfReaped (IsReapPlan id v) r
-    → IfReaped (λ q. (s : State) → IsSound s → IsOf v s → IsTaken q) r → IfOk result (AsksPlan p) → IfOk result (λ m. Decides id v m.phase m.step)
+pub planned-decides : (id : ℤ) (v : View) (r : Reaping) (p : Plan) → r ≡ Planned p → (result : Result Move Refused) → IsReadyToReap id v → IsReap id v r → IsReapDecision id v r → IfReaped (IsReapPlan id v) r
+    → IfReaped (λ q. (s : State) → IsSound s → IsOf v s → IsTaken q) r → IfOk result (AsksPlan p) → IfOk result (λ m. ReaperDecides id v m.phase m.step)
 planned-decides id v r p is (Err e) ready seen worth plan taken asks = tt
 planned-decides id v r p is (Ok m) ready seen worth plan taken asks = record {
   ready = ready;
@@ -105,12 +105,12 @@ planned-decides id v r p is (Ok m) ready seen worth plan taken asks = record {
   worth = worth;
   plan = plan;
   taken = taken;
-  follows = subst (λ (x : Reaping). Follows v x m.phase m.step) (sym is) asks;
+  follows = subst (λ (x : Reaping). ReaperFollows v x m.phase m.step) (sym is) asks;
 }
 
-pub planned-held : (id : ℤ) → pos 1 ≤ℤ id → (p : Plan) (result : Result Move Refused) → IfOk result (AsksPlan p) → IfOk result (λ m. IsInPhase id m.phase)
+pub planned-held : (id : ℤ) → pos 1 ≤ℤ id → (p : Plan) (result : Result Move Refused) → IfOk result (AsksPlan p) → IfOk result (λ m. IsReaperPhase id m.phase)
 planned-held id real p (Err e) asks = tt
-planned-held id real p (Ok m) asks = subst (IsInPhase id) (sym asks.0) real
+planned-held id real p (Ok m) asks = subst (IsReaperPhase id) (sym asks.0) real
 
 -- ---- the revision of a view
 

@@ -14,7 +14,7 @@ use Rattle.zn_view.specs.Needs.{key_want}
 use Rattle.zn_view.specs.Seen.{View, empty_view, seen}
 use Rattle.zs_close.specs.Reaping.{lives}
 use Rattle.zs_close.specs.Wanting.{AreEndWants, own_keys, read_keys}
-use Rattle.zs_reap.specs.Steps.{first_wants}
+use Rattle.zs_reap.specs.Steps.{reaper_wants}
 
 named : (v : View) (ws : List Want) (k : Bytes) → seen v k ≡ None → list_any (is_want_of k) ws ≡ false → with_want v ws k ≡ ws ++ want.Key k ∷ []
 named v ws k none apart = λ i. cond (is_some (none i) || apart i) ws (ws ++ want.Key k ∷ [])
@@ -40,7 +40,7 @@ own-lacking id =
 first-lacking : (id : ℤ) (ws : List Want) → AreEndWants id empty_view ws → ws ≡ own_wants id
 first-lacking id ws (ps, nodes, is) = is ∙ ap (λ (qs : List Bytes). lacking empty_view (read_keys id qs)) nodes ∙ own-lacking id
 
-pub nothing-seen : (i id : ℤ) (v : View) (ws : List Want) → i ≡ id → int_lt id (pos 1) ≡ false → v ≡ empty_view → (lives i v ≡ false → AreEndWants i v ws) → ws ≡ first_wants id
+pub nothing-seen : (i id : ℤ) (v : View) (ws : List Want) → i ≡ id → int_lt id (pos 1) ≡ false → v ≡ empty_view → (lives i v ≡ false → AreEndWants i v ws) → ws ≡ reaper_wants id
 nothing-seen i id v ws same real none are =
     let gone : lives i v ≡ false = ap (lives i) none in
     first-lacking i ws (subst (λ (w : View). AreEndWants i w ws) none (are gone))

@@ -17,12 +17,12 @@ use Rattle.zn_view.specs.Adding.{AreRecords, IsFirstDamaged}
 use Rattle.zn_view.specs.Asks.{head_want, reading, transaction}
 use Rattle.zn_view.specs.Lookups.{sees, IsNodesIn}
 use Rattle.zn_view.specs.Needs.{AreNeeds, key_want}
-use Rattle.zn_view.specs.Seen.{View, IsCount}
+use Rattle.zn_view.specs.Seen.{View, IsCountNumber}
 use Rattle.zn_view.specs.Views.{IsOf}
 use Rattle.zs_close.specs.declared.reap.Reaping.{Reaping}
 use Rattle.zs_close.specs.declared.reap.Reaping.TheVariants.{Planned, Kept, Gone, TooMany}
 use Rattle.zn_view.specs.Deciding.{IsTaken}
-use Rattle.zs_close.specs.Reaping.{lives, IfReaped, IsReady, IsReap, IsReapDecision, IsReapPlan, whose}
+use Rattle.zs_close.specs.Reaping.{lives, IfReaped, IsReadyToReap, IsReap, IsReapDecision, IsReapPlan, whose}
 use Rattle.zs_close.specs.Wanting.{own_keys}
 use Rattle.zs_session.specs.declared.fault.StepFault.{StepFault}
 use Rattle.zs_session.specs.declared.fault.StepFault.TheVariants.{Damaged, Memory}
@@ -37,21 +37,21 @@ use Rattle.zs_reap.specs.declared.reap.ReapStep.TheVariants as steps
 
 -- first the head, the record of the session's life, and the list of its nodes; a number below 1 is no session's, and the head alone
 -- is looked up
-abbrev pub first_wants : ℤ → List Want
-first_wants id = if int_lt id (pos 1) then head_want ∷ [] else map key_want (own_keys id)
+abbrev pub reaper_wants : ℤ → List Want
+reaper_wants id = if int_lt id (pos 1) then head_want ∷ [] else map key_want (own_keys id)
 
 -- ---- what a reaper knows
 
 -- the revision of the first look is one that an etcd can have, and only a number of at least 1 comes past that look
-abbrev pub IsInPhase : ℤ → Phase → Type 0
-IsInPhase id Unasked = Unit {0}
-IsInPhase id Looking = Unit {0}
-IsInPhase id (Counting revision wants) = (pos 1 ≤ℤ id) × IsCount revision
-IsInPhase id (Removing again) = pos 1 ≤ℤ id
-IsInPhase id Over = Unit {0}
+abbrev pub IsReaperPhase : ℤ → Phase → Type 0
+IsReaperPhase id Unasked = Unit {0}
+IsReaperPhase id Looking = Unit {0}
+IsReaperPhase id (Counting revision wants) = (pos 1 ≤ℤ id) × IsCountNumber revision
+IsReaperPhase id (Removing again) = pos 1 ≤ℤ id
+IsReaperPhase id Over = Unit {0}
 
-abbrev pub IsHeld : Reap → Type 0
-IsHeld r = IsInPhase r.session r.phase
+abbrev pub IsReaperHeld : Reap → Type 0
+IsReaperHeld r = IsReaperPhase r.session r.phase
 
 -- ---- the answers that it takes
 
@@ -69,44 +69,44 @@ IsOfTxn (answer.Txn revision succeeded parts) = IsTxnAnswer revision parts
 IsOfTxn _ = ⊥
 
 -- the first step has no answer; each later one has one to the transaction that was asked last, and after the end there is no step
-abbrev pub MayStep : Reap → Option Answer → Type 0
-MayStep r None = r.phase ≡ Unasked
-MayStep r (Some a) = IsAsked r.phase × IsOfTxn a
+abbrev pub MayStepReaper : Reap → Option Answer → Type 0
+MayStepReaper r None = r.phase ≡ Unasked
+MayStepReaper r (Some a) = IsAsked r.phase × IsOfTxn a
 
 -- ---- what a step answers
 
 abbrev pub Asks : Phase → Ask → Phase → ReapStep → Type 0
 Asks next q phase step = (phase ≡ next) × (step ≡ steps.Ask q)
 
-abbrev pub Ends : ReapStep → Phase → ReapStep → Type 0
-Ends end phase step = (phase ≡ Over) × (step ≡ end)
+abbrev pub ReaperEnds : ReapStep → Phase → ReapStep → Type 0
+ReaperEnds end phase step = (phase ≡ Over) × (step ≡ end)
 
 -- the first look, at the present
-abbrev pub LooksFirst : ℤ → Phase → ReapStep → Type 0
-LooksFirst id phase step = Asks Looking (reading (pos 0) (first_wants id)) phase step
+abbrev pub ReaperLooksFirst : ℤ → Phase → ReapStep → Type 0
+ReaperLooksFirst id phase step = Asks Looking (reading (pos 0) (reaper_wants id)) phase step
 
 -- the list of the session's nodes that a view saw, if it saw one, has no more than a session may own
-abbrev pub AreFew : ℤ → View → Type 0
-AreFew id v = (kv : Kv) (ps : List Bytes) → sees v (SessionKey (nat_abs id)) ≡ Some (Some kv) → IsNodesIn kv ps → length ps ≤ max_owned
+abbrev pub AreFewOwned : ℤ → View → Type 0
+AreFewOwned id v = (kv : Kv) (ps : List Bytes) → sees v (SessionKey (nat_abs id)) ≡ Some (Some kv) → IsNodesIn kv ps → length ps ≤ max_owned
 
 -- by the decision: the transaction of its plan is asked, or the end is told at the view's revision; it is never `TooMany`
-abbrev pub Follows : View → Reaping → Phase → ReapStep → Type 0
-Follows v (Planned p) phase step = Asks (Removing p.again) (transaction p) phase step
-Follows v Kept phase step = Ends (steps.Kept v.revision) phase step
-Follows v Gone phase step = Ends (steps.Gone v.revision) phase step
-Follows v TooMany phase step = ⊥
+abbrev pub ReaperFollows : View → Reaping → Phase → ReapStep → Type 0
+ReaperFollows v (Planned p) phase step = Asks (Removing p.again) (transaction p) phase step
+ReaperFollows v Kept phase step = ReaperEnds (steps.Kept v.revision) phase step
+ReaperFollows v Gone phase step = ReaperEnds (steps.Gone v.revision) phase step
+ReaperFollows v TooMany phase step = ⊥
 
 -- The view decides: it saw the record of the session's life, or it lacks nothing that the end of the session reads. The session is
 -- kept exactly where that record is there, and gone exactly where neither it nor the list of the session's nodes is (`IsReap`). A
 -- plan ends it with all its nodes, and where the view is of a sound state an etcd takes it.
-pub record Decides (id : ℤ) (v : View) (phase : Phase) (step : ReapStep) : Type 0 where
-  pub ready : IsReady id v
+pub record ReaperDecides (id : ℤ) (v : View) (phase : Phase) (step : ReapStep) : Type 0 where
+  pub ready : IsReadyToReap id v
   pub reaping : Reaping
   pub seen : IsReap id v reaping
   pub worth : IsReapDecision id v reaping
   pub plan : IfReaped (IsReapPlan id v) reaping
   pub taken : IfReaped (λ p. (s : State) → IsSound s → IsOf v s → IsTaken p) reaping
-  pub follows : Follows v reaping phase step
+  pub follows : ReaperFollows v reaping phase step
 
 -- the view did not see the record of the session's life, and these are what it still lacks for the end of the session: there are
 -- some
@@ -116,53 +116,53 @@ pub record LacksSome (id : ℤ) (v : View) (ws : List Want) : Type 0 where
   pub some : ws ≡ [] → ⊥
 
 -- what the view lacks, the counts of the nodes' parents, is read at the view's revision, after the keys of the first look
-pub record IsCounted (id : ℤ) (v : View) (phase : Phase) (step : ReapStep) : Type 0 where
+pub record IsReaperCounted (id : ℤ) (v : View) (phase : Phase) (step : ReapStep) : Type 0 where
   pub wants : List Want
   pub lacking : LacksSome id v wants
-  pub asks : Asks (Counting v.revision (first_wants id ++ wants)) (reading v.revision (first_wants id ++ wants)) phase step
+  pub asks : Asks (Counting v.revision (reaper_wants id ++ wants)) (reading v.revision (reaper_wants id ++ wants)) phase step
 
 -- the session had other nodes since, and so the view lacks something: the session is looked at anew
 pub record IsLookedAt (id : ℤ) (v : View) (phase : Phase) (step : ReapStep) : Type 0 where
   pub wants : List Want
   pub lacking : LacksSome id v wants
-  pub asks : LooksFirst id phase step
+  pub asks : ReaperLooksFirst id phase step
 
 -- ---- at each answer
 
 -- all that was read under these keys is records, and the session's nodes are few
-pub record IsTested (id : ℤ) (ws : List Want) (revision : ℤ) (parts : List ActAns) : Type 0 where
+pub record IsReaperTested (id : ℤ) (ws : List Want) (revision : ℤ) (parts : List ActAns) : Type 0 where
   pub records : AreRecords ws parts
-  pub few : AreFew id (viewed revision ws parts)
+  pub few : AreFewOwned id (viewed revision ws parts)
 
 -- after the first look: a number below 1 is gone; of another the view decides, or the counts are read
-abbrev pub Looked : ℤ → List Want → ℤ → List ActAns → Phase → ReapStep → Type 0
-Looked id ws revision parts phase step =
-    MatchBool (int_lt id (pos 1)) (AreRecords ws parts × Ends (steps.Gone revision) phase step)
-    (IsTested id ws revision parts × (Decides id (viewed revision ws parts) phase step ⊎ IsCounted id (viewed revision ws parts) phase step))
+abbrev pub ReaperLooked : ℤ → List Want → ℤ → List ActAns → Phase → ReapStep → Type 0
+ReaperLooked id ws revision parts phase step =
+    MatchBool (int_lt id (pos 1)) (AreRecords ws parts × ReaperEnds (steps.Gone revision) phase step)
+    (IsReaperTested id ws revision parts × (ReaperDecides id (viewed revision ws parts) phase step ⊎ IsReaperCounted id (viewed revision ws parts) phase step))
 
 -- after a later look: the view decides, or the session is looked at anew
-abbrev pub LookedAgain : ℤ → List Want → ℤ → List ActAns → Phase → ReapStep → Type 0
-LookedAgain id ws revision parts phase step =
-    IsTested id ws revision parts × (Decides id (viewed revision ws parts) phase step ⊎ IsLookedAt id (viewed revision ws parts) phase step)
+abbrev pub ReaperLookedAgain : ℤ → List Want → ℤ → List ActAns → Phase → ReapStep → Type 0
+ReaperLookedAgain id ws revision parts phase step =
+    IsReaperTested id ws revision parts × (ReaperDecides id (viewed revision ws parts) phase step ⊎ IsLookedAt id (viewed revision ws parts) phase step)
 
 -- The answer of a transaction, by the phase. The counts were read at the revision of the first look; what is read again where a
 -- guard fails is as it was at the answer's revision.
 abbrev pub Answered : ℤ → Phase → ℤ → Bool → List ActAns → Phase → ReapStep → Type 0
 Answered id Unasked revision succeeded parts phase step = ⊥
-Answered id Looking revision succeeded parts phase step = Looked id (first_wants id) revision parts phase step
-Answered id (Counting first wants) revision succeeded parts phase step = LookedAgain id wants first parts phase step
-Answered id (Removing again) revision true parts phase step = Ends (steps.Reaped revision) phase step
-Answered id (Removing again) revision false parts phase step = LookedAgain id again revision parts phase step
+Answered id Looking revision succeeded parts phase step = ReaperLooked id (reaper_wants id) revision parts phase step
+Answered id (Counting first wants) revision succeeded parts phase step = ReaperLookedAgain id wants first parts phase step
+Answered id (Removing again) revision true parts phase step = ReaperEnds (steps.Reaped revision) phase step
+Answered id (Removing again) revision false parts phase step = ReaperLookedAgain id again revision parts phase step
 Answered id Over revision succeeded parts phase step = ⊥
 
-abbrev pub Moves : Reap → Option Answer → Phase → ReapStep → Type 0
-Moves r None phase step = LooksFirst r.session phase step
-Moves r (Some a) phase step = OfTxn a (λ revision succeeded parts. Answered r.session r.phase revision succeeded parts phase step)
+abbrev pub ReaperMoves : Reap → Option Answer → Phase → ReapStep → Type 0
+ReaperMoves r None phase step = ReaperLooksFirst r.session phase step
+ReaperMoves r (Some a) phase step = OfTxn a (λ revision succeeded parts. Answered r.session r.phase revision succeeded parts phase step)
 
 -- one step: from a reap, by an answer, to what the step says and to the next reap
-pub record Steps (r : Reap) (a : Option Answer) (step : ReapStep) (new : Reap) : Type 0 where
+pub record ReaperSteps (r : Reap) (a : Option Answer) (step : ReapStep) (new : Reap) : Type 0 where
   pub same : new.session ≡ r.session
-  pub moves : Moves r a new.phase step
+  pub moves : ReaperMoves r a new.phase step
 
 -- the ask is a transaction
 abbrev pub IsTxn : Ask → Type 0
@@ -170,9 +170,9 @@ IsTxn (ask.Txn t) = Unit {0}
 IsTxn _ = ⊥
 
 -- what a reap waits for after a step: the answer of a transaction; after a step that asked nothing it is over
-abbrev pub IsWaiting : ReapStep → Phase → Type 0
-IsWaiting (steps.Ask q) phase = IsAsked phase × IsTxn q
-IsWaiting _ phase = phase ≡ Over
+abbrev pub IsReaperWaiting : ReapStep → Phase → Type 0
+IsReaperWaiting (steps.Ask q) phase = IsAsked phase × IsTxn q
+IsReaperWaiting _ phase = phase ≡ Over
 
 -- ---- what may be damaged
 
@@ -199,13 +199,13 @@ abbrev pub IsMemory : StepFault → Type 0
 IsMemory fault = fault ≡ Memory
 
 -- the fault of a step at an answer, by the phase: of what the answer shows, if it shows something
-abbrev pub IsFaultIn : ℤ → Phase → ℤ → Bool → List ActAns → StepFault → Type 0
-IsFaultIn id Looking revision succeeded parts fault = IsReadFault id (first_wants id) revision parts fault
-IsFaultIn id (Counting first wants) revision succeeded parts fault = IsReadFault id wants first parts fault
-IsFaultIn id (Removing again) revision false parts fault = IsReadFault id again revision parts fault
-IsFaultIn id _ revision succeeded parts fault = IsMemory fault
+abbrev pub IsFaultOfReaper : ℤ → Phase → ℤ → Bool → List ActAns → StepFault → Type 0
+IsFaultOfReaper id Looking revision succeeded parts fault = IsReadFault id (reaper_wants id) revision parts fault
+IsFaultOfReaper id (Counting first wants) revision succeeded parts fault = IsReadFault id wants first parts fault
+IsFaultOfReaper id (Removing again) revision false parts fault = IsReadFault id again revision parts fault
+IsFaultOfReaper id _ revision succeeded parts fault = IsMemory fault
 
 abbrev pub IsReapFault : Reap → Option Answer → StepFault → Type 0
 IsReapFault r None fault = IsMemory fault
-IsReapFault r (Some (answer.Txn revision succeeded parts)) fault = IsFaultIn r.session r.phase revision succeeded parts fault
+IsReapFault r (Some (answer.Txn revision succeeded parts)) fault = IsFaultOfReaper r.session r.phase revision succeeded parts fault
 IsReapFault r (Some _) fault = IsMemory fault

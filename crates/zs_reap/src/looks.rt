@@ -2,10 +2,10 @@
 
 ghost use Rattle.std.specs.Prelude.{◌≡◌, pos, ◌≤ℤ◌, ◌<ℤ◌, IfOk, IfErr, OnOk};
 ghost use Rattle.ev_types.specs.declared.answer.Kv.{Kv as KeyValue};
-ghost use Rattle.zn_view.specs.Seen.{IsCount};
+ghost use Rattle.zn_view.specs.Seen.{IsCountNumber};
 ghost use Rattle.zn_view.specs.Adding.{AreNumbers};
 ghost use Rattle.zs_session.specs.Answering.{viewed};
-ghost use Rattle.zs_reap.specs.Steps.{AreFew, IsCrowdedFault, IsInPhase, IsReadFault, IsTested, Looked, LookedAgain, first_wants as wants_of_first};
+ghost use Rattle.zs_reap.specs.Steps.{AreFewOwned, IsCrowdedFault, IsReaperPhase, IsReadFault, IsReaperTested, ReaperLooked, ReaperLookedAgain, reaper_wants as wants_of_first};
 
 use crate::moves::{Move, count, decided, end, first_wants, look};
 use crate::reap::ReapStep;
@@ -31,7 +31,7 @@ fn damaged(alloc: Global, kv: &Kv) -> Result<StepFault, Memory>
 /// Refuses a list of more nodes than a session may own.
 fn test_nodes(alloc: Global, session: i64, view: &View) -> Result<(), StepFault>
     requires { pos 1 ≤ℤ session }
-    ensures ok { OnOk result (AreFew session view.now) }
+    ensures ok { OnOk result (AreFewOwned session view.now) }
     ensures fault { IfErr result (IsCrowdedFault session view.now) }
 {
     let key = session_key(alloc, session)?;
@@ -56,10 +56,10 @@ fn seen(
     parts: &[ActAns],
 ) -> Result<View, StepFault>
     requires real { pos 1 ≤ℤ session }
-    requires revision { IsCount revision }
+    requires revision { IsCountNumber revision }
     requires numbers { AreNumbers parts.now }
     ensures ok { IfOk result (λ view. view ≡ viewed revision wants.now parts.now) }
-    ensures tested { OnOk result (IsTested session wants.now revision parts.now) }
+    ensures tested { OnOk result (IsReaperTested session wants.now revision parts.now) }
     ensures fault { IfErr result (IsReadFault session wants.now revision parts.now) }
 {
     let view = look_at(alloc, wants, revision, parts)?;
@@ -76,10 +76,10 @@ fn looked_nowhere(
     parts: &[ActAns],
 ) -> Result<Move, StepFault>
     requires below { session <ℤ pos 1 }
-    requires revision { IsCount revision }
+    requires revision { IsCountNumber revision }
     requires numbers { AreNumbers parts.now }
-    ensures ok { IfOk result (λ m. Looked session wants.now revision parts.now m.phase m.step) }
-    ensures held { IfOk result (λ m. IsInPhase session m.phase) }
+    ensures ok { IfOk result (λ m. ReaperLooked session wants.now revision parts.now m.phase m.step) }
+    ensures held { IfOk result (λ m. IsReaperPhase session m.phase) }
     ensures fault { IfErr result (IsReadFault session wants.now revision parts.now) }
 {
     look_at(alloc, wants, revision, parts)?;
@@ -96,10 +96,10 @@ fn looked_there(
     parts: &[ActAns],
 ) -> Result<Move, StepFault>
     requires real { pos 1 ≤ℤ session }
-    requires revision { IsCount revision }
+    requires revision { IsCountNumber revision }
     requires numbers { AreNumbers parts.now }
-    ensures ok { IfOk result (λ m. Looked session wants.now revision parts.now m.phase m.step) }
-    ensures held { IfOk result (λ m. IsInPhase session m.phase) }
+    ensures ok { IfOk result (λ m. ReaperLooked session wants.now revision parts.now m.phase m.step) }
+    ensures held { IfOk result (λ m. IsReaperPhase session m.phase) }
     ensures fault { IfErr result (IsReadFault session wants.now revision parts.now) }
 {
     let view = seen(alloc, session, wants, revision, parts)?;
@@ -117,10 +117,10 @@ pub(crate) fn looked(
     revision: i64,
     parts: &[ActAns],
 ) -> Result<Move, StepFault>
-    requires revision { IsCount revision }
+    requires revision { IsCountNumber revision }
     requires numbers { AreNumbers parts.now }
-    ensures ok { IfOk result (λ m. Looked session (wants_of_first session) revision parts.now m.phase m.step) }
-    ensures held { IfOk result (λ m. IsInPhase session m.phase) }
+    ensures ok { IfOk result (λ m. ReaperLooked session (wants_of_first session) revision parts.now m.phase m.step) }
+    ensures held { IfOk result (λ m. IsReaperPhase session m.phase) }
     ensures fault { IfErr result (IsReadFault session (wants_of_first session) revision parts.now) }
 {
     let wants = first_wants(alloc, session)?;
@@ -140,10 +140,10 @@ pub(crate) fn looked_again(
     parts: &[ActAns],
 ) -> Result<Move, StepFault>
     requires real { pos 1 ≤ℤ session }
-    requires revision { IsCount revision }
+    requires revision { IsCountNumber revision }
     requires numbers { AreNumbers parts.now }
-    ensures ok { IfOk result (λ m. LookedAgain session wants.now revision parts.now m.phase m.step) }
-    ensures held { IfOk result (λ m. IsInPhase session m.phase) }
+    ensures ok { IfOk result (λ m. ReaperLookedAgain session wants.now revision parts.now m.phase m.step) }
+    ensures held { IfOk result (λ m. IsReaperPhase session m.phase) }
     ensures fault { IfErr result (IsReadFault session wants.now revision parts.now) }
 {
     let view = seen(alloc, session, wants, revision, parts)?;

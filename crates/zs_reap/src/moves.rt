@@ -2,9 +2,9 @@
 
 ghost use Rattle.std.specs.Prelude.{◌≡◌, ◌++◌, ◌∷◌, [], ℤ, pos, ◌≤ℤ◌, IfOk};
 ghost use Rattle.zn_view.specs.Asks.{head_want, transaction};
-ghost use Rattle.zn_view.specs.Seen.{IsCount};
-ghost use Rattle.zs_close.specs.Reaping.{IsReady};
-ghost use Rattle.zs_reap.specs.Steps.{AreFew, Asks, Ends, IsCounted, Decides, IsInPhase, LacksSome, LooksFirst, first_wants as wants_of_first};
+ghost use Rattle.zn_view.specs.Seen.{IsCountNumber};
+ghost use Rattle.zs_close.specs.Reaping.{IsReadyToReap};
+ghost use Rattle.zs_reap.specs.Steps.{AreFewOwned, Asks, ReaperEnds, IsReaperCounted, ReaperDecides, IsReaperPhase, LacksSome, ReaperLooksFirst, reaper_wants as wants_of_first};
 ghost use Rattle.zs_reap.specs.declared.reap.Phase.TheVariants as phases;
 
 use crate::reap::{Phase, ReapStep};
@@ -24,7 +24,7 @@ pub(crate) struct Move {
 
 /// Nothing more is asked.
 pub(crate) fn end(step: ReapStep) -> Move
-    ensures { Ends step result.phase result.step }
+    ensures { ReaperEnds step result.phase result.step }
 {
     Move {
         phase: Phase::Over,
@@ -55,8 +55,8 @@ pub(crate) fn first_wants(alloc: Global, session: i64) -> Result<Seq<Want>, Memo
 
 /// Reads the keys of the first look, as they are now.
 pub(crate) fn look(alloc: Global, session: i64) -> Result<Move, Memory>
-    ensures asks { IfOk result (λ m. LooksFirst session m.phase m.step) }
-    ensures held { IfOk result (λ m. (id : ℤ) → IsInPhase id m.phase) }
+    ensures asks { IfOk result (λ m. ReaperLooksFirst session m.phase m.step) }
+    ensures held { IfOk result (λ m. (id : ℤ) → IsReaperPhase id m.phase) }
 {
     let wants = first_wants(alloc, session)?;
     Ok(Move {
@@ -83,10 +83,10 @@ pub(crate) fn count(
     lacking: Seq<Want>,
 ) -> Result<Move, Memory>
     requires real { pos 1 ≤ℤ session }
-    requires revision { IsCount view.now.revision }
+    requires revision { IsCountNumber view.now.revision }
     requires lacks { LacksSome session view.now lacking }
-    ensures asks { IfOk result (λ m. IsCounted session view.now m.phase m.step) }
-    ensures held { IfOk result (λ m. IsInPhase session m.phase) }
+    ensures asks { IfOk result (λ m. IsReaperCounted session view.now m.phase m.step) }
+    ensures held { IfOk result (λ m. IsReaperPhase session m.phase) }
 {
     let first = first_wants(alloc, session)?;
     let wants = joined(first, lacking)?;
@@ -116,10 +116,10 @@ fn remove(alloc: Global, plan: Plan) -> Result<Move, Memory>
 /// What becomes of the session, on a view that saw the record of its life or lacks nothing.
 pub(crate) fn decided(alloc: Global, session: i64, view: &View) -> Result<Move, Memory>
     requires real { pos 1 ≤ℤ session }
-    requires ready { IsReady session view.now }
-    requires few { AreFew session view.now }
-    ensures asks { IfOk result (λ m. Decides session view.now m.phase m.step) }
-    ensures held { IfOk result (λ m. IsInPhase session m.phase) }
+    requires ready { IsReadyToReap session view.now }
+    requires few { AreFewOwned session view.now }
+    ensures asks { IfOk result (λ m. ReaperDecides session view.now m.phase m.step) }
+    ensures held { IfOk result (λ m. IsReaperPhase session m.phase) }
 {
     match plan_reap(alloc, session, view)? {
         Reaping::Planned(plan) => remove(alloc, plan),

@@ -2,7 +2,7 @@
 
 ghost use Rattle.std.specs.Prelude.{◌≡◌, option_copied, Some, IfOk, IfErr, OnErr};
 ghost use Rattle.zs_session.specs.Answering.{IsTxnAnswer};
-ghost use Rattle.zs_reap.specs.Steps.{Answered, IsAsked, IsFaultIn, IsHeld, IsInPhase, IsOfTxn, IsReapFault, IsWaiting, MayStep, Moves, Steps};
+ghost use Rattle.zs_reap.specs.Steps.{Answered, IsAsked, IsFaultOfReaper, IsReaperHeld, IsReaperPhase, IsOfTxn, IsReapFault, IsReaperWaiting, MayStepReaper, ReaperMoves, ReaperSteps};
 ghost use Rattle.zs_reap.specs.declared.reap.Phase.TheVariants as phases;
 
 use crate::looks::{looked, looked_again};
@@ -21,12 +21,12 @@ fn answered(
     succeeded: bool,
     parts: &[ActAns],
 ) -> Result<Move, StepFault>
-    requires held { IsHeld reap.now }
+    requires held { IsReaperHeld reap.now }
     requires asked { IsAsked reap.now.phase }
     requires answer { IsTxnAnswer revision parts.now }
     ensures ok { IfOk result (λ m. Answered reap.now.session reap.now.phase revision succeeded parts.now m.phase m.step) }
-    ensures held { IfOk result (λ m. IsInPhase reap.now.session m.phase) }
-    ensures fault { IfErr result (IsFaultIn reap.now.session reap.now.phase revision succeeded parts.now) }
+    ensures held { IfOk result (λ m. IsReaperPhase reap.now.session m.phase) }
+    ensures fault { IfErr result (IsFaultOfReaper reap.now.session reap.now.phase revision succeeded parts.now) }
 {
     match &reap.phase {
         Phase::Unasked | Phase::Over => unreachable!(),
@@ -43,10 +43,10 @@ fn answered(
 }
 
 fn moved(alloc: Global, reap: &Reap, answer: Option<&Answer>) -> Result<Move, StepFault>
-    requires held { IsHeld reap.now }
-    requires may { MayStep reap.now (option_copied answer) }
-    ensures ok { IfOk result (λ m. Moves reap.now (option_copied answer.entry) m.phase m.step) }
-    ensures held { IfOk result (λ m. IsInPhase reap.now.session m.phase) }
+    requires held { IsReaperHeld reap.now }
+    requires may { MayStepReaper reap.now (option_copied answer) }
+    ensures ok { IfOk result (λ m. ReaperMoves reap.now (option_copied answer.entry) m.phase m.step) }
+    ensures held { IfOk result (λ m. IsReaperPhase reap.now.session m.phase) }
     ensures fault { IfErr result (IsReapFault reap.now (option_copied answer.entry)) }
 {
     match answer {
@@ -76,11 +76,11 @@ impl Model for Reaper {
 
     ghost Value = { Reap };
 
-    ghost use Rattle.zs_reap.specs.Steps.{IsHeld};
+    ghost use Rattle.zs_reap.specs.Steps.{IsReaperHeld};
 
     ghost view = { λ r. r.reap };
 
-    ghost invariant = { λ r. IsHeld r.reap };
+    ghost invariant = { λ r. IsReaperHeld r.reap };
 }
 
 impl Reaper {
@@ -110,12 +110,12 @@ impl Reaper {
     /// `Damaged`: the answer shows, under a key that was looked up, a value that is no record; or, where all are records, a list of
     /// more nodes than a session may own, which no sound state has. No step is made with such an answer.
     pub fn step(&mut self, answer: Option<&Answer>) -> Result<ReapStep, StepFault>
-        requires { MayStep self.old (option_copied answer) }
-        ensures ok { IfOk result (λ step. Steps self.old (option_copied answer.entry) step self.new) }
-        ensures waits { IfOk result (λ step. IsWaiting step self.new.phase) }
+        requires { MayStepReaper self.old (option_copied answer) }
+        ensures ok { IfOk result (λ step. ReaperSteps self.old (option_copied answer.entry) step self.new) }
+        ensures waits { IfOk result (λ step. IsReaperWaiting step self.new.phase) }
         ensures err { OnErr result (self.new ≡ self.old) }
         ensures fault { IfErr result (IsReapFault self.old (option_copied answer.entry)) }
-        ensures held { IsHeld self.new }
+        ensures held { IsReaperHeld self.new }
     {
         let moved = moved(self.alloc, &self.reap, answer)?;
         self.reap.phase = moved.phase;

@@ -14,7 +14,7 @@ use Rattle.zk_transcript.specs.declared.transcript.UpdateKind.TheVariants.{Attac
 use Rattle.zk_transcript.specs.History.{State, Session, advanced, attached_anew, session_at, updated}
 use Rattle.zn_layout.specs.declared.record.LeaseRec.{LeaseRec}
 use Rattle.zn_layout.specs.Changes.{last, update_acts}
-use Rattle.zn_layout.specs.Fits.{Fits, KeyFits}
+use Rattle.zn_layout.specs.Fits.{ChangesFit, KeyFits}
 use Rattle.zn_layout.specs.Keys.{Key, HeadKey, DataKey, CountsKey, SessionKey, LeaseKey, key_bytes}
 use Rattle.zn_layout.specs.Records.{IsLeaseRec, lease_value}
 use Rattle.zn_layout.specs.StandsFor.{at, stored_of, life_record, LifeMeans, StandsFor}
@@ -44,7 +44,7 @@ abbrev moved : Session → ℕ → ℤ → Session
 moved old c z = record old { connection = c; attached = z }
 
 attached-fits : (n : ℕ) (old : Session) (attaches z : ℤ) (c : ℕ) (s : State) → session_at (pos n) s ≡ Some old → old.lapsed ≡ false → IsLeaseRec (life_record old attaches)
-    → Fits z (attach_changes (pos n) (life_record old attaches)) s (opened z s n (moved old c z))
+    → ChangesFit z (attach_changes (pos n) (life_record old attaches)) s (opened z s n (moved old c z))
 attached-fits n old attaches z c s was alive within = record { each = each }
   where
     each : (k : Key) → KeyFits z (last (attach_changes (pos n) (life_record old attaches)) k) k s (opened z s n (moved old c z))
@@ -76,8 +76,8 @@ attaches-anew n seen life before c m s z low within stands was hold later most =
     let old = found.old in
     let is = found.is in
     let same : life_record old is.attaches ≡ life = lease_value-injective (life_record old is.attaches) life is.fits within (sym is.value ∙ was there.kv there.is there.revision_is) in
-    let fits : Fits z (attach_changes (pos n) life) s (opened z s n (moved old c z)) =
-    subst (λ (l : LeaseRec). Fits z (attach_changes (pos n) l) s (opened z s n (moved old c z))) same (attached-fits n old is.attaches z c s found.there is.alive is.fits) in
+    let fits : ChangesFit z (attach_changes (pos n) life) s (opened z s n (moved old c z)) =
+    subst (λ (l : LeaseRec). ChangesFit z (attach_changes (pos n) l) s (opened z s n (moved old c z))) same (attached-fits n old is.attaches z c s found.there is.alive is.fits) in
     record {
       session = old;
       there = found.there;

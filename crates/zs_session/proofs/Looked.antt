@@ -14,15 +14,15 @@ use Rattle.zs_session.specs.declared.connect.Phase.TheVariants.{Attaching}
 use Rattle.zs_session.specs.declared.fault.StepFault.{StepFault}
 use Rattle.zs_session.specs.declared.moves.Move.{Move}
 use Rattle.zs_session.specs.Answering.{viewed, OfTxn}
-use Rattle.zs_session.specs.Connecting.{LooksFirst, Looked, LookedAgain, Resumes}
+use Rattle.zs_session.specs.Connecting.{ConnectLooksFirst, ConnectLooked, ConnectLookedAgain, Resumes}
 use Rattle.zs_session.specs.Sessions.{first_wants, attach_wants}
 
 module _ (c : Connect) (z : ℤ) (parts : List ActAns) (ws : List Want) (v : View) (phase : Phase) (step : ConnectStep) (records : AreRecords ws parts) (is : v ≡ viewed z ws parts) where
-  pub looked-first : ws ≡ first_wants c.request → LooksFirst c v phase step → Looked c z parts phase step
+  pub looked-first : ws ≡ first_wants c.request → ConnectLooksFirst c v phase step → ConnectLooked c z parts phase step
   looked-first e looks =
-      (subst (λ (l : List Want). AreRecords l parts) e records, subst (λ (w : View). LooksFirst c w phase step) (is ∙ ap (λ (l : List Want). viewed z l parts) e) looks)
+      (subst (λ (l : List Want). AreRecords l parts) e records, subst (λ (w : View). ConnectLooksFirst c w phase step) (is ∙ ap (λ (l : List Want). viewed z l parts) e) looks)
 
-  pub looked-again : ws ≡ attach_wants c.request.session → Resumes c v Attaching phase step → LookedAgain c z parts phase step
+  pub looked-again : ws ≡ attach_wants c.request.session → Resumes c v Attaching phase step → ConnectLookedAgain c z parts phase step
   looked-again e looks =
       (subst (λ (l : List Want). AreRecords l parts) e records, subst (λ (w : View). Resumes c w Attaching phase step) (is ∙ ap (λ (l : List Want). viewed z l parts) e) looks)
 

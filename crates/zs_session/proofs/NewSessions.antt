@@ -16,7 +16,7 @@ use Rattle.zk_transcript.specs.History.{State, Session, IsSound, advanced, conne
 use Rattle.zk_transcript.proofs.SoundSessions.{owns_none}
 use Rattle.zx_base.specs.Maps.{Bytes}
 use Rattle.zn_layout.specs.Changes.{last, update_acts}
-use Rattle.zn_layout.specs.Fits.{Fits, KeyFits}
+use Rattle.zn_layout.specs.Fits.{ChangesFit, KeyFits}
 use Rattle.zn_layout.specs.Keys.{Key, HeadKey, DataKey, CountsKey, SessionKey, LeaseKey, key_bytes}
 use Rattle.zn_layout.specs.Records.{IsLeaseRec, session_value}
 use Rattle.zn_layout.specs.StandsFor.{at, stored_of, IsNodes, NodesMean, StandsFor}
@@ -60,7 +60,7 @@ abbrev fresh_of : ℕ → Bytes → Fresh
 fresh_of n passwd = record { id = pos n; passwd = passwd }
 
 opened-fits : (n : ℕ) (passwd : Bytes) (timeout z : ℤ) (c : ℕ) (s : State) → pos 1 ≤ℤ pos n → IsSound s → session_at (pos n) s ≡ None → IsLeaseRec (first_life (fresh_of n passwd) timeout)
-    → Fits z (new_session_changes (fresh_of n passwd) timeout) s (opened z s n (session_of (fresh_of n passwd) timeout c z))
+    → ChangesFit z (new_session_changes (fresh_of n passwd) timeout) s (opened z s n (session_of (fresh_of n passwd) timeout c z))
 opened-fits n passwd timeout z c s low sound closed within = record { each = each }
   where
     none : owned s.tree (pos n) ≡ []

@@ -9,7 +9,7 @@ use Rattle.zk_model.specs.Znodes.{owned}
 use Rattle.zk_transcript.specs.History.{State, Session, advanced, session_at, with_session}
 use Rattle.zk_transcript.proofs.SessionMaps.{at-insert_same, at-insert_other}
 use Rattle.zx_base.specs.Maps.{Bytes}
-use Rattle.zn_layout.specs.Changes.{Put, or_else}
+use Rattle.zn_layout.specs.Changes.{Put, put_or_else}
 use Rattle.zn_layout.specs.Fits.{KeyFits}
 use Rattle.zn_layout.specs.Keys.{Key, SessionKey, LeaseKey, key_bytes}
 use Rattle.zn_layout.specs.Records.{IsHeadRec}
@@ -83,7 +83,7 @@ module _ (z : ℤ) (s : State) (n : ℕ) (x : Session) where
       subst (λ (i : ℕ). LifeMeans i (session_at (pos i) opened) o) (sym (eqb-true m n e)) own
   life-fits w m false e life = λ o h. subst (λ (y : Option Session). LifeMeans m y o) (sym (session-other m e)) h
 
-  pub nodes-fit : (w : Put) (m : ℕ) (b : Bool) → nat_eq m n ≡ b → IsNodes (record { value = w.value; revision = z; lease = w.lease }) (owned s.tree (pos n)) → KeyFits z (or_else (cond b (Some (Some w)) None) None) (SessionKey m) s opened
+  pub nodes-fit : (w : Put) (m : ℕ) (b : Bool) → nat_eq m n ≡ b → IsNodes (record { value = w.value; revision = z; lease = w.lease }) (owned s.tree (pos n)) → KeyFits z (put_or_else (cond b (Some (Some w)) None) None) (SessionKey m) s opened
   nodes-fit w m true e nodes =
       let o : Option Stored = Some (record { value = w.value; revision = z; lease = w.lease }) in
       let own : NodesMean (session_at (pos n) opened) (owned s.tree (pos n)) o = subst (λ (y : Option Session). NodesMean y (owned s.tree (pos n)) o) (sym session-own) nodes in

@@ -8,13 +8,13 @@ use Rattle.ev_types.specs.declared.ask.Ask.TheVariants as ask
 use Rattle.zn_view.specs.declared.want.Want.{Want}
 use Rattle.zn_view.specs.Adding.{AreNumbers, at_revision, IsFirstDamaged}
 use Rattle.zn_view.specs.Asks.{with_parts}
-use Rattle.zn_view.specs.Seen.{View, empty_view, IsCount}
+use Rattle.zn_view.specs.Seen.{View, empty_view, IsCountNumber}
 use Rattle.zs_session.specs.declared.fault.StepFault.{StepFault}
 use Rattle.zs_session.specs.declared.fault.StepFault.TheVariants.{Damaged, Memory}
 
 -- the revision and the numbers of what was found are in an etcd's range
 pub record IsTxnAnswer (revision : ℤ) (parts : List ActAns) : Type 0 where
-  pub revision_is : IsCount revision
+  pub revision_is : IsCountNumber revision
   pub numbers : AreNumbers parts
 
 -- an answer is of the kind of its ask; of a transaction, it has numbers in an etcd's range

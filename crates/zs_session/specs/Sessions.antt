@@ -7,7 +7,7 @@ use Rattle.ev_types.specs.declared.ask.TxnReq.{TxnReq}
 use Rattle.zk_model.specs.declared.connect.ConnectRequest.{ConnectRequest}
 use Rattle.zk_model.specs.Limits.{max_long}
 use Rattle.zn_layout.specs.declared.record.LeaseRec.{LeaseRec}
-use Rattle.zn_layout.specs.Changes.{Change, put_key}
+use Rattle.zn_layout.specs.Changes.{KeyChange, put_key}
 use Rattle.zn_layout.specs.Keys.{Key, SessionKey, LeaseKey, key_bytes}
 use Rattle.zn_layout.specs.Records.{session_value, lease_value}
 use Rattle.zn_layout.specs.Updates.{update_txn}
@@ -32,7 +32,7 @@ abbrev pub guard_on : Key → ℤ → Guard
 guard_on k revision = record { key = key_bytes k; mod_revision = revision }
 
 -- puts the record of a session's life, attached to its lease
-abbrev pub put_life : ℤ → LeaseRec → Change
+abbrev pub put_life : ℤ → LeaseRec → KeyChange
 put_life id life = record { key = life_key id; put = Some (record { value = lease_value life; lease = id }) }
 
 -- ---- a new session: neither of its keys is there, and both are put
@@ -44,7 +44,7 @@ abbrev pub first_life : Fresh → ℤ → LeaseRec
 first_life f timeout = record { timeout = timeout; attaches = pos 1; passwd = f.passwd }
 
 -- it owns no node
-abbrev pub new_session_changes : Fresh → ℤ → List Change
+abbrev pub new_session_changes : Fresh → ℤ → List KeyChange
 new_session_changes f timeout = put_life f.id (first_life f timeout) ∷ put_key (nodes_key f.id) (session_value []) ∷ []
 
 abbrev pub new_session_guards : ℤ → List Guard
@@ -65,7 +65,7 @@ next_attach n = if int_eq n max_long then pos 1 else n +ℤ pos 1
 abbrev pub next_life : LeaseRec → LeaseRec
 next_life life = record { timeout = life.timeout; attaches = next_attach life.attaches; passwd = life.passwd }
 
-abbrev pub attach_changes : ℤ → LeaseRec → List Change
+abbrev pub attach_changes : ℤ → LeaseRec → List KeyChange
 attach_changes id life = put_life id (next_life life) ∷ []
 
 abbrev pub attach_guards : ℤ → ℤ → List Guard

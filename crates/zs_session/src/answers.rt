@@ -4,9 +4,9 @@ ghost use Rattle.std.specs.Prelude.{pos, ◌≤ℤ◌, true, false, [], IfOk, If
 ghost use Rattle.ev_types.specs.declared.ask.Ask.TheVariants as asks;
 ghost use Rattle.zn_view.specs.Adding.{AreNumbers};
 ghost use Rattle.zn_view.specs.Asks.{reading as reading_ask};
-ghost use Rattle.zn_view.specs.Seen.{IsCount};
+ghost use Rattle.zn_view.specs.Seen.{IsCountNumber};
 ghost use Rattle.zs_session.specs.Answering.{IsAnswerTo, IsLookFault, OfTxn, OfAlive};
-ghost use Rattle.zs_session.specs.Connecting.{Looked, Created, Kept, LookedAgain, Attached, IsResumable, IsFaultIn, timeout_in};
+ghost use Rattle.zs_session.specs.Connecting.{ConnectLooked, Created, Kept, ConnectLookedAgain, Attached, IsResumable, IsFaultOfConnect, timeout_in};
 ghost use Rattle.zs_session.specs.Sessions.{first_wants as wants_of_first, attach_wants as wants_of_attach, session_wants as wants_of_session, new_session_txn, attach_txn};
 ghost use Rattle.zs_session.specs.declared.connect.Phase.TheVariants as phases;
 
@@ -27,9 +27,9 @@ fn looked_at(
     revision: i64,
     parts: &[ActAns],
 ) -> Result<Move, StepFault>
-    requires revision { IsCount revision }
+    requires revision { IsCountNumber revision }
     requires numbers { AreNumbers parts.now }
-    ensures ok { IfOk result (λ m. Looked connect.now revision parts.now m.phase m.step) }
+    ensures ok { IfOk result (λ m. ConnectLooked connect.now revision parts.now m.phase m.step) }
     ensures fault { IfErr result (IsLookFault (wants_of_first connect.now.request) parts.now) }
 {
     let wants = first_wants(alloc, &connect.request)?;
@@ -40,8 +40,8 @@ fn looked_at(
 /// What follows the first look, at the head and at the life of the session that is to be resumed.
 pub(crate) fn looked(alloc: Global, connect: &Connect, answer: &Answer) -> Result<Move, StepFault>
     requires { IsAnswerTo (reading_ask (pos 0) (wants_of_first connect.now.request)) answer.now }
-    ensures ok { IfOk result (λ m. OfTxn answer.now (λ revision succeeded parts. Looked connect.now revision parts m.phase m.step)) }
-    ensures fault { IfErr result (IsFaultIn connect.now phases.Looking answer.now) }
+    ensures ok { IfOk result (λ m. OfTxn answer.now (λ revision succeeded parts. ConnectLooked connect.now revision parts m.phase m.step)) }
+    ensures fault { IfErr result (IsFaultOfConnect connect.now phases.Looking answer.now) }
 {
     match answer {
         Answer::Txn {
@@ -60,7 +60,7 @@ fn taken(
     parts: &[ActAns],
 ) -> Result<Move, StepFault>
     requires least { pos 1 ≤ℤ connect.now.fresh.id }
-    requires revision { IsCount revision }
+    requires revision { IsCountNumber revision }
     requires numbers { AreNumbers parts.now }
     ensures ok { IfOk result (λ m. Created connect.now revision false parts.now m.phase m.step) }
     ensures fault { IfErr result (IsLookFault (wants_of_session connect.now.fresh.id) parts.now) }
@@ -94,7 +94,7 @@ pub(crate) fn created(alloc: Global, connect: &Connect, answer: &Answer) -> Resu
     requires least { pos 1 ≤ℤ connect.now.fresh.id }
     requires awaited { IsAnswerTo (asks.Txn (new_session_txn connect.now.fresh (timeout_in connect.now))) answer.now }
     ensures ok { IfOk result (λ m. OfTxn answer.now (λ revision succeeded parts. Created connect.now revision succeeded parts m.phase m.step)) }
-    ensures fault { IfErr result (IsFaultIn connect.now phases.Creating answer.now) }
+    ensures fault { IfErr result (IsFaultOfConnect connect.now phases.Creating answer.now) }
 {
     match answer {
         Answer::Txn {
@@ -138,9 +138,9 @@ fn looked_again_at(
     parts: &[ActAns],
 ) -> Result<Move, StepFault>
     requires session { pos 1 ≤ℤ connect.now.request.session }
-    requires revision { IsCount revision }
+    requires revision { IsCountNumber revision }
     requires numbers { AreNumbers parts.now }
-    ensures ok { IfOk result (λ m. LookedAgain connect.now revision parts.now m.phase m.step) }
+    ensures ok { IfOk result (λ m. ConnectLookedAgain connect.now revision parts.now m.phase m.step) }
     ensures fault { IfErr result (IsLookFault (wants_of_attach connect.now.request.session) parts.now) }
 {
     let wants = attach_wants(alloc, connect.request.session)?;
@@ -156,8 +156,8 @@ pub(crate) fn looked_again(
 ) -> Result<Move, StepFault>
     requires session { pos 1 ≤ℤ connect.now.request.session }
     requires awaited { IsAnswerTo (reading_ask (pos 0) (wants_of_attach connect.now.request.session)) answer.now }
-    ensures ok { IfOk result (λ m. OfTxn answer.now (λ revision succeeded parts. LookedAgain connect.now revision parts m.phase m.step)) }
-    ensures fault { IfErr result (IsFaultIn connect.now phases.LookingAgain answer.now) }
+    ensures ok { IfOk result (λ m. OfTxn answer.now (λ revision succeeded parts. ConnectLookedAgain connect.now revision parts m.phase m.step)) }
+    ensures fault { IfErr result (IsFaultOfConnect connect.now phases.LookingAgain answer.now) }
 {
     match answer {
         Answer::Txn {
@@ -193,7 +193,7 @@ pub(crate) fn attached_anew(
     requires resumable { IsResumable connect.now.request life }
     requires awaited { IsAnswerTo (asks.Txn (attach_txn connect.now.request.session seen life)) answer.now }
     ensures ok { IfOk result (λ m. OfTxn answer.now (λ revision succeeded parts. Attached connect.now life revision succeeded parts m.phase m.step)) }
-    ensures fault { IfErr result (IsFaultIn connect.now (phases.Attaching seen life) answer.now) }
+    ensures fault { IfErr result (IsFaultOfConnect connect.now (phases.Attaching seen life) answer.now) }
 {
     let _seen = seen;
     match answer {

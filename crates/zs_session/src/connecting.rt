@@ -1,7 +1,7 @@
 //! The steps of a connect.
 
 ghost use Rattle.std.specs.Prelude.{◌≡◌, pos, ◌≤ℤ◌, option_copied, Some, IfOk, IfErr, OnErr};
-ghost use Rattle.zs_session.specs.Connecting.{Answers, IsConnectFault, IsFaultIn, IsHeld, IsWaiting, MayStep, Moves, Steps, asked_in};
+ghost use Rattle.zs_session.specs.Connecting.{ConnectAnswers, IsConnectFault, IsFaultOfConnect, IsConnectHeld, IsConnectWaiting, MayStepConnect, ConnectMoves, ConnectSteps, asked_in_phase};
 ghost use Rattle.zs_session.specs.Answering.{IsAwaited, IsAnswerTo};
 ghost use Rattle.zs_session.specs.declared.connect.Phase.TheVariants as phases;
 
@@ -16,11 +16,11 @@ use zk_model::ConnectRequest;
 
 /// What follows an answer.
 fn answered(alloc: Global, connect: &Connect, answer: &Answer) -> Result<Move, StepFault>
-    requires held { IsHeld connect.now }
+    requires held { IsConnectHeld connect.now }
     requires going { connect.now.phase ≡ phases.Over → ⊥ }
-    requires awaited { IsAwaited (asked_in connect.now connect.now.phase) (Some answer.now) }
-    ensures ok { IfOk result (λ m. Answers connect.now connect.now.phase answer.now m.phase m.step) }
-    ensures fault { IfErr result (IsFaultIn connect.now connect.now.phase answer.now) }
+    requires awaited { IsAwaited (asked_in_phase connect.now connect.now.phase) (Some answer.now) }
+    ensures ok { IfOk result (λ m. ConnectAnswers connect.now connect.now.phase answer.now m.phase m.step) }
+    ensures fault { IfErr result (IsFaultOfConnect connect.now connect.now.phase answer.now) }
 {
     match connect.phase {
         Phase::Unasked | Phase::Over => unreachable!(),
@@ -34,9 +34,9 @@ fn answered(alloc: Global, connect: &Connect, answer: &Answer) -> Result<Move, S
 }
 
 fn moved(alloc: Global, connect: &Connect, answer: Option<&Answer>) -> Result<Move, StepFault>
-    requires held { IsHeld connect.now }
-    requires may { MayStep connect.now (option_copied answer) }
-    ensures ok { IfOk result (λ m. Moves connect.now (option_copied answer.entry) m.phase m.step) }
+    requires held { IsConnectHeld connect.now }
+    requires may { MayStepConnect connect.now (option_copied answer) }
+    ensures ok { IfOk result (λ m. ConnectMoves connect.now (option_copied answer.entry) m.phase m.step) }
     ensures fault { IfErr result (IsConnectFault connect.now (option_copied answer.entry)) }
 {
     match answer {
@@ -57,11 +57,11 @@ impl Model for Connecting {
 
     ghost Value = { Connect };
 
-    ghost use Rattle.zs_session.specs.Connecting.{IsHeld};
+    ghost use Rattle.zs_session.specs.Connecting.{IsConnectHeld};
 
     ghost view = { λ c. c.connect };
 
-    ghost invariant = { λ c. IsHeld c.connect };
+    ghost invariant = { λ c. IsConnectHeld c.connect };
 }
 
 impl Connecting {
@@ -92,12 +92,12 @@ impl Connecting {
     /// nothing there is none. At a fault the connect stays as it was, and `Memory` may be tried again with the same answer.
     /// `Damaged`: the answer shows, under a key that was looked up, a value that is no record. No step is made with such an answer.
     pub fn step(&mut self, answer: Option<&Answer>) -> Result<ConnectStep, StepFault>
-        requires { MayStep self.old (option_copied answer) }
-        ensures ok { IfOk result (λ step. Steps self.old (option_copied answer.entry) step self.new) }
-        ensures waits { IfOk result (λ step. IsWaiting step self.new) }
+        requires { MayStepConnect self.old (option_copied answer) }
+        ensures ok { IfOk result (λ step. ConnectSteps self.old (option_copied answer.entry) step self.new) }
+        ensures waits { IfOk result (λ step. IsConnectWaiting step self.new) }
         ensures err { OnErr result (self.new ≡ self.old) }
         ensures fault { IfErr result (IsConnectFault self.old (option_copied answer.entry)) }
-        ensures held { IsHeld self.new }
+        ensures held { IsConnectHeld self.new }
     {
         let moved = moved(self.alloc, &self.connect, answer)?;
         self.connect.phase = moved.phase;

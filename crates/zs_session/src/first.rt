@@ -1,7 +1,7 @@
 //! What a look at the head and at the life of a session leads to.
 
 ghost use Rattle.std.specs.Prelude.{IfOk};
-ghost use Rattle.zs_session.specs.Connecting.{LooksFirst, Resumes};
+ghost use Rattle.zs_session.specs.Connecting.{ConnectLooksFirst, Resumes};
 ghost use Rattle.zs_session.specs.declared.connect.Phase.TheVariants as phases;
 
 use crate::connect::{Connect, ConnectStep};
@@ -37,7 +37,7 @@ pub(crate) fn attached_by_view(
 
 /// The first look: a client that is ahead is sent away, a new session gets its lease, and any other is resumed.
 pub(crate) fn begun(alloc: Global, connect: &Connect, view: &View) -> Result<Move, Memory>
-    ensures { IfOk result (λ m. LooksFirst connect.now view.now m.phase m.step) }
+    ensures { IfOk result (λ m. ConnectLooksFirst connect.now view.now m.phase m.step) }
 {
     let head = view.zxid();
     let client = connect.request.last_zxid;

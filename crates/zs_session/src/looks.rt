@@ -2,7 +2,7 @@
 
 ghost use Rattle.std.specs.Prelude.{◌≡◌, ◌↔◌, pos, ◌≤ℤ◌, false, is_some, IfOk, IfErr, OnOk, MatchOption, IsTrue};
 ghost use Rattle.zn_view.specs.Adding.{AreNumbers, AreRecords};
-ghost use Rattle.zn_view.specs.Seen.{IsCount, found_of, seen};
+ghost use Rattle.zn_view.specs.Seen.{IsCountNumber, found_of, seen};
 ghost use Rattle.zs_session.specs.Answering.{viewed, IsLookFault};
 ghost use Rattle.zs_session.specs.Connecting.{SawLifeAt, SawMine, SawNoneOfMine, is_there, is_taken as is_number_taken};
 ghost use Rattle.zs_session.specs.Sessions.{life_key};
@@ -23,7 +23,7 @@ pub fn look(
     revision: i64,
     parts: &[ActAns],
 ) -> Result<View, StepFault>
-    requires revision { IsCount revision }
+    requires revision { IsCountNumber revision }
     requires numbers { AreNumbers parts.now }
     ensures ok { IfOk result (λ view. view ≡ viewed revision wants.now parts.now) }
     ensures records { OnOk result (AreRecords wants.now parts.now) }

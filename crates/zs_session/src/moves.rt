@@ -1,7 +1,7 @@
 //! What is asked next.
 
 ghost use Rattle.std.specs.Prelude.{◌≡◌, pos, ◌≤ℤ◌, IfOk};
-ghost use Rattle.zs_session.specs.Connecting.{Waits, Ends, IsResumable};
+ghost use Rattle.zs_session.specs.Connecting.{Waits, ConnectEnds, IsResumable};
 ghost use Rattle.zs_session.specs.declared.connect.Phase.TheVariants as phases;
 
 use crate::asks::{attach_wants, first_wants, granted_timeout, lease_seconds};
@@ -31,7 +31,7 @@ fn ask(phase: Phase, ask: Ask) -> Move
 
 /// Nothing more is asked.
 pub(crate) fn end(step: ConnectStep) -> Move
-    ensures { Ends step result.phase result.step }
+    ensures { ConnectEnds step result.phase result.step }
 {
     Move {
         phase: Phase::Over,

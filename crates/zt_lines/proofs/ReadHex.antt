@@ -5,8 +5,8 @@ use Rattle.std.proofs.lemmas.Bool.{and_parts, cond_both, eqb-true, ltb-true}
 use Rattle.std.proofs.lemmas.Grind.{common_steps}
 use Rattle.std.proofs.lemmas.Int.{ints}
 use Rattle.std.proofs.lemmas.Option.{IfSome_then, option_and_then_some, same_Some}
-use Rattle.zt_text.specs.Scripts.{as_session_id, digits_value, hex, hex_byte, hex_digit, hex_pairs, password, session_id, ◌>>=◌}
-use Rattle.zt_text.specs.Transcripts.{AreBytes, hex_byte_text, hex_digit_text, hex_digits, hex_text, id_text}
+use Rattle.zt_text.specs.Scripts.{as_session_id, digits_value, hex, hex_byte, hex_value, hex_pairs, password, session_id, ◌>>=◌}
+use Rattle.zt_text.specs.Transcripts.{AreBytes, hex_byte_text, hex_digit_text, hex_spelled, hex_text, id_text}
 use Rattle.zt_text.proofs.Digits.{hex_digit-small}
 use Rattle.zt_text.proofs.ReadWords.{session_id-id_text}
 use Rattle.zt_lines.specs.Readable.{FitsPassword, FitsSession}
@@ -14,22 +14,22 @@ use Rattle.zt_lines.proofs.Steps.{by_form, in_steps, itself}
 
 -- ---- bytes
 
-hex_digit-text : (b d : ℕ) → hex_digit b ≡ Some d → b ≡ hex_digit_text d
+hex_digit-text : (b d : ℕ) → hex_value b ≡ Some d → b ≡ hex_digit_text d
 hex_digit-text b d read = grind (arith, common_steps)
 
 hex_byte-written : (a b : ℕ) → IfSome (hex_byte a b) (λ byte. (a ∷ b ∷ [] ≡ hex_byte_text byte) × (byte < 256))
 unfolding hex_byte
 hex_byte-written a b =
-    in_steps _ (hex_digit a) _ (itself (hex_digit a)) (λ x high.
-    in_steps _ (hex_digit b) _ (itself (hex_digit b)) (λ y low.
+    in_steps _ (hex_value a) _ (itself (hex_value a)) (λ x high.
+    in_steps _ (hex_value b) _ (itself (hex_value b)) (λ y low.
     let x_small = hex_digit-small a x high in
     let y_small = hex_digit-small b y low in
     let first : (x * 16 + y) / 16 ≡ x = omega arith in
     let second : (x * 16 + y) % 16 ≡ y = omega arith in
     (rw (first, second) (λ i. hex_digit-text a x high i ∷ hex_digit-text b y low i ∷ []), omega arith)))
 
-hex_pairs-written : (w : List ℕ) → IfSome (hex_pairs w) (λ bytes. (w ≡ hex_digits bytes) × AreBytes bytes × (length w ≡ 2 * length bytes))
-unfolding hex_pairs hex_digits
+hex_pairs-written : (w : List ℕ) → IfSome (hex_pairs w) (λ bytes. (w ≡ hex_spelled bytes) × AreBytes bytes × (length w ≡ 2 * length bytes))
+unfolding hex_pairs hex_spelled
 hex_pairs-written [] = (refl, tt, refl)
 hex_pairs-written (a ∷ []) = tt
 hex_pairs-written (a ∷ b ∷ bs) =
@@ -37,7 +37,7 @@ hex_pairs-written (a ∷ b ∷ bs) =
     in_steps _ (hex_pairs bs) _ (hex_pairs-written bs) (λ bytes rest.
     ((λ i. first.0 i ++ rest.0 i), (first.1, rest.1), omega (arith, rest.2))))
 
-hex_text-some : (bytes : List ℕ) → 0 < length bytes → hex_digits bytes ≡ hex_text bytes
+hex_text-some : (bytes : List ℕ) → 0 < length bytes → hex_spelled bytes ≡ hex_text bytes
 unfolding hex_text
 hex_text-some [] some = absurd (omega arith)
 hex_text-some (b ∷ bs) some = refl
@@ -67,13 +67,13 @@ password-written w =
 -- ---- sessions' numbers
 
 -- as many hex digits of the same value are the same digits
-hex_value-injective : (n m value : ℕ) (v w : List ℕ) → length v ≡ length w → digits_value 16 hex_digit n v ≡ Some value → digits_value 16 hex_digit m w ≡ Some value → (n ≡ m) × (v ≡ w)
+hex_value-injective : (n m value : ℕ) (v w : List ℕ) → length v ≡ length w → digits_value 16 hex_value n v ≡ Some value → digits_value 16 hex_value m w ≡ Some value → (n ≡ m) × (v ≡ w)
 hex_value-injective n m value [] [] long first second = (same_Some n m (first ∙ sym second), refl)
 hex_value-injective n m value [] (y ∷ w) long first second = absurd (omega arith)
 hex_value-injective n m value (x ∷ v) [] long first second = absurd (omega arith)
 hex_value-injective n m value (x ∷ v) (y ∷ w) long first second =
-    option_and_then_some _ (hex_digit x) value first (λ d x_read v_read.
-    option_and_then_some _ (hex_digit y) value second (λ e y_read w_read.
+    option_and_then_some _ (hex_value x) value first (λ d x_read v_read.
+    option_and_then_some _ (hex_value y) value second (λ e y_read w_read.
     let rest = hex_value-injective (n * 16 + d) (m * 16 + e) value v w (omega arith) v_read w_read in
     let front = rest.0 in
     let d_small = hex_digit-small x d x_read in
@@ -82,14 +82,14 @@ hex_value-injective n m value (x ∷ v) (y ∷ w) long first second =
     (omega arith, λ i. (hex_digit-text x d x_read ∙ ap hex_digit_text digit ∙ sym (hex_digit-text y e y_read)) i ∷ rest.1 i)))
 
 abbrev IsSessionOf : List ℕ → ℤ → Type 0
-IsSessionOf w id = FitsSession id × (length w ≡ 16) × (digits_value 16 hex_digit 0 w ≡ Some (nat_abs id))
+IsSessionOf w id = FitsSession id × (length w ≡ 16) × (digits_value 16 hex_value 0 w ≡ Some (nat_abs id))
 
 session_id-value : (w : List ℕ) → IfSome (session_id w) (IsSessionOf w)
 unfolding session_id
 session_id-value w =
-    cond_both (length w == 16) (digits_value 16 hex_digit 0 w >>= as_session_id) None (λ o. IfSome o (IsSessionOf w))
+    cond_both (length w == 16) (digits_value 16 hex_value 0 w >>= as_session_id) None (λ o. IfSome o (IsSessionOf w))
     (λ long.
-    in_steps _ (digits_value 16 hex_digit 0 w) as_session_id (itself (digits_value 16 hex_digit 0 w)) (λ n value.
+    in_steps _ (digits_value 16 hex_value 0 w) as_session_id (itself (digits_value 16 hex_value 0 w)) (λ n value.
     cond_both (nat_lt 0 n && nat_lt n (2 ^ 63)) (Some (pos n)) None (λ o. IfSome o (IsSessionOf w))
     (λ fits.
     let parts = and_parts (nat_lt 0 n) (nat_lt n (2 ^ 63)) fits in

@@ -15,7 +15,7 @@ use Rattle.zk_transcript.specs.declared.transcript.UpdateKind.{UpdateKind}
 use Rattle.zk_transcript.specs.declared.transcript.TranscriptLine.{TranscriptLine}
 use Rattle.zt_text.specs.Scripts.{hex, max_line, number, password, pieces, session_id}
 use Rattle.zt_text.specs.Transcripts.{cause_words, end_words, id_text, kind_words, line_words, spaced}
-use Rattle.zt_lines.specs.Lines.{Words, asked_words, attach_words, bad_length, begin_words, close_line, closed_words, damaged, end_of_one, end_of_pair, end_of_place, end_of_revision, end_of_two, end_read, frame_line, id_and_connection, kind_of_form, kind_read, lapse_line, line_of_form, line_read, of_words, open_line, or_end, pair_cause, place_cause, plain_cause, reaped_words, revision_end, send_line, session_words, update_line}
+use Rattle.zt_lines.specs.Lines.{Words, asked_words, attach_words, bad_length_end, begin_words, close_line, closed_words, damaged, end_of_one, end_of_pair, end_of_place, end_of_revision, end_of_two, end_read, frame_line, id_and_connection, kind_of_form, kind_read, lapse_line, line_of_form, line_read, of_words, open_line, or_end, pair_cause, place_cause, plain_cause, reaped_words, revision_end, send_line, session_words, update_line}
 use Rattle.zt_lines.specs.Readable.{FitsCause, FitsEnd, FitsKind, FitsLine, FitsLong, FitsNumber, FitsPlace, FitsSession, IsReadable}
 use Rattle.zt_lines.specs.Words.{length_word, long, place}
 use Rattle.zt_lines.proofs.ReadHex.{hex-written, password-written, session_id-written}
@@ -144,8 +144,8 @@ end_of_one-written : (form a : List ℕ) → IfSome (end_of_one form a) (IsEndOf
 unfolding end_of_one
 end_of_one-written form a = or_end-written (IsEndOf (a ∷ []) form) (end_of_place form a) (end_of_revision form a) (end_of_place-written form a) (end_of_revision-written form a)
 
-bad_length-written : (a b : List ℕ) → IfSome (bad_length a b) (IsEndOf (a ∷ b ∷ []) (codes "length"))
-unfolding bad_length
+bad_length-written : (a b : List ℕ) → IfSome (bad_length_end a b) (IsEndOf (a ∷ b ∷ []) (codes "length"))
+unfolding bad_length_end
 bad_length-written a b =
     in_steps _ (place a) _ (place-written a) (λ n v. in_steps _ (length_word b) _ (length_word-written b) (λ size w. ((λ i. codes "length" ∷ v.0 i ∷ w.0 i ∷ []), (v.1, w.1))))
 
@@ -164,7 +164,7 @@ end_of_pair-written form a b =
 end_of_two-written : (form a b : List ℕ) → IfSome (end_of_two form a b) (IsEndOf (a ∷ b ∷ []) form)
 unfolding end_of_two
 end_of_two-written form a b =
-    by_form (IsEndOf (a ∷ b ∷ [])) form (codes "length") (bad_length a b) _ (bad_length-written a b)
+    by_form (IsEndOf (a ∷ b ∷ [])) form (codes "length") (bad_length_end a b) _ (bad_length-written a b)
     (by_form (IsEndOf (a ∷ b ∷ [])) form (codes "damaged") (damaged a b) (end_of_pair form a b) (damaged-written a b) (end_of_pair-written form a b))
 
 end_read-written : (words : Words) → IfSome (end_read words) (λ e. (words ≡ end_words e) × FitsEnd e)

@@ -11,7 +11,7 @@ use Rattle.std.proofs.lemmas.Option.{IfSome_then}
 use Rattle.std.proofs.lemmas.Str.{digit_value_digit}
 use Rattle.std.proofs.lemmas.Str.Parse.{numerals_by_value, tells_digits}
 use Rattle.zt_text.specs.Scripts.{decimal_digit, digits_value, is_zero_led, max_number, not_above, number, ◌>>=◌}
-use Rattle.zt_lines.specs.Readable.{FitsLength, FitsLong, FitsNumber, FitsPlace}
+use Rattle.zt_lines.specs.Readable.{FitsFrameLength, FitsLong, FitsNumber, FitsPlace}
 use Rattle.zt_lines.specs.Words.{as_length, as_long, as_negative_length, length_word, long, max_place, natural, place}
 use Rattle.zt_lines.proofs.Steps.{in_steps}
 use Rattle.zt_lines.proofs.WrittenNumbers.{number-natural}
@@ -81,15 +81,15 @@ long-written w =
     in_steps _ (place w) as_long (place-written w) (λ n digits.
     IfSome_then (as_long n) (as_long-written n) (λ z h. (digits.0 ∙ ap signed_decimal h.0, h.1)))
 
-as_length-written : (n : ℕ) → IfSome (as_length n) (λ z. (pos n ≡ z) × FitsLength z)
+as_length-written : (n : ℕ) → IfSome (as_length n) (λ z. (pos n ≡ z) × FitsFrameLength z)
 as_length-written n =
-    cond_both (nat_lt n (2 ^ 31)) (Some (pos n)) None (λ o. IfSome o (λ z. (pos n ≡ z) × FitsLength z))
+    cond_both (nat_lt n (2 ^ 31)) (Some (pos n)) None (λ o. IfSome o (λ z. (pos n ≡ z) × FitsFrameLength z))
     (λ small. let below = ltb-true n (2 ^ 31) small in (refl, (omega (arith, ints), omega (arith, ints)))) (λ large. tt)
 
 -- with `-` in front, which is 45
-as_negative_length-written : (n : ℕ) → IfSome (as_negative_length n) (λ z. (45 ∷ decimal n ≡ signed_decimal z) × FitsLength z)
+as_negative_length-written : (n : ℕ) → IfSome (as_negative_length n) (λ z. (45 ∷ decimal n ≡ signed_decimal z) × FitsFrameLength z)
 as_negative_length-written n =
-    cond_both (nat_lt 0 n && nat_le n (2 ^ 31)) (Some (negsuc (n - 1))) None (λ o. IfSome o (λ z. (45 ∷ decimal n ≡ signed_decimal z) × FitsLength z))
+    cond_both (nat_lt 0 n && nat_le n (2 ^ 31)) (Some (negsuc (n - 1))) None (λ o. IfSome o (λ z. (45 ∷ decimal n ≡ signed_decimal z) × FitsFrameLength z))
     (λ fits.
     let parts = and_parts (nat_lt 0 n) (nat_le n (2 ^ 31)) fits in
     let some = ltb-true 0 n parts.0 in
@@ -99,7 +99,7 @@ as_negative_length-written n =
     (λ other. tt)
 
 abbrev IsLengthOf : List ℕ → ℤ → Type 0
-IsLengthOf w z = (w ≡ signed_decimal z) × FitsLength z
+IsLengthOf w z = (w ≡ signed_decimal z) × FitsFrameLength z
 
 pub length_word-written : (w : List ℕ) → IfSome (length_word w) (IsLengthOf w)
 unfolding length_word

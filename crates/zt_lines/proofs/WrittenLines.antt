@@ -17,7 +17,7 @@ use Rattle.zt_text.specs.Transcripts.{cause_words, end_words, kind_words, line_w
 use Rattle.zt_text.proofs.ReadWords.{password-hex_text, session_id-id_text}
 use Rattle.zt_text.proofs.TranscriptLaws.{pieces-line_words}
 use Rattle.zt_text.proofs.WrittenWords.{hex-hex_text}
-use Rattle.zt_lines.specs.Lines.{asked_words, attach_words, bad_length, begin_words, close_line, closed_words, damaged, end_of_one, end_of_pair, end_of_place, end_of_revision, end_of_two, end_read, frame_line, kind_of_form, kind_read, lapse_line, line_of_form, line_read, of_words, open_line, pair_cause, place_cause, plain_cause, reaped_words, revision_end, send_line, session_words, update_line}
+use Rattle.zt_lines.specs.Lines.{asked_words, attach_words, bad_length_end, begin_words, close_line, closed_words, damaged, end_of_one, end_of_pair, end_of_place, end_of_revision, end_of_two, end_read, frame_line, kind_of_form, kind_read, lapse_line, line_of_form, line_read, of_words, open_line, pair_cause, place_cause, plain_cause, reaped_words, revision_end, send_line, session_words, update_line}
 use Rattle.zt_lines.specs.Readable.{FitsCause, FitsEnd, FitsKind, FitsLine, FitsLong, IsReadable}
 use Rattle.zt_lines.proofs.WrittenNumbers.{length_word-signed_decimal, long-signed_decimal, number-decimal, place-decimal}
 
@@ -46,7 +46,7 @@ end_of_one-revision form (pos n) none fits =
 end_of_one-revision form (negsuc n) none fits = let least = fits.0 in absurd (omega (arith, ints))
 
 end_read-cause_words : (x : Cause) → FitsCause x → end_read (cause_words x) ≡ Some (ended.Cause x)
-unfolding plain_cause place_cause revision_end pair_cause end_of_one end_of_place end_of_two bad_length damaged end_of_pair
+unfolding plain_cause place_cause revision_end pair_cause end_of_one end_of_place end_of_two bad_length_end damaged end_of_pair
 end_read-cause_words cause.Closed h = refl
 end_read-cause_words (cause.ClientEnd n) h = rw (place-decimal n h) refl
 end_read-cause_words cause.ReadFault h = refl

@@ -8,7 +8,7 @@ use Rattle.std.proofs.lemmas.Int.{ints}
 use Rattle.zt_text.specs.Scripts.{decimal_digit, digits_value, is_zero_led, max_number, number}
 use Rattle.zt_text.proofs.ReadWords.{decimal-first, is_zero_led-decimal}
 use Rattle.zt_text.proofs.WrittenWords.{digits_value-decimal}
-use Rattle.zt_lines.specs.Readable.{FitsLength, FitsLong}
+use Rattle.zt_lines.specs.Readable.{FitsFrameLength, FitsLong}
 use Rattle.zt_lines.specs.Words.{as_negative_length, length_word, long, max_place, natural, place}
 
 natural-value : (most n : ℕ) (w : List ℕ) → 0 < length w → is_zero_led w ≡ false → digits_value 10 decimal_digit 0 w ≡ Some n → n ≤ most → natural most w ≡ Some n
@@ -67,7 +67,7 @@ length_word-negative n fits =
     let less : suc n - 1 ≡ n = omega arith in
     rw read (as_negative_length-within (suc n) (omega arith) (omega arith) ∙ ap (λ (m : ℕ). Some (negsuc m)) less)
 
-pub length_word-signed_decimal : (z : ℤ) → FitsLength z → length_word (signed_decimal z) ≡ Some z
+pub length_word-signed_decimal : (z : ℤ) → FitsFrameLength z → length_word (signed_decimal z) ≡ Some z
 length_word-signed_decimal (pos n) fits =
     let most = fits.1 in
     let small : n < 2 ^ 31 = omega (arith, ints) in

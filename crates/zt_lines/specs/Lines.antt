@@ -155,8 +155,8 @@ unfoldable pub end_of_one : List ℕ → List ℕ → Option Ended
 end_of_one form a = or_end (end_of_place form a) (end_of_revision form a)
 
 -- the ends with two words after their form: `length PLACE LENGTH`, `damaged KEYHEX VALHEX`, and those of two numbers
-unfoldable pub bad_length : List ℕ → List ℕ → Option Ended
-bad_length a b = do
+unfoldable pub bad_length_end : List ℕ → List ℕ → Option Ended
+bad_length_end a b = do
   n ← place a
   l ← length_word b
   Some (ended.Cause (cause.BadLength n l))
@@ -176,7 +176,7 @@ end_of_pair form a b = do
 
 unfoldable pub end_of_two : List ℕ → List ℕ → List ℕ → Option Ended
 end_of_two form a b =
-    if bytes_eq form (codes "length") then bad_length a b
+    if bytes_eq form (codes "length") then bad_length_end a b
     else if bytes_eq form (codes "damaged") then damaged a b
     else end_of_pair form a b
 

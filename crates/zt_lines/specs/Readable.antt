@@ -33,8 +33,8 @@ abbrev pub FitsLong : ℤ → Type 0
 FitsLong z = (pos 0 ≤ℤ z) × (z ≤ℤ max_long)
 
 -- lengths as a client sends them: from -2^31 to 2^31 - 1
-abbrev pub FitsLength : ℤ → Type 0
-FitsLength z = (negsuc 2147483647 ≤ℤ z) × (z ≤ℤ pos 2147483647)
+abbrev pub FitsFrameLength : ℤ → Type 0
+FitsFrameLength z = (negsuc 2147483647 ≤ℤ z) × (z ≤ℤ pos 2147483647)
 
 -- sessions' numbers: from 1 to 2^63 - 1
 abbrev pub FitsSession : ℤ → Type 0
@@ -56,7 +56,7 @@ FitsKind (kind.Reaped id) = FitsSession id
 
 abbrev pub FitsCause : Cause → Type 0
 FitsCause (cause.ClientEnd place) = FitsPlace place
-FitsCause (cause.BadLength place size) = FitsPlace place × FitsLength size
+FitsCause (cause.BadLength place size) = FitsPlace place × FitsFrameLength size
 FitsCause (cause.NoHeader place) = FitsPlace place
 FitsCause (cause.ZxidAhead client head) = FitsLong client × FitsLong head
 FitsCause (cause.Taken rev) = FitsLong rev

@@ -2,7 +2,7 @@
 
 ghost use Rattle.std.specs.Prelude.{◌≡◌, IfOk};
 ghost use Rattle.zt_text.specs.Words.{words_of};
-ghost use Rattle.zt_lines.specs.Lines.{bad_length as bad_length_of, caused, close_line, damaged as damaged_of, end_of_one as end_of_one_of, end_of_pair as end_of_pair_of, end_of_place as end_of_place_of, end_of_revision as end_of_revision_of, end_of_two as end_of_two_of, end_read, pair_cause as pair_cause_of, place_cause as place_cause_of, plain_cause as plain_cause_of, revision_end as revision_end_of};
+ghost use Rattle.zt_lines.specs.Lines.{bad_length_end as bad_length_of, caused, close_line, damaged as damaged_of, end_of_one as end_of_one_of, end_of_pair as end_of_pair_of, end_of_place as end_of_place_of, end_of_revision as end_of_revision_of, end_of_two as end_of_two_of, end_read, pair_cause as pair_cause_of, place_cause as place_cause_of, plain_cause as plain_cause_of, revision_end as revision_end_of};
 
 use crate::numbers::{length, long, place};
 use crate::updates::is;

@@ -8,7 +8,7 @@ use Rattle.zt_show.specs.declared.ending.Ending.TheVariants as ending
 use Rattle.zt_show.specs.declared.progress.Progress.{Progress}
 use Rattle.zt_show.specs.FrameLines.{line_of_frame, IsAdded}
 use Rattle.zt_show.specs.Shown.{Shown, joined, max_stream, before, shown_from}
-use Rattle.zt_show.specs.Showing.{with_first, shown_on, size_of, passed, Passes, Blocks, AddsLines}
+use Rattle.zt_show.specs.Showing.{with_first, shown_on, size_of, passed, FramesPass, Blocks, AddsLines}
 
 pub size_of-more : (frames : List (List ℕ)) (frame : List ℕ) → size_of (frames ++ frame ∷ []) ≡ size_of frames + (4 + length frame)
 size_of-more frames frame = sum_by-append (λ (f : List ℕ). 4 + length f) frames (frame ∷ []) ∙ omega arith
@@ -29,7 +29,7 @@ abbrev ended : List (List ℕ) → Ending → Shown
 ended lines end = record { lines = lines; ending = end }
 
 -- no frame
-pub Passes-nil : (p : Progress) → p.lines ≤ p.place → Passes [] [] p p
+pub Passes-nil : (p : Progress) → p.lines ≤ p.place → FramesPass [] [] p p
 Passes-nil p few = record { says = λ later rest. refl; place = omega arith; count = omega arith; few = few }
 
 -- one frame more, of this line
@@ -46,8 +46,8 @@ shown_blocked is_begun place frame later rest is = ap (λ (l : Option (List ℕ)
 passed_place : (p : Progress) (size : ℕ) → p.place + 4 + size ≤ max_stream → (passed p size).place ≡ p.place + 4 + size
 passed_place p size fits = omega arith
 
-pub Passes-more : (frames added : List (List ℕ)) (frame line : List ℕ) (old mid : Progress) → old.place + size_of (frames ++ frame ∷ []) ≤ max_stream → Passes frames added old mid →
-    line_of_frame mid.is_begun mid.place frame ≡ Some line → Passes (frames ++ frame ∷ []) (added ++ line ∷ []) old (passed mid (length frame))
+pub Passes-more : (frames added : List (List ℕ)) (frame line : List ℕ) (old mid : Progress) → old.place + size_of (frames ++ frame ∷ []) ≤ max_stream → FramesPass frames added old mid →
+    line_of_frame mid.is_begun mid.place frame ≡ Some line → FramesPass (frames ++ frame ∷ []) (added ++ line ∷ []) old (passed mid (length frame))
 Passes-more frames added frame line old mid fits so_far is =
     let size = size_of-more frames frame in
     let at : mid.place + 4 + length frame ≤ max_stream = omega (arith, so_far.place) in
@@ -63,7 +63,7 @@ Passes-more frames added frame line old mid fits so_far is =
       few = omega (arith, so_far.few);
     }
 
-pub Blocks-more : (frames added : List (List ℕ)) (frame : List ℕ) (later : List (List ℕ)) (old mid : Progress) → old.place + size_of (frames ++ frame ∷ later) ≤ max_stream → Passes frames added old mid →
+pub Blocks-more : (frames added : List (List ℕ)) (frame : List ℕ) (later : List (List ℕ)) (old mid : Progress) → old.place + size_of (frames ++ frame ∷ later) ≤ max_stream → FramesPass frames added old mid →
     line_of_frame mid.is_begun mid.place frame ≡ None → Blocks (frames ++ frame ∷ later) added old mid
 Blocks-more frames added frame others old mid fits so_far is =
     let size : size_of (frames ++ frame ∷ others) ≡ size_of frames + size_of (frame ∷ others) = sum_by-append (λ (f : List ℕ). 4 + length f) frames (frame ∷ others) in

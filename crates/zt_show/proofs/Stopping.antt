@@ -9,8 +9,8 @@ use Rattle.zk_jute.proofs.Framing.{framed_join, bad_stays, bad_rest}
 use Rattle.zt_show.specs.declared.ending.Ending.{Ending}
 use Rattle.zt_show.specs.declared.ending.Ending.TheVariants as ending
 use Rattle.zt_show.specs.declared.progress.Progress.{Progress}
-use Rattle.zt_show.specs.Shown.{Shown, max_stream, ending_of, ending_at, shown_from, IsShownWhole, ending_before_more, before_more}
-use Rattle.zt_show.specs.Showing.{Showing, showing, with_first, shown_on, size_of, Follows, Passes, Blocks, Stops, IsShownAs}
+use Rattle.zt_show.specs.Shown.{Shown, max_stream, ending_of_stream, ending_at, shown_from, IsShownWhole, ending_before_more, before_more}
+use Rattle.zt_show.specs.Showing.{Showing, showing, with_first, shown_on, size_of, ShowingFollows, FramesPass, Blocks, ShowingStops, IsShownAs}
 use Rattle.zt_show.proofs.Framings.{has_frames, framed_size, framed_none}
 use Rattle.zt_show.proofs.Passing.{with_first-with_first}
 
@@ -25,10 +25,10 @@ pub record Came (seen : List ℕ) (lines : List (List ℕ)) (rest : List ℕ) (p
   pub few : p.lines ≤ p.place
   pub room : length seen + p.room ≡ max_stream
 
-pub Came-from : (seen : List ℕ) (lines : List (List ℕ)) (rest : List ℕ) (p : Progress) → Follows seen lines (showing rest p) → Came seen lines rest p
+pub Came-from : (seen : List ℕ) (lines : List (List ℕ)) (rest : List ℕ) (p : Progress) → ShowingFollows seen lines (showing rest p) → Came seen lines rest p
 Came-from seen lines rest p f = record { frames = f.frames; framed = f.framed; says = f.says; place = f.place; count = f.count; few = f.few; room = f.room }
 
-pub Follows-from : (seen : List ℕ) (lines : List (List ℕ)) (rest : List ℕ) (p : Progress) → Came seen lines rest p → bad_length rest ≡ None → Follows seen lines (showing rest p)
+pub Follows-from : (seen : List ℕ) (lines : List (List ℕ)) (rest : List ℕ) (p : Progress) → Came seen lines rest p → bad_length rest ≡ None → ShowingFollows seen lines (showing rest p)
 Follows-from seen lines rest p f good = record { frames = f.frames; framed = f.framed; good = good; says = f.says; place = f.place; count = f.count; few = f.few; room = f.room }
 
 -- what is said of more frames
@@ -41,7 +41,7 @@ says_more frames more lines added p q first second later rest =
 -- the frames of a piece that all have lines; `q` is what `p` is with the room for the piece taken away
 pub Came-more : (seen bytes : List ℕ) (lines added frames : List (List ℕ)) (rest rest' : List ℕ) (p q r : Progress) → q.place ≡ p.place → q.is_begun ≡ p.is_begun → q.lines ≡ p.lines →
     q.room + length bytes ≡ p.room → r.room ≡ q.room → Came seen lines rest p → Framed (rest ++ bytes) frames rest' →
-    (q.lines ≤ q.place → q.place + size_of frames ≤ max_stream → Passes frames added q r) → Came (seen ++ bytes) (lines ++ added) rest' r
+    (q.lines ≤ q.place → q.place + size_of frames ≤ max_stream → FramesPass frames added q r) → Came (seen ++ bytes) (lines ++ added) rest' r
 Came-more seen bytes lines added frames rest rest' p q r place begun count room stays came framed passes =
     let size = framed_size (rest ++ bytes) frames rest' framed in
     let both = length-append rest bytes in
@@ -74,7 +74,7 @@ unfolding shown_from
 shown_rest p rest = refl
 
 -- at a length out of range
-pub Stops-length : (seen : List ℕ) (lines : List (List ℕ)) (rest : List ℕ) (p : Progress) (n : ℤ) → Came seen lines rest p → bad_length rest ≡ Some n → Stops seen lines (ending.Length p.place n) p
+pub Stops-length : (seen : List ℕ) (lines : List (List ℕ)) (rest : List ℕ) (p : Progress) (n : ℤ) → Came seen lines rest p → bad_length rest ≡ Some n → ShowingStops seen lines (ending.Length p.place n) p
 Stops-length seen lines rest p n came bad = record {
   shown = λ more.
       let worse : bad_length (rest ++ more) ≡ Some n = bad_stays rest more n bad in
@@ -83,7 +83,7 @@ Stops-length seen lines rest p n came bad = record {
         rest ++ more,
         framed_join seen more came.frames [] rest (rest ++ more) came.framed tail,
         sym (came.says [] (rest ++ more) ∙ ended_lines lines (shown_on p [] (rest ++ more)) (ending.Length p.place n)
-            (shown_rest p (rest ++ more) ∙ ap (λ (b : Option ℤ). ended [] (ending_of p.place (length (rest ++ more)) b)) worse)),
+            (shown_rest p (rest ++ more) ∙ ap (λ (b : Option ℤ). ended [] (ending_of_stream p.place (length (rest ++ more)) b)) worse)),
       );
   stays = refl;
   count = came.count;
@@ -94,7 +94,7 @@ Stops-length seen lines rest p n came bad = record {
 -- at a frame without a header
 pub Stops-blocked : (seen bytes : List ℕ) (lines added frames : List (List ℕ)) (rest rest' : List ℕ) (p q r : Progress) → q.place ≡ p.place → q.is_begun ≡ p.is_begun → q.lines ≡ p.lines →
     q.room + length bytes ≡ p.room → r.room ≡ q.room → Came seen lines rest p → Framed (rest ++ bytes) frames rest' →
-    (q.lines ≤ q.place → q.place + size_of frames ≤ max_stream → Blocks frames added q r) → Stops (seen ++ bytes) (lines ++ added) (ending.NoHeader r.place) r
+    (q.lines ≤ q.place → q.place + size_of frames ≤ max_stream → Blocks frames added q r) → ShowingStops (seen ++ bytes) (lines ++ added) (ending.NoHeader r.place) r
 Stops-blocked seen bytes lines added frames rest rest' p q r place begun count room stays came framed blocks =
     let size = framed_size (rest ++ bytes) frames rest' framed in
     let both = length-append rest bytes in
@@ -132,7 +132,7 @@ front_of seen more fits =
     ap (λ (n : ℕ). take n (seen ++ more)) parts ∙ take-append-add seen more (max_stream - length seen)
 
 -- a stream that ended, whatever comes after
-pub IsShown-stops : (seen more : List ℕ) (lines : List (List ℕ)) (end : Ending) (p : Progress) → Stops seen lines end p → IsShownAs (seen ++ more) lines end
+pub IsShown-stops : (seen more : List ℕ) (lines : List (List ℕ)) (end : Ending) (p : Progress) → ShowingStops seen lines end p → IsShownAs (seen ++ more) lines end
 IsShown-stops seen more lines end p stops =
     let front = front_of seen more (omega (arith, stops.room)) in (
       ended lines end,
@@ -140,7 +140,7 @@ IsShown-stops seen more lines end p stops =
       sym (before_more-stays (nat_lt max_stream (length (seen ++ more))) lines end stops.stays),
     )
 
-whole_of : (seen : List ℕ) (lines : List (List ℕ)) (s : Showing) → Follows seen lines s → IsShownWhole seen (ended lines (ending_at s.progress.place s.rest))
+whole_of : (seen : List ℕ) (lines : List (List ℕ)) (s : Showing) → ShowingFollows seen lines s → IsShownWhole seen (ended lines (ending_at s.progress.place s.rest))
 whole_of seen lines s f = (
   f.frames,
   s.rest,
@@ -152,11 +152,11 @@ long_part : (b : Bool) (place size : ℕ) → ending_before_more (if b then endi
 long_part true place size = refl
 long_part false place size = refl
 
-long_of : (place size : ℕ) (bad : Option ℤ) → bad ≡ None → ending_before_more (ending_of place size bad) ≡ ending.Long
-long_of place size bad none = ap (λ (b : Option ℤ). ending_before_more (ending_of place size b)) none ∙ long_part (size == 0) place size
+long_of : (place size : ℕ) (bad : Option ℤ) → bad ≡ None → ending_before_more (ending_of_stream place size bad) ≡ ending.Long
+long_of place size bad none = ap (λ (b : Option ℤ). ending_before_more (ending_of_stream place size b)) none ∙ long_part (size == 0) place size
 
 -- a stream that came up to the limit, and has more bytes
-pub IsShown-long : (seen more : List ℕ) (lines : List (List ℕ)) (s : Showing) → Follows seen lines s → length seen ≡ max_stream → 0 < length more → IsShownAs (seen ++ more) lines ending.Long
+pub IsShown-long : (seen more : List ℕ) (lines : List (List ℕ)) (s : Showing) → ShowingFollows seen lines s → length seen ≡ max_stream → 0 < length more → IsShownAs (seen ++ more) lines ending.Long
 IsShown-long seen more lines s f full some =
     let end = ending_at s.progress.place s.rest in
     let front : take max_stream (seen ++ more) ≡ seen = take_at seen more max_stream full in
@@ -167,9 +167,9 @@ IsShown-long seen more lines s f full some =
     )
 
 -- a stream that came whole
-pub IsShown-whole : (seen : List ℕ) (lines : List (List ℕ)) (s : Showing) (end : Ending) → Follows seen lines s → end ≡ ending_of s.progress.place (length s.rest) None → IsShownAs seen lines end
+pub IsShown-whole : (seen : List ℕ) (lines : List (List ℕ)) (s : Showing) (end : Ending) → ShowingFollows seen lines s → end ≡ ending_of_stream s.progress.place (length s.rest) None → IsShownAs seen lines end
 IsShown-whole seen lines s end f is =
-    let last : ending_at s.progress.place s.rest ≡ end = ap (ending_of s.progress.place (length s.rest)) f.good ∙ sym is in
+    let last : ending_at s.progress.place s.rest ≡ end = ap (ending_of_stream s.progress.place (length s.rest)) f.good ∙ sym is in
     let front : take max_stream seen ≡ seen = take_all max_stream seen (omega (arith, f.room)) in
     let under : nat_lt max_stream (length seen) ≡ false = le-ltb max_stream (length seen) (omega (arith, f.room)) in (
       ended lines end,

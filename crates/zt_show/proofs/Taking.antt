@@ -4,13 +4,13 @@ use Rattle.std.specs.Prelude.{◌==◌, if◌then◌else◌}
 use Rattle.std.proofs.lemmas.List.{append-nil, length-append, length-take, take-append-drop}
 use Rattle.zk_jute.specs.Frames.{bad_length}
 use Rattle.zk_jute.proofs.Framing.{bad_rest}
-use Rattle.zk_wire.specs.Cutting.{Stream, Hands, Refuses}
+use Rattle.zk_wire.specs.Cutting.{Stream, Hands, CutRefuses}
 use Rattle.zk_wire.specs.Putting.{counted}
 use Rattle.zt_show.specs.declared.ending.Ending.{Ending}
 use Rattle.zt_show.specs.declared.ending.Ending.TheVariants as ending
 use Rattle.zt_show.specs.declared.progress.Progress.{Progress}
-use Rattle.zt_show.specs.Shown.{joined, max_stream, ending_of, ending_line}
-use Rattle.zt_show.specs.Showing.{Showing, showing, Follows, Passes, Blocks, PassesIf, AddsLines, AddsFrames, IsShownAs, Adds, Finishes, long_unless}
+use Rattle.zt_show.specs.Shown.{joined, max_stream, ending_of_stream, ending_line}
+use Rattle.zt_show.specs.Showing.{Showing, showing, ShowingFollows, FramesPass, Blocks, PassesIf, AddsLines, AddsFrames, IsShownAs, Adds, ShowingFinishes, long_unless}
 use Rattle.zt_show.proofs.Framings.{framed_none, nothing_more}
 use Rattle.zt_show.proofs.Passing.{Passes-nil}
 use Rattle.zt_show.proofs.Stopping.{Came, Came-from, Came-more, Follows-from, Stops-length, Stops-blocked, IsShown-stops, IsShown-long, IsShown-whole}
@@ -21,7 +21,7 @@ use Rattle.zt_show.proofs.Stopping.{Came, Came-from, Came-more, Follows-from, St
 abbrev pub less : Progress → ℕ → Progress
 less p size = record { is_begun = p.is_begun; place = p.place; room = p.room - size; lines = p.lines }
 
-passes_if : (are_all : Bool) (frames added : List (List ℕ)) (old new : Progress) → are_all ≡ true → PassesIf are_all frames added old new → Passes frames added old new
+passes_if : (are_all : Bool) (frames added : List (List ℕ)) (old new : Progress) → are_all ≡ true → PassesIf are_all frames added old new → FramesPass frames added old new
 passes_if true frames added old new is p = p
 passes_if false frames added old new is p = absurd cc
 
@@ -31,7 +31,7 @@ blocks_if false frames added old new is p = p
 
 -- all frames of the bytes have lines
 came_all : (old mid : Stream) (bytes text text' : List ℕ) (frames : List (List ℕ)) (are_all : Bool) (p r : Progress) → length bytes ≤ p.room → are_all ≡ true → Hands old bytes frames mid →
-    (lines : AddsLines are_all frames (less p (length bytes)) text text' r) → (seen : List ℕ) (shown : List (List ℕ)) → Follows seen shown (showing old.rest p) → Came (seen ++ bytes) (shown ++ lines.0) mid.rest r
+    (lines : AddsLines are_all frames (less p (length bytes)) text text' r) → (seen : List ℕ) (shown : List (List ℕ)) → ShowingFollows seen shown (showing old.rest p) → Came (seen ++ bytes) (shown ++ lines.0) mid.rest r
 came_all old mid bytes text text' frames are_all p r fits is hands lines seen shown f =
     Came-more seen bytes shown lines.0 frames old.rest mid.rest p (less p (length bytes)) r refl refl refl (omega arith) lines.2 (Came-from seen shown old.rest p f) hands.framed
     (λ few room. passes_if are_all frames lines.0 (less p (length bytes)) r is (lines.3 few room))
@@ -49,7 +49,7 @@ AddsFrames-all old mid new bytes text text' frames more are_all p r fits is hand
 
 -- a length out of range stands after the frames
 pub AddsFrames-length_after : (old mid new : Stream) (bytes text text' : List ℕ) (frames : List (List ℕ)) (are_all : Bool) (p r : Progress) (place : ℕ) (n : ℤ) (rest : List ℕ) → length bytes ≤ p.room → are_all ≡ true →
-    Hands old bytes frames mid → AddsLines are_all frames (less p (length bytes)) text text' r → Refuses mid [] place n new → AddsFrames (Some (ending.Length r.place n)) (showing old.rest p) bytes text text' (showing rest r)
+    Hands old bytes frames mid → AddsLines are_all frames (less p (length bytes)) text text' r → CutRefuses mid [] place n new → AddsFrames (Some (ending.Length r.place n)) (showing old.rest p) bytes text text' (showing rest r)
 AddsFrames-length_after old mid new bytes text text' frames are_all p r place n rest fits is hands lines refuses = (
   lines.0,
   lines.1,
@@ -59,7 +59,7 @@ AddsFrames-length_after old mid new bytes text text' frames are_all p r place n 
 )
 
 -- a length out of range stands before any frame
-pub AddsFrames-length : (old new : Stream) (bytes text : List ℕ) (p : Progress) (place : ℕ) (n : ℤ) (rest : List ℕ) → length bytes ≤ p.room → Refuses old bytes place n new →
+pub AddsFrames-length : (old new : Stream) (bytes text : List ℕ) (p : Progress) (place : ℕ) (n : ℤ) (rest : List ℕ) → length bytes ≤ p.room → CutRefuses old bytes place n new →
     AddsFrames (Some (ending.Length p.place n)) (showing old.rest p) bytes text text (showing rest (less p (length bytes)))
 AddsFrames-length old new bytes text p place n rest fits refuses = (
   [],
@@ -142,21 +142,21 @@ Adds-long old new piece text text' text'' None last over frames written count = 
 
 -- ---- the end
 
-pub ends_whole : (old : Showing) (place : ℕ) → place ≡ max_stream - old.progress.room → place ≡ old.progress.place → (seen : List ℕ) (lines : List (List ℕ)) → Follows seen lines old →
-    ending.End place ≡ ending_of old.progress.place (length old.rest) None
+pub ends_whole : (old : Showing) (place : ℕ) → place ≡ max_stream - old.progress.room → place ≡ old.progress.place → (seen : List ℕ) (lines : List (List ℕ)) → ShowingFollows seen lines old →
+    ending.End place ≡ ending_of_stream old.progress.place (length old.rest) None
 ends_whole old place is same seen lines f =
     let none : length old.rest ≡ 0 = omega (arith, f.place, f.room) in
-    ap ending.End same ∙ sym (ap (λ (n : ℕ). ending_of old.progress.place n None) none)
+    ap ending.End same ∙ sym (ap (λ (n : ℕ). ending_of_stream old.progress.place n None) none)
 
-pub ends_cut : (old : Showing) (place : ℕ) → place ≡ max_stream - old.progress.room → place ≢ old.progress.place → (seen : List ℕ) (lines : List (List ℕ)) → Follows seen lines old →
-    ending.Cut place ≡ ending_of old.progress.place (length old.rest) None
+pub ends_cut : (old : Showing) (place : ℕ) → place ≡ max_stream - old.progress.room → place ≢ old.progress.place → (seen : List ℕ) (lines : List (List ℕ)) → ShowingFollows seen lines old →
+    ending.Cut place ≡ ending_of_stream old.progress.place (length old.rest) None
 ends_cut old place is other seen lines f =
     let at : place ≡ old.progress.place + length old.rest = omega (arith, f.place, f.room) in
     let some : (length old.rest == 0) ≡ false = ne_eqb _ _ (λ none. other (omega arith)) in
     ap ending.Cut at ∙ sym (ap (λ (b : Bool). if b then ending.End old.progress.place else ending.Cut (old.progress.place + length old.rest)) some)
 
-pub Finishes-from : (old : Showing) (text text' : List ℕ) (end : Ending) (last : Progress) → ((seen : List ℕ) (lines : List (List ℕ)) → Follows seen lines old → end ≡ ending_of old.progress.place (length old.rest) None) →
-    text' ≡ text ++ ending_line end → last.lines ≡ counted (old.progress.lines + 1) → Finishes end old text text' (showing [] last)
+pub Finishes-from : (old : Showing) (text text' : List ℕ) (end : Ending) (last : Progress) → ((seen : List ℕ) (lines : List (List ℕ)) → ShowingFollows seen lines old → end ≡ ending_of_stream old.progress.place (length old.rest) None) →
+    text' ≡ text ++ ending_line end → last.lines ≡ counted (old.progress.lines + 1) → ShowingFinishes end old text text' (showing [] last)
 Finishes-from old text text' end last is written count = (
   written,
   λ seen lines f. record { shown = IsShown-whole seen lines old end f (is seen lines f); count = last_count old.progress last.lines lines count f.count (omega (arith, f.few, f.place, f.room)) },
@@ -164,7 +164,7 @@ Finishes-from old text text' end last is written count = (
 
 -- the last line, made apart, is added to the end of a text
 
-pub Finishes-appended : (end : Ending) (rest : List ℕ) (p : Progress) (failed : Bool) (new : Showing) (before added text text' : List ℕ) → failed ≡ false → before ≡ [] → Finishes end (showing rest p) before added new →
-    text' ≡ text ++ added → Finishes end (record { rest = rest; progress = p; has_failed = failed }) text text' new
+pub Finishes-appended : (end : Ending) (rest : List ℕ) (p : Progress) (failed : Bool) (new : Showing) (before added text text' : List ℕ) → failed ≡ false → before ≡ [] → ShowingFinishes end (showing rest p) before added new →
+    text' ≡ text ++ added → ShowingFinishes end (record { rest = rest; progress = p; has_failed = failed }) text text' new
 Finishes-appended end rest p failed new before added text text' good none finishes is =
     rw good (is ∙ ap (λ (t : List ℕ). text ++ t) (finishes.0 ∙ ap (λ (t : List ℕ). t ++ ending_line end) none), finishes.1)

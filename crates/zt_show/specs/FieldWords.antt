@@ -8,16 +8,16 @@ use Rattle.zt_text.specs.Transcripts.{hex_text}
 use Rattle.zk_model.specs.Access.{open_entry}
 
 -- a blank (32) and a word
-abbrev pub spaced : List ℕ → List ℕ
-spaced word = 32 ∷ word
+abbrev pub spaced_word : List ℕ → List ℕ
+spaced_word word = 32 ∷ word
 
 -- a number, with its sign where it is below 0
 abbrev pub signed_word : ℤ → List ℕ
-signed_word n = spaced (signed_decimal n)
+signed_word n = spaced_word (signed_decimal n)
 
 -- bytes and texts are hex, `-` where they are empty
 abbrev pub hex_word : List ℕ → List ℕ
-hex_word bytes = spaced (hex_text bytes)
+hex_word bytes = spaced_word (hex_text bytes)
 
 -- 0 or 1
 abbrev pub boolean_word : Bool → List ℕ
@@ -26,7 +26,7 @@ boolean_word false = codes " 0"
 
 -- a vector is its count and its items
 abbrev pub vector_words : {A : Type 0} → (A → List ℕ) → List A → List ℕ
-vector_words each xs = spaced (decimal (length xs)) ++ flat_map each xs
+vector_words each xs = spaced_word (decimal (length xs)) ++ flat_map each xs
 
 -- the permissions, the scheme and the id
 abbrev pub acl_words : Acl → List ℕ

@@ -14,7 +14,7 @@ use Rattle.zk_jute.specs.JuteWriting.{long_bytes}
 use Rattle.zk_jute.specs.Numbers.{opcode_of, part_kind}
 use Rattle.zk_jute.specs.Records.{values_of, part_values}
 use Rattle.zk_jute.specs.Requests.{Frame, NoHeader, Unreadable, Unknown, Asks, read_request}
-use Rattle.zt_show.specs.FieldWords.{spaced, signed_word, boolean_word, hex_word, vector_words, record_words}
+use Rattle.zt_show.specs.FieldWords.{spaced_word, signed_word, boolean_word, hex_word, vector_words, record_words}
 
 -- ---- requests
 
@@ -45,7 +45,7 @@ part_name kinds.Check = codes "check"
 
 -- a part of a multi: its name and its fields
 abbrev pub part_words : Part → List ℕ
-part_words part = spaced (part_name (part_kind part)) ++ record_words (part_values part)
+part_words part = spaced_word (part_name (part_kind part)) ++ record_words (part_values part)
 
 -- a multi is the count of its parts, and the parts; any other request is its fields
 abbrev pub body_words : Request → List ℕ
@@ -53,20 +53,20 @@ body_words (requests.Multi parts) = vector_words part_words parts
 body_words request = record_words (values_of request)
 
 -- the xid and a name, which begin the words of each request
-abbrev pub named : ℤ → List ℕ → List ℕ
-named xid name = signed_word xid ++ spaced name
+abbrev pub named_kind : ℤ → List ℕ → List ℕ
+named_kind xid name = signed_word xid ++ spaced_word name
 
 -- the words of a request: xid, name and body
 abbrev pub request_words : ℤ → Request → List ℕ
-request_words xid request = named xid (request_name (opcode_of request)) ++ body_words request
+request_words xid request = named_kind xid (request_name (opcode_of request)) ++ body_words request
 
 -- a body that cannot be read, with the offset in its frame of the first byte to blame
 abbrev pub unreadable_words : ℤ → ℕ → List ℕ
-unreadable_words xid place = named xid (codes "unreadable") ++ spaced (decimal place)
+unreadable_words xid place = named_kind xid (codes "unreadable") ++ spaced_word (decimal place)
 
 -- a type that is not listed
 abbrev pub unknown_words : ℤ → ℤ → List ℕ
-unknown_words xid type = named xid (codes "unknown") ++ signed_word type
+unknown_words xid type = named_kind xid (codes "unknown") ++ signed_word type
 
 -- the words after the place; a frame that is too short for a header has none
 abbrev pub frame_words : Frame → Option (List ℕ)
@@ -80,15 +80,15 @@ frame_words (Asks xid request) = Some (request_words xid request)
 -- 0 or 1, or `-` where it is absent
 abbrev pub read_only_words : Option Bool → List ℕ
 read_only_words (Some flag) = boolean_word flag
-read_only_words None = spaced (codes "-")
+read_only_words None = spaced_word (codes "-")
 
 -- the session as 16 hex digits, the password, and whether the client takes a server that only reads
-abbrev pub session_words : ConnectRequest → List ℕ
-session_words r = hex_word (long_bytes r.session) ++ hex_word r.passwd ++ read_only_words r.read_only
+abbrev pub connect_request_words : ConnectRequest → List ℕ
+connect_request_words r = hex_word (long_bytes r.session) ++ hex_word r.passwd ++ read_only_words r.read_only
 
 -- the fields of a connect in order
 abbrev pub connect_words : ConnectRequest → List ℕ
-connect_words r = spaced (codes "connect") ++ record_words (int r.protocol ∷ long r.last_zxid ∷ int r.timeout ∷ []) ++ session_words r
+connect_words r = spaced_word (codes "connect") ++ record_words (int r.protocol ∷ long r.last_zxid ∷ int r.timeout ∷ []) ++ connect_request_words r
 
 -- a first frame that is no connect has no words
 abbrev pub words_of_connect : Option ConnectRequest → Option (List ℕ)

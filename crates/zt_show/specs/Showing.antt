@@ -27,7 +27,7 @@ abbrev pub shown_on : Progress → List (List ℕ) → List ℕ → Shown
 shown_on p later rest = shown_from p.is_begun p.place later rest
 
 -- these bytes came; their whole frames have these lines, whatever comes after them, and nothing in them ends the stream
-pub record Follows (seen : List ℕ) (lines : List (List ℕ)) (s : Showing) : Type 0 where
+pub record ShowingFollows (seen : List ℕ) (lines : List (List ℕ)) (s : Showing) : Type 0 where
   pub frames : List (List ℕ)
   pub framed : Framed seen frames s.rest
   pub good : bad_length s.rest ≡ None
@@ -42,7 +42,7 @@ abbrev pub IsShownAs : List ℕ → List (List ℕ) → Ending → Type 0
 IsShownAs stream lines end = IsShown stream (record { lines = lines; ending = end })
 
 -- this is shown of the stream, and so many lines were added, the last included
-pub record Ends (stream : List ℕ) (lines : List (List ℕ)) (end : Ending) (added : ℕ) : Type 0 where
+pub record ShowingEnds (stream : List ℕ) (lines : List (List ℕ)) (end : Ending) (added : ℕ) : Type 0 where
   pub shown : IsShownAs stream lines end
   pub count : added ≡ length lines + 1
 
@@ -52,15 +52,15 @@ pub record Ends (stream : List ℕ) (lines : List (List ℕ)) (end : Ending) (ad
 -- length out of range, at a frame without a header, or by being too long
 abbrev pub Adds : Option Ending → Showing → List ℕ → List ℕ → List ℕ → Showing → Type 0
 Adds None old piece text text' new =
-    (added : List (List ℕ)) × (text' ≡ text ++ joined added) × ((seen : List ℕ) (lines : List (List ℕ)) → Follows seen lines old → Follows (seen ++ piece) (lines ++ added) new)
+    (added : List (List ℕ)) × (text' ≡ text ++ joined added) × ((seen : List ℕ) (lines : List (List ℕ)) → ShowingFollows seen lines old → ShowingFollows (seen ++ piece) (lines ++ added) new)
 Adds (Some end) old piece text text' new =
     (added : List (List ℕ)) × (text' ≡ text ++ (joined added ++ ending_line end))
-    × ((seen more : List ℕ) (lines : List (List ℕ)) → Follows seen lines old → Ends ((seen ++ piece) ++ more) (lines ++ added) end new.progress.lines × (ending_before_more end ≡ end))
+    × ((seen more : List ℕ) (lines : List (List ℕ)) → ShowingFollows seen lines old → ShowingEnds ((seen ++ piece) ++ more) (lines ++ added) end new.progress.lines × (ending_before_more end ≡ end))
 
 -- the last line, where the stream ends after what came
-abbrev pub Finishes : Ending → Showing → List ℕ → List ℕ → Showing → Type 0
-Finishes end old text text' new =
-    (text' ≡ text ++ ending_line end) × ((seen : List ℕ) (lines : List (List ℕ)) → Follows seen lines old → Ends seen lines end new.progress.lines)
+abbrev pub ShowingFinishes : Ending → Showing → List ℕ → List ℕ → Showing → Type 0
+ShowingFinishes end old text text' new =
+    (text' ≡ text ++ ending_line end) × ((seen : List ℕ) (lines : List (List ℕ)) → ShowingFollows seen lines old → ShowingEnds seen lines end new.progress.lines)
 
 -- ---- frames
 
@@ -73,7 +73,7 @@ abbrev pub passed : Progress → ℕ → Progress
 passed p size = record { is_begun = true; place = counted (counted (p.place + 4) + size); room = p.room; lines = counted (p.lines + 1) }
 
 -- each of the frames has a line; these are the lines, and they lead from the one progress to the other
-pub record Passes (frames added : List (List ℕ)) (old new : Progress) : Type 0 where
+pub record FramesPass (frames added : List (List ℕ)) (old new : Progress) : Type 0 where
   pub says : (later : List (List ℕ)) (rest : List ℕ) → shown_on old (frames ++ later) rest ≡ with_first added (shown_on new later rest)
   pub place : new.place ≡ old.place + size_of frames
   pub count : new.lines ≡ old.lines + length added
@@ -87,7 +87,7 @@ pub record Blocks (frames added : List (List ℕ)) (old new : Progress) : Type 0
 
 -- by whether all frames have a line
 abbrev pub PassesIf : Bool → List (List ℕ) → List (List ℕ) → Progress → Progress → Type 0
-PassesIf true frames added old new = Passes frames added old new
+PassesIf true frames added old new = FramesPass frames added old new
 PassesIf false frames added old new = Blocks frames added old new
 
 -- the lines of the frames were added, up to one without a header
@@ -99,7 +99,7 @@ AddsLines are_all frames old text text' new =
 -- ---- within the limit
 
 -- the stream ended in these bytes: nothing that comes after them changes what is shown
-pub record Stops (seen : List ℕ) (lines : List (List ℕ)) (end : Ending) (p : Progress) : Type 0 where
+pub record ShowingStops (seen : List ℕ) (lines : List (List ℕ)) (end : Ending) (p : Progress) : Type 0 where
   pub shown : (more : List ℕ) → IsShownWhole (seen ++ more) (record { lines = lines; ending = end })
   pub stays : ending_before_more end ≡ end
   pub count : p.lines ≡ length lines
@@ -107,9 +107,9 @@ pub record Stops (seen : List ℕ) (lines : List (List ℕ)) (end : Ending) (p :
   pub room : length seen + p.room ≡ max_stream
 
 -- what came so far goes on, or ended
-abbrev pub Stands : Option Ending → List ℕ → List (List ℕ) → Showing → Type 0
-Stands None seen lines s = Follows seen lines s
-Stands (Some end) seen lines s = Stops seen lines end s.progress
+abbrev pub ShowingStands : Option Ending → List ℕ → List (List ℕ) → Showing → Type 0
+ShowingStands None seen lines s = ShowingFollows seen lines s
+ShowingStands (Some end) seen lines s = ShowingStops seen lines end s.progress
 
 -- a stream without a refusal of memory
 abbrev pub showing : List ℕ → Progress → Showing
@@ -118,7 +118,7 @@ showing rest progress = record { rest = rest; progress = progress; has_failed = 
 -- the lines of the frames that became whole were added, without a last line; what came goes on, or ended
 abbrev pub AddsFrames : Option Ending → Showing → List ℕ → List ℕ → List ℕ → Showing → Type 0
 AddsFrames found old bytes text text' new =
-    (added : List (List ℕ)) × (text' ≡ text ++ joined added) × ((seen : List ℕ) (lines : List (List ℕ)) → Follows seen lines old → Stands found (seen ++ bytes) (lines ++ added) new)
+    (added : List (List ℕ)) × (text' ≡ text ++ joined added) × ((seen : List ℕ) (lines : List (List ℕ)) → ShowingFollows seen lines old → ShowingStands found (seen ++ bytes) (lines ++ added) new)
 
 -- the ending that was found, or that the stream is too long
 abbrev pub long_unless : Option Ending → Ending

@@ -4,7 +4,7 @@ use Rattle.std.specs.Prelude.{◌≡◌, ℕ, ◌+◌, ◌==◌, Bool, true, fal
 use Rattle.zk_jute.specs.Frames.{Framed, bad_length}
 use Rattle.zt_show.specs.declared.ending.Ending.{Ending}
 use Rattle.zt_show.specs.declared.ending.Ending.TheVariants as ending
-use Rattle.zt_show.specs.FieldWords.{spaced, signed_word}
+use Rattle.zt_show.specs.FieldWords.{spaced_word, signed_word}
 use Rattle.zt_show.specs.FrameLines.{line_of_frame}
 
 -- the lines of frames, each with its line feed, and how the stream ended
@@ -22,7 +22,7 @@ max_stream = 100000000
 
 -- a word and a place
 abbrev pub at_place : List ℕ → ℕ → List ℕ
-at_place word place = word ++ spaced (decimal place)
+at_place word place = word ++ spaced_word (decimal place)
 
 -- the words of the last line
 abbrev pub ending_words : Ending → List ℕ
@@ -47,12 +47,12 @@ count_of_lines shown = length shown.lines + 1
 -- ---- frames
 
 -- what stands at this place is no whole frame: a length out of range, nothing, or `size` bytes of a frame with its length
-abbrev pub ending_of : ℕ → ℕ → Option ℤ → Ending
-ending_of place size (Some n) = ending.Length place n
-ending_of place size None = if size == 0 then ending.End place else ending.Cut (place + size)
+abbrev pub ending_of_stream : ℕ → ℕ → Option ℤ → Ending
+ending_of_stream place size (Some n) = ending.Length place n
+ending_of_stream place size None = if size == 0 then ending.End place else ending.Cut (place + size)
 
 abbrev pub ending_at : ℕ → List ℕ → Ending
-ending_at place rest = ending_of place (length rest) (bad_length rest)
+ending_at place rest = ending_of_stream place (length rest) (bad_length rest)
 
 -- a line before those of the later frames; a frame without a header ends them at its place
 abbrev pub before : ℕ → Option (List ℕ) → Shown → Shown

@@ -1,7 +1,7 @@
 //! Lines in the making, which take the fields of a record as words.
 
 ghost use Rattle.std.specs.Prelude.{◌≡◌, ◌++◌, ◌∷◌, [], decimal, OnOk};
-ghost use Rattle.zt_show.specs.FieldWords.{spaced, signed_word, hex_word, acl_words, value_words};
+ghost use Rattle.zt_show.specs.FieldWords.{spaced_word, signed_word, hex_word, acl_words, value_words};
 
 use std::alloc::Global;
 use std::marker::Model;
@@ -79,7 +79,7 @@ impl Draft {
 
     /// Adds a blank and a name.
     pub(crate) fn word(&mut self, name: &[u8]) -> Result<(), Memory>
-        ensures { OnOk result (self.new ≡ self.old ++ spaced name.now) }
+        ensures { OnOk result (self.new ≡ self.old ++ spaced_word name.now) }
     {
         self.blank()?;
         self.bytes(name)
@@ -87,7 +87,7 @@ impl Draft {
 
     /// Adds a blank and a place or a count.
     pub(crate) fn count(&mut self, n: u64) -> Result<(), Memory>
-        ensures { OnOk result (self.new ≡ self.old ++ spaced (decimal n)) }
+        ensures { OnOk result (self.new ≡ self.old ++ spaced_word (decimal n)) }
     {
         self.blank()?;
         push_number(&mut self.text, n)

@@ -4,7 +4,7 @@ ghost use Rattle.std.specs.Prelude.{◌≡◌, ◌++◌, decimal, OnOk, IfOk};
 ghost use Rattle.zk_jute.specs.Connects.{read_connect as connect_read};
 ghost use Rattle.zk_jute.specs.JuteWriting.{long_bytes};
 ghost use Rattle.zk_jute.specs.Requests.{read_request as request_read};
-ghost use Rattle.zt_show.specs.FrameLines.{part_words, body_words, named, request_words, unreadable_words, unknown_words, frame_words, session_words, connect_words, read_only_words, words_of_connect, line, line_of_words, line_of_frame, IsAdded};
+ghost use Rattle.zt_show.specs.FrameLines.{part_words, body_words, named_kind, request_words, unreadable_words, unknown_words, frame_words, connect_request_words, connect_words, read_only_words, words_of_connect, line, line_of_words, line_of_frame, IsAdded};
 ghost use Rattle.zt_show.specs.FieldWords.{hex_word, vector_words};
 
 use crate::draft::Draft;
@@ -64,7 +64,7 @@ fn push_connect(text: &mut Draft, request: &ConnectRequest) -> Result<(), Memory
 }
 
 fn push_session_words(text: &mut Draft, request: &ConnectRequest) -> Result<(), Memory>
-    ensures { OnOk result (text.new ≡ text.old ++ session_words request.now) }
+    ensures { OnOk result (text.new ≡ text.old ++ connect_request_words request.now) }
 {
     push_session(text, request.session)?;
     text.buffer(request.passwd.as_slice())?;
@@ -116,7 +116,7 @@ fn push_request_line(
 
 /// Adds the words that begin the line of each request.
 fn push_named(text: &mut Draft, place: u64, xid: i32, name: &[u8]) -> Result<(), Memory>
-    ensures { OnOk result (text.new ≡ text.old ++ (decimal place ++ named xid name.now)) }
+    ensures { OnOk result (text.new ≡ text.old ++ (decimal place ++ named_kind xid name.now)) }
 {
     text.number(place)?;
     text.int(xid)?;

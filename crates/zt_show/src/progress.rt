@@ -2,7 +2,7 @@
 
 ghost use Rattle.std.specs.Prelude.{◌≡◌, ◌+◌, ◌++◌, ◌≤◌, length, None, OnOk, IfOk, ℕ, List};
 ghost use Rattle.zt_show.specs.Shown.{ending_line};
-ghost use Rattle.zt_show.specs.Showing.{passed, showing, unshown, long_unless, Adds, AddsLines, AddsFrames, Finishes};
+ghost use Rattle.zt_show.specs.Showing.{passed, showing, unshown, long_unless, Adds, AddsLines, AddsFrames, ShowingFinishes};
 ghost use Rattle.zk_wire.specs.Putting.{counted};
 
 use crate::draft::Draft;
@@ -154,7 +154,7 @@ impl Progress {
 
     /// Adds the last line of a stream that has no more bytes.
     pub(crate) fn finish(&mut self, text: &mut Draft) -> Result<Ending, Memory>
-        ensures { IfOk result (λ ending. (rest : List ℕ) → Finishes ending (showing rest self.old) text.old text.new (showing rest self.new)) }
+        ensures { IfOk result (λ ending. (rest : List ℕ) → ShowingFinishes ending (showing rest self.old) text.old text.new (showing rest self.new)) }
     {
         let place = MAX_STREAM.saturating_sub(self.room);
         let ending = if place == self.place {

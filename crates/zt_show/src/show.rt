@@ -1,7 +1,7 @@
 //! A stream that comes piece by piece.
 
 ghost use Rattle.std.specs.Prelude.{◌≡◌, ◌+◌, length, None, IfOk, IsErr, IsTrue, OnErr};
-ghost use Rattle.zt_show.specs.Showing.{Adds, Finishes, unshown};
+ghost use Rattle.zt_show.specs.Showing.{Adds, ShowingFinishes, unshown};
 
 use crate::draft::Draft;
 use crate::ending::Ending;
@@ -80,7 +80,7 @@ impl Show {
 
     /// Adds the last line of a stream that has no more bytes and has not ended before: at a frame's end or inside one.
     pub fn finish(&mut self, text: &mut Lines) -> Result<Ending, Memory>
-        ensures adds { IfOk result (λ ending. Finishes ending self.old text.old text.new self.new) }
+        ensures adds { IfOk result (λ ending. ShowingFinishes ending self.old text.old text.new self.new) }
 
         // Without memory nothing is added, by this call and by each later one.
         ensures adds_none { OnErr result (text.new ≡ text.old) }

@@ -4,7 +4,7 @@ use Rattle.std.specs.Prelude.{option_and_then}
 use Rattle.std.proofs.lemmas.List.{append-nil, append_assoc, drop_all, drop_more, take_all, take_more_set}
 use Rattle.std.proofs.lemmas.Grind.{common_steps}
 use Rattle.std.proofs.Math.Nat.{pow-le-pow_right}
-use Rattle.zt_text.specs.Scripts.{decimal_digit, digits_value, hex_byte, hex_digit, hex_pairs, is_zero_led, max_number, not_above, number, ◌>>=◌}
+use Rattle.zt_text.specs.Scripts.{decimal_digit, digits_value, hex_byte, hex_value, hex_pairs, is_zero_led, max_number, not_above, number, ◌>>=◌}
 
 -- a number that is too great stays so
 pub digits_value-above : (most n : ℕ) (bs : List ℕ) → most < n → (digits_value 10 decimal_digit n bs >>= not_above most) ≡ None
@@ -31,7 +31,7 @@ number-above word value at digit told within read above =
     sym told ∙ rw (here, read) refl in
     number-none word (ap (λ (o : Option ℕ). o >>= not_above max_number) next ∙ digits_value-above max_number (value * 10 + digit) (drop (at + 1) word) above)
 
-pub hex_digit-small : (b d : ℕ) → hex_digit b ≡ Some d → d < 16
+pub hex_digit-small : (b d : ℕ) → hex_value b ≡ Some d → d < 16
 hex_digit-small b d some = grind arith
 
 -- a value of fewer than 16 hex digits leaves room for one more

@@ -2,7 +2,7 @@
 use Rattle.std.proofs.Common.{◌≡◌, ℕ, zero, suc, ◌/◌, ◌%◌, ◌<◌, ◌==◌, Bool, true, ◌&&◌, inl, inr, List, [], ◌∷◌, slice_index, refl, ap, arith}
 use Rattle.std.proofs.lemmas.Bool.{and_parts, cases_lt, eqb-true}
 use Rattle.hex.specs.Hex.{encode_lower, encode_with, lower_digits}
-use Rattle.zt_text.specs.Transcripts.{hex_digit_text, hex_digits}
+use Rattle.zt_text.specs.Transcripts.{hex_digit_text, hex_spelled}
 
 abbrev same_digits : ℕ → Bool
 same_digits zero = true
@@ -20,8 +20,8 @@ same_digits-at (suc n) d same below =
 digit : (d : ℕ) → d < 16 → slice_index lower_digits d ≡ hex_digit_text d
 digit d below = same_digits-at 16 d refl below
 
-pub encode_lower-hex_digits : (bytes : List ℕ) → ((i : ℕ) → slice_index bytes i < 256) → encode_lower bytes ≡ hex_digits bytes
-unfolding encode_with hex_digits
+pub encode_lower-hex_digits : (bytes : List ℕ) → ((i : ℕ) → slice_index bytes i < 256) → encode_lower bytes ≡ hex_spelled bytes
+unfolding encode_with hex_spelled
 encode_lower-hex_digits [] fits = refl
 encode_lower-hex_digits (b ∷ bs) fits =
     let first : b < 256 = fits 0 in

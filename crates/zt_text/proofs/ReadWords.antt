@@ -7,8 +7,8 @@ use Rattle.std.proofs.lemmas.Fmt.{decimal_digit as one_digit, first_decimal}
 use Rattle.std.proofs.lemmas.Int.{ints}
 use Rattle.std.proofs.lemmas.Nat.{from_be_bytes-to_be_bytes_8}
 use Rattle.zk_model.specs.Limits.{max_long}
-use Rattle.zt_text.specs.Scripts.{digits_value, hex_digit, is_zero_led, password, session_id}
-use Rattle.zt_text.specs.Transcripts.{AreBytes, hex_digits, hex_text, id_text}
+use Rattle.zt_text.specs.Scripts.{digits_value, hex_value, is_zero_led, password, session_id}
+use Rattle.zt_text.specs.Transcripts.{AreBytes, hex_spelled, hex_text, id_text}
 use Rattle.zt_text.proofs.WrittenWords.{bytes_high_first-bytes, hex_digit-of, hex_pairs-hex_digits}
 
 -- ---- decimal numbers
@@ -35,8 +35,8 @@ decimal-first n fits =
 
 -- ---- hex digits
 
-length-hex_digits : (bytes : List ℕ) → length (hex_digits bytes) ≡ 2 * length bytes
-unfolding hex_digits
+length-hex_digits : (bytes : List ℕ) → length (hex_spelled bytes) ≡ 2 * length bytes
+unfolding hex_spelled
 length-hex_digits [] = refl
 length-hex_digits (b ∷ bs) =
     let more : suc (suc (2 * length bs)) ≡ 2 * suc (length bs) = omega arith in
@@ -47,8 +47,8 @@ abbrev bytes_value : ℕ → List ℕ → ℕ
 bytes_value n [] = n
 bytes_value n (b ∷ bs) = bytes_value (n * 256 + b) bs
 
-digits_value-hex_digits : (n : ℕ) (bytes : List ℕ) → AreBytes bytes → digits_value 16 hex_digit n (hex_digits bytes) ≡ Some (bytes_value n bytes)
-unfolding hex_digits
+digits_value-hex_digits : (n : ℕ) (bytes : List ℕ) → AreBytes bytes → digits_value 16 hex_value n (hex_spelled bytes) ≡ Some (bytes_value n bytes)
+unfolding hex_spelled
 digits_value-hex_digits n [] fits = refl
 digits_value-hex_digits n (b ∷ bs) fits =
     let byte : b < 256 = fits.0 in
@@ -66,7 +66,7 @@ bytes_value-to_be_bytes n fits =
 
 -- ---- a session's number and its password
 
-session_id-value : (w : List ℕ) (n : ℕ) → length w ≡ 16 → digits_value 16 hex_digit 0 w ≡ Some n → 0 < n → n < 2 ^ 63 → session_id w ≡ Some (pos n)
+session_id-value : (w : List ℕ) (n : ℕ) → length w ≡ 16 → digits_value 16 hex_value 0 w ≡ Some n → 0 < n → n < 2 ^ 63 → session_id w ≡ Some (pos n)
 unfolding session_id
 session_id-value w n long value some below =
     let whole = eq-eqb (length w) 16 long in
@@ -81,12 +81,12 @@ session_id-id_text (pos n) least most =
     let below : n < 2 ^ 63 = omega (arith, ints) in
     let value = digits_value-hex_digits 0 (to_be_bytes w64 n) (bytes_high_first-bytes 8 n) in
     let back = bytes_value-to_be_bytes n (omega arith) in
-    session_id-value (hex_digits (to_be_bytes w64 n)) n (length-hex_digits (to_be_bytes w64 n)) (value ∙ ap (λ (m : ℕ). Some m) back) some below
+    session_id-value (hex_spelled (to_be_bytes w64 n)) n (length-hex_digits (to_be_bytes w64 n)) (value ∙ ap (λ (m : ℕ). Some m) back) some below
 session_id-id_text (negsuc n) least most = absurd (omega (arith, ints))
 
 pub password-hex_text : (bytes : List ℕ) → length bytes ≡ 16 → AreBytes bytes → password (hex_text bytes) ≡ Some bytes
 unfolding hex_text password
 password-hex_text [] long fits = absurd (omega arith)
 password-hex_text (b ∷ bs) long fits =
-    let whole = eq-eqb (length (hex_digits (b ∷ bs))) 32 (length-hex_digits (b ∷ bs) ∙ ap (λ (k : ℕ). 2 * k) long) in
+    let whole = eq-eqb (length (hex_spelled (b ∷ bs))) 32 (length-hex_digits (b ∷ bs) ∙ ap (λ (k : ℕ). 2 * k) long) in
     rw whole (hex_pairs-hex_digits (b ∷ bs) fits)

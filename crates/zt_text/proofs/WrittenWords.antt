@@ -9,8 +9,8 @@ use Rattle.std.proofs.lemmas.Fmt.{decimal_by_steps}
 use Rattle.std.proofs.lemmas.Grind.{common_steps}
 use Rattle.std.proofs.lemmas.Int.{ints}
 use Rattle.std.proofs.lemmas.Nat.{from_be_bytes-to_be_bytes_8, mod_below}
-use Rattle.zt_text.specs.Scripts.{decimal_digit, digits_value, hex, hex_byte, hex_digit, hex_pairs, ◌>>=◌}
-use Rattle.zt_text.specs.Transcripts.{AreBytes, IsSessionNumber, IsSignedNumber, hex_digit_text, hex_digits, hex_text, id_text}
+use Rattle.zt_text.specs.Scripts.{decimal_digit, digits_value, hex, hex_byte, hex_value, hex_pairs, ◌>>=◌}
+use Rattle.zt_text.specs.Transcripts.{AreBytes, IsSessionNumber, IsSignedNumber, hex_digit_text, hex_spelled, hex_text, id_text}
 
 -- ---- no blank and no line feed
 
@@ -46,8 +46,8 @@ hex_digit_text-is_word d = elim (cases_Bool (nat_lt d 10)) [
   | inr large ↦ rw large (lt-ltb 32 (87 + d) (omega arith))
 ]
 
-hex_digits-is_word : (bytes : List ℕ) → is_word (hex_digits bytes) ≡ true
-unfolding hex_digits
+hex_digits-is_word : (bytes : List ℕ) → is_word (hex_spelled bytes) ≡ true
+unfolding hex_spelled
 hex_digits-is_word [] = refl
 hex_digits-is_word (b ∷ bs) = and_from _ _ (hex_digit_text-is_word (b / 16)) (and_from _ _ (hex_digit_text-is_word (b % 16)) (hex_digits-is_word bs))
 
@@ -110,7 +110,7 @@ signed-signed_decimal (negsuc n) fits =
     let less : suc n - 1 ≡ n = omega arith in
     rw (back, less) refl
 
-pub hex_digit-of : (d : ℕ) → d < 16 → hex_digit (hex_digit_text d) ≡ Some d
+pub hex_digit-of : (d : ℕ) → d < 16 → hex_value (hex_digit_text d) ≡ Some d
 hex_digit-of d small = grind (arith, common_steps)
 
 hex_byte-of : (b : ℕ) → b < 256 → hex_byte (hex_digit_text (b / 16)) (hex_digit_text (b % 16)) ≡ Some b
@@ -121,8 +121,8 @@ hex_byte-of b byte =
     let whole : b / 16 * 16 + b % 16 ≡ b = omega arith in
     rw (high, low, whole) refl
 
-pub hex_pairs-hex_digits : (bytes : List ℕ) → AreBytes bytes → hex_pairs (hex_digits bytes) ≡ Some bytes
-unfolding hex_pairs hex_digits
+pub hex_pairs-hex_digits : (bytes : List ℕ) → AreBytes bytes → hex_pairs (hex_spelled bytes) ≡ Some bytes
+unfolding hex_pairs hex_spelled
 hex_pairs-hex_digits [] fits = refl
 hex_pairs-hex_digits (b ∷ bs) fits =
     let first = hex_byte-of b fits.0 in
@@ -130,7 +130,7 @@ hex_pairs-hex_digits (b ∷ bs) fits =
     rw (first, rest) refl
 
 pub hex-hex_text : (bytes : List ℕ) → AreBytes bytes → hex (hex_text bytes) ≡ Some bytes
-unfolding hex hex_text hex_digits
+unfolding hex hex_text hex_spelled
 hex-hex_text [] fits = refl
 hex-hex_text (b ∷ bs) fits =
     let other = and_right (hex_digit_text (b / 16) == 45) false refl in

@@ -24,8 +24,8 @@ o >>= f = option_and_then f o
 abbrev pub decimal_digit : ℕ → Option ℕ
 decimal_digit b = if nat_le 48 b && nat_le b 57 then Some (b - 48) else None
 
-abbrev pub hex_digit : ℕ → Option ℕ
-hex_digit b = if nat_le 48 b && nat_le b 57 then Some (b - 48) else if nat_le 97 b && nat_le b 102 then Some (b - 87) else None
+abbrev pub hex_value : ℕ → Option ℕ
+hex_value b = if nat_le 48 b && nat_le b 57 then Some (b - 48) else if nat_le 97 b && nat_le b 102 then Some (b - 87) else None
 
 -- the number that n becomes by these further digits
 abbrev pub digits_value : ℕ → (ℕ → Option ℕ) → ℕ → List ℕ → Option ℕ
@@ -54,8 +54,8 @@ number (b ∷ bs) = if is_zero_led (b ∷ bs) then None else (digits_value 10 de
 -- the byte of two hex digits, the high one first
 unfoldable pub hex_byte : ℕ → ℕ → Option ℕ
 hex_byte a b = do
-  high ← hex_digit a
-  low ← hex_digit b
+  high ← hex_value a
+  low ← hex_value b
   Some (high * 16 + low)
 
 -- two hex digits for each byte
@@ -77,7 +77,7 @@ abbrev pub as_session_id : ℕ → Option ℤ
 as_session_id n = if nat_lt 0 n && nat_lt n (2 ^ 63) then Some (pos n) else None
 
 unfoldable pub session_id : List ℕ → Option ℤ
-session_id w = if length w == 16 then (digits_value 16 hex_digit 0 w >>= as_session_id) else None
+session_id w = if length w == 16 then (digits_value 16 hex_value 0 w >>= as_session_id) else None
 
 -- a session's password: 32 hex digits
 unfoldable pub password : List ℕ → Option (List ℕ)
@@ -103,8 +103,8 @@ four_words (a ∷ b ∷ c ∷ d ∷ []) = Some (a, b, c, d)
 four_words _ = None
 
 -- `open C P ID PW`
-unfoldable pub open_line : List (List ℕ) → Option Happening
-open_line words = do
+unfoldable pub open_happening : List (List ℕ) → Option Happening
+open_happening words = do
   w ← four_words words
   c ← number w.0
   p ← number w.1
@@ -120,8 +120,8 @@ number_and_bytes words = do
   bytes ← hex w.1
   Some (c, bytes)
 
-unfoldable pub frame_line : List (List ℕ) → Option Happening
-frame_line words = do
+unfoldable pub frame_happening : List (List ℕ) → Option Happening
+frame_happening words = do
   x ← number_and_bytes words
   Some (line.Frame x.0 x.1)
 
@@ -131,8 +131,8 @@ bytes_line words = do
   Some (line.Arrive x.0 x.1)
 
 -- `lapse ID`
-unfoldable pub lapse_line : List (List ℕ) → Option Happening
-lapse_line words = do
+unfoldable pub lapse_happening : List (List ℕ) → Option Happening
+lapse_happening words = do
   w ← one_word words
   id ← session_id w
   Some (line.Lapse id)
@@ -177,19 +177,19 @@ numbered_line form words = do
   of_number form n
 
 -- the form of a line is told by its first word
-unfoldable pub line_of_form : List ℕ → List (List ℕ) → Option Happening
-line_of_form form words =
-    if bytes_eq form (codes "open") then open_line words
-    else if bytes_eq form (codes "frame") then frame_line words
+unfoldable pub happening_of_form : List ℕ → List (List ℕ) → Option Happening
+happening_of_form form words =
+    if bytes_eq form (codes "open") then open_happening words
+    else if bytes_eq form (codes "frame") then frame_happening words
     else if bytes_eq form (codes "bytes") then bytes_line words
-    else if bytes_eq form (codes "lapse") then lapse_line words
+    else if bytes_eq form (codes "lapse") then lapse_happening words
     else if bytes_eq form (codes "foreign") then foreign_line words
     else if bytes_eq form (codes "reap") then reap_line words
     else numbered_line form words
 
 abbrev pub happening : List (List ℕ) → Option Happening
 happening [] = None
-happening (form ∷ words) = line_of_form form words
+happening (form ∷ words) = happening_of_form form words
 
 -- the most bytes of a line without its line feed, and of a script
 abbrev pub max_line : ℕ
@@ -199,8 +199,8 @@ abbrev pub max_script : ℕ
 max_script = 100000000
 
 -- what a line says, if it is of one of the forms and not too long (32 is a blank)
-unfoldable pub line_read : List ℕ → Option Happening
-line_read line = if nat_lt max_line (length line) then None else happening (pieces 32 line)
+unfoldable pub happening_read : List ℕ → Option Happening
+happening_read line = if nat_lt max_line (length line) then None else happening (pieces 32 line)
 
 -- ---- the lines of a script
 
@@ -213,19 +213,19 @@ then_script n None later = ([], Some (n, Unreadable))
 then_script n (Some h) later = (h ∷ later.0, later.1)
 
 -- what follows the last line feed: the last line, or nothing; or the line in which the script's limit is passed
-abbrev pub last_line : Bool → ℕ → List ℕ → Script
-last_line true n line = ([], Some (n, if nat_lt max_line (length line) then Unreadable else TooLong))
-last_line false n [] = ([], None)
-last_line false n (b ∷ bs) = then_script n (line_read (b ∷ bs)) ([], None)
+abbrev pub last_happening : Bool → ℕ → List ℕ → Script
+last_happening true n line = ([], Some (n, if nat_lt max_line (length line) then Unreadable else TooLong))
+last_happening false n [] = ([], None)
+last_happening false n (b ∷ bs) = then_script n (happening_read (b ∷ bs)) ([], None)
 
-abbrev pub lines_from : Bool → ℕ → List (List ℕ) → Script
-lines_from is_cut n [] = ([], None)
-lines_from is_cut n (line ∷ []) = last_line is_cut n line
-lines_from is_cut n (line ∷ more ∷ lines) = then_script n (line_read line) (lines_from is_cut (n + 1) (more ∷ lines))
+abbrev pub happenings_from : Bool → ℕ → List (List ℕ) → Script
+happenings_from is_cut n [] = ([], None)
+happenings_from is_cut n (line ∷ []) = last_happening is_cut n line
+happenings_from is_cut n (line ∷ more ∷ lines) = then_script n (happening_read line) (happenings_from is_cut (n + 1) (more ∷ lines))
 
 -- what line n and the later ones say, of which at most room bytes are read (10 is a line feed)
 unfoldable pub script_from : ℕ → ℕ → List ℕ → Script
-script_from n room bytes = lines_from (nat_lt room (length bytes)) n (pieces 10 (take room bytes))
+script_from n room bytes = happenings_from (nat_lt room (length bytes)) n (pieces 10 (take room bytes))
 
 -- what a script says
 unfoldable pub script : List ℕ → Script

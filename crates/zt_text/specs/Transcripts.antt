@@ -21,17 +21,17 @@ hex_digit_text n = if nat_lt n 10 then 48 + n else 87 + n
 abbrev pub hex_byte_text : ℕ → List ℕ
 hex_byte_text b = hex_digit_text (b / 16) ∷ hex_digit_text (b % 16) ∷ []
 
-unfoldable pub hex_digits : List ℕ → List ℕ
-hex_digits bytes = flat_map hex_byte_text bytes
+unfoldable pub hex_spelled : List ℕ → List ℕ
+hex_spelled bytes = flat_map hex_byte_text bytes
 
 -- bytes as hex, `-` for none
 unfoldable pub hex_text : List ℕ → List ℕ
 hex_text [] = codes "-"
-hex_text (b ∷ bs) = hex_digits (b ∷ bs)
+hex_text (b ∷ bs) = hex_spelled (b ∷ bs)
 
 -- a session's number as 16 hex digits
 unfoldable pub id_text : ℤ → List ℕ
-id_text id = hex_digits (to_be_bytes w64 (nat_abs id))
+id_text id = hex_spelled (to_be_bytes w64 (nat_abs id))
 
 -- ---- lines
 

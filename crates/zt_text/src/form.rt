@@ -1,7 +1,7 @@
 //! The forms of a script's lines: the first word, and what its arguments are.
 
 ghost use Rattle.std.specs.Prelude.{◌≡◌, IfOk, bytes_eq};
-ghost use Rattle.zt_text.specs.Scripts.{number_and_bytes as number_and_bytes_of, numbered_line, of_number as of_number_of, open_line, frame_line, bytes_line, lapse_line, foreign_line, reap_line, line_of_form as line_of_form_of};
+ghost use Rattle.zt_text.specs.Scripts.{number_and_bytes as number_and_bytes_of, numbered_line, of_number as of_number_of, open_happening, frame_happening, bytes_line, lapse_happening, foreign_line, reap_line, happening_of_form as line_of_form_of};
 ghost use Rattle.zt_text.specs.Words.{words_of};
 
 use crate::Happening;
@@ -84,9 +84,9 @@ fn of_number(form: &[u8], number: u32) -> Option<Happening>
 }
 
 /// `open C P ID PW`
-#[tactic(auto, unfolding(crate::specs::Scripts::open_line))]
+#[tactic(auto, unfolding(crate::specs::Scripts::open_happening))]
 fn open(words: Words<'_>) -> Option<Happening>
-    ensures { result ≡ open_line (words_of words.entry) }
+    ensures { result ≡ open_happening (words_of words.entry) }
 {
     let (connection, proxy, id, passwd) = four_words(words)?;
     let connection = number(connection)?;
@@ -118,9 +118,9 @@ fn number_and_bytes(alloc: Global, words: Words<'_>) -> Result<Option<(u32, Byte
 }
 
 /// `frame C HEX`
-#[tactic(auto, unfolding(crate::specs::Scripts::frame_line))]
+#[tactic(auto, unfolding(crate::specs::Scripts::frame_happening))]
 fn frame(alloc: Global, words: Words<'_>) -> Result<Option<Happening>, Memory>
-    ensures { IfOk result (λ h. h ≡ frame_line (words_of words.entry)) }
+    ensures { IfOk result (λ h. h ≡ frame_happening (words_of words.entry)) }
 {
     match number_and_bytes(alloc, words)? {
         Some((connection, bytes)) => Ok(Some(Happening::Frame { connection, bytes })),
@@ -140,9 +140,9 @@ fn arrive(alloc: Global, words: Words<'_>) -> Result<Option<Happening>, Memory>
 }
 
 /// `lapse ID`
-#[tactic(auto, unfolding(crate::specs::Scripts::lapse_line))]
+#[tactic(auto, unfolding(crate::specs::Scripts::lapse_happening))]
 fn lapse(words: Words<'_>) -> Option<Happening>
-    ensures { result ≡ lapse_line (words_of words.entry) }
+    ensures { result ≡ lapse_happening (words_of words.entry) }
 {
     let id = session_id(one_word(words)?)?;
     Some(Happening::Lapse { id })

@@ -1,7 +1,7 @@
 //! Lines of a script.
 
 ghost use Rattle.std.specs.Prelude.{◌≡◌, IfOk};
-ghost use Rattle.zt_text.specs.Scripts.{line_read};
+ghost use Rattle.zt_text.specs.Scripts.{happening_read};
 
 use crate::Happening;
 use crate::form::line_of_form;
@@ -18,9 +18,9 @@ pub const MAX_SCRIPT: usize = 100_000_000;
 /// What a line of a script says, without its line feed; None where it is of no form, or longer than [`MAX_LINE`].
 ///
 /// Each byte is read twice, and none is copied but the bytes that HEX spells.
-#[tactic(auto, unfolding(crate::specs::Scripts::line_read))]
+#[tactic(auto, unfolding(crate::specs::Scripts::happening_read))]
 pub fn read_line(alloc: Global, line: &[u8]) -> Result<Option<Happening>, Memory>
-    ensures { IfOk result (λ h. h ≡ line_read line.now) }
+    ensures { IfOk result (λ h. h ≡ happening_read line.now) }
 {
     if line.len() > MAX_LINE {
         return Ok(None);

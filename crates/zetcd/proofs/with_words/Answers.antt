@@ -2,7 +2,7 @@ use Rattle.std.proofs.Common.{◌≡◌, List, ℕ, ◌∙◌, sym, ap, subst, a
 use Rattle.std.specs.Vec.Iter.{into_iter_items}
 use Rattle.zetcd_cmd.specs.Proxying.{NamesServe}
 use Rattle.zetcd_cmd.specs.Serving.{NamesEtcd}
-use Rattle.zetcd.specs.Arguments.{IsNoProxying, IsNoServing, IsProxying, IsServing, arguments}
+use Rattle.zetcd.specs.Arguments.{IsNoProxying, IsNoServing, IsProxying, IsServeWords, arguments}
 use Rattle.zetcd.proofs.Arguments.{texts, is_word-texts, texts-is_word, arguments-after, serving-etcd, etcd-serving, proxying-serve, serve-proxying}
 use Rattle.zetcd.proofs.with_words.Given.{Over}
 use Rattle.zetcd.proofs.with_words.Goals as goal
@@ -25,7 +25,7 @@ returns-clause-judge g c = λ h. c.zetcd-status.ensures.judge (is_word-texts _ _
 
 -- the words that are handed on are those of `etcd` only where the words after the name are
 not_etcd : (g : Over) (c : goal.After-drop-words-3 g) → IsNoServing (arguments (into_iter_items c.args.args)) → NamesEtcd c.as_slice-2.result.now → ⊥
-not_etcd g c none names = none names.0 names.1 (subst (λ (ws : List (List ℕ)). IsServing ws names.0 names.1) (handed g c) (etcd-serving _ _ _ names.2))
+not_etcd g c none names = none names.0 names.1 (subst (λ (ws : List (List ℕ)). IsServeWords ws names.0 names.1) (handed g c) (etcd-serving _ _ _ names.2))
 
 -- and so for `serve`
 not_serve : (g : Over) (c : goal.After-drop-words-3 g) → IsNoProxying (arguments (into_iter_items c.args.args)) → NamesServe c.as_slice-2.result.now → ⊥
@@ -55,7 +55,7 @@ returns-clause-judge_memory g c = λ h. c.zetcd-status.ensures.judge_memory (is_
 
 pub returns-clause-etcd : goal.returns-clause-etcd
 returns-clause-etcd g c = λ listen limit is.
-    c.zetcd-status.ensures.etcd listen limit (serving-etcd _ listen limit (subst (λ (ws : List (List ℕ)). IsServing ws listen limit) (sym (handed g c)) is))
+    c.zetcd-status.ensures.etcd listen limit (serving-etcd _ listen limit (subst (λ (ws : List (List ℕ)). IsServeWords ws listen limit) (sym (handed g c)) is))
 
 pub returns-clause-serve : goal.returns-clause-serve
 returns-clause-serve g c = λ listen endpoint limit is.

@@ -1,7 +1,7 @@
 use Rattle.std.proofs.Common.{◌≡◌, ◌++◌, [], List, ℕ, length, take, refl, arith, subst}
 use Rattle.zx_outside.proofs.Streams.{Gives-nil, Gives-append}
 use Rattle.zetcd_cmd.specs.declared.script.Stop.TheVariants as stop
-use Rattle.zetcd_cmd.specs.Scripting.{Stands, EndsEarly}
+use Rattle.zetcd_cmd.specs.Scripting.{ScriptStands, EndsEarly}
 use Rattle.zetcd_cmd.proofs.Endings.{EndsReading-stopped, EndsReading-all, EndsReading-fault, no_fault_at_end, written_over}
 use Rattle.zetcd_cmd.proofs.Waits.{Waited-none, IsUnharmed-none, IsUnharmed-waited}
 use Rattle.zetcd_cmd.proofs.replay.read_script.Goals as goal
@@ -45,7 +45,7 @@ pieces-preserved g c =
       seen = (
         seen ++ piece,
         Gives-append seen piece _ _ _ _ _ _ c.pieces.invariant.seen.1 c.in-Bytes.ensures.bytes,
-        subst (λ (b : List ℕ). Stands (seen ++ take c.in-Bytes.count b) c.take.new.self) whole (c.in_default-take.ensures.ok seen c.pieces.invariant.seen.2),
+        subst (λ (b : List ℕ). ScriptStands (seen ++ take c.in-Bytes.count b) c.take.new.self) whole (c.in_default-take.ensures.ok seen c.pieces.invariant.seen.2),
       );
       wide = c.pieces.invariant.wide;
       waited = c.in-Bytes.ensures.waited (λ no. cc) (g.I.Source.counts c.args.input.now) c.pieces.invariant.waited.0;

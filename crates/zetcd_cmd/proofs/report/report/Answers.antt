@@ -4,7 +4,7 @@ use Rattle.zt_text.specs.Transcripts.{transcript_text}
 use Rattle.zx_outside.specs.Writing.{Takes}
 use Rattle.zetcd_cmd.specs.declared.report.Unwritten.{Unwritten}
 use Rattle.zetcd_cmd.specs.Outcomes.{TakesSome}
-use Rattle.zetcd_cmd.specs.Reporting.{Passes, ending_text}
+use Rattle.zetcd_cmd.specs.Reporting.{ReportPasses, ending_text}
 use Rattle.zetcd_cmd.proofs.Fronts.{TakesSome-more}
 use Rattle.zetcd_cmd.proofs.Reports.{Passes-out, TakesSome-begun, TakesSome-passed}
 use Rattle.zetcd_cmd.proofs.report.report.Goals as goal
@@ -14,7 +14,7 @@ returns-clause-ok g c =
     on_ok_weaker c.write_out.result
     (λ (wrote : Takes c.push_end.new.text.items (g.O.Sink.taken c.write_lines.new.out) (g.O.Sink.taken c.write_out.new.out)).
     Passes-out (transcript_text c.args.lines.now) (ending_text c.args.end c.args.line) c.write_lines.new.text.items _ _ _
-    (subst (λ (t : List ℕ). Passes (transcript_text c.args.lines.now) t c.write_lines.new.text.items (g.O.Sink.taken c.args.out.now) (g.O.Sink.taken c.write_lines.new.out)) c.new-text.ensures.items
+    (subst (λ (t : List ℕ). ReportPasses (transcript_text c.args.lines.now) t c.write_lines.new.text.items (g.O.Sink.taken c.args.out.now) (g.O.Sink.taken c.write_lines.new.out)) c.new-text.ensures.items
     c.in_ok-write_lines.ensures.ok)
     (subst (λ (t : List ℕ). Takes t (g.O.Sink.taken c.write_lines.new.out) (g.O.Sink.taken c.write_out.new.out)) c.in_ok-push_end.ensures.ok wrote))
     c.write_out.ensures.ok
@@ -30,14 +30,14 @@ pub returns-in_err-push_end-clause-front : goal.returns-in_err-push_end-clause-f
 returns-in_err-push_end-clause-front g c =
     let p = err_from_is_err_and c.from_residual-in_err-push_end.result c.from_residual-in_err-push_end.ensures.1 in
     rw p.1 (TakesSome-begun (transcript_text c.args.lines.now) (ending_text c.args.end c.args.line) c.write_lines.new.text.items _ _
-    (subst (λ (t : List ℕ). Passes (transcript_text c.args.lines.now) t c.write_lines.new.text.items (g.O.Sink.taken c.args.out.now) (g.O.Sink.taken c.write_lines.new.out)) c.new-text.ensures.items
+    (subst (λ (t : List ℕ). ReportPasses (transcript_text c.args.lines.now) t c.write_lines.new.text.items (g.O.Sink.taken c.args.out.now) (g.O.Sink.taken c.write_lines.new.out)) c.new-text.ensures.items
     c.in_ok-write_lines.ensures.ok))
 
 pub returns-clause-front : goal.returns-clause-front
 returns-clause-front g c =
     IfErr-weaker c.write_out.result (λ (e : Unwritten). TakesSome c.push_end.new.text.items (g.O.Sink.taken c.write_lines.new.out) (g.O.Sink.taken c.write_out.new.out)) _
     (λ e some. TakesSome-passed (transcript_text c.args.lines.now) (ending_text c.args.end c.args.line) [] c.write_lines.new.text.items _ _ _
-    (subst (λ (t : List ℕ). Passes (transcript_text c.args.lines.now) t c.write_lines.new.text.items (g.O.Sink.taken c.args.out.now) (g.O.Sink.taken c.write_lines.new.out)) c.new-text.ensures.items
+    (subst (λ (t : List ℕ). ReportPasses (transcript_text c.args.lines.now) t c.write_lines.new.text.items (g.O.Sink.taken c.args.out.now) (g.O.Sink.taken c.write_lines.new.out)) c.new-text.ensures.items
     c.in_ok-write_lines.ensures.ok)
     (subst (λ (t : List ℕ). TakesSome t (g.O.Sink.taken c.write_lines.new.out) (g.O.Sink.taken c.write_out.new.out)) c.in_ok-push_end.ensures.ok some))
     c.write_out.ensures.front

@@ -1,5 +1,5 @@
 use Rattle.std.proofs.Common.{◌≡◌, ◌∙◌, ◌++◌, [], List, ℕ, length, take, refl, sym, ap, arith, subst}
-use Rattle.zt_show.specs.Showing.{Follows}
+use Rattle.zt_show.specs.Showing.{ShowingFollows}
 use Rattle.zx_outside.proofs.Streams.{Gives-nil, Gives-append, Gives-none, append_known-nil}
 use Rattle.zetcd_cmd.specs.Streaming.{Closes, counts_at}
 use Rattle.zetcd_cmd.proofs.Endings.{written_over, at_its_end}
@@ -64,7 +64,7 @@ pieces-preserved g c =
         lines ++ adds.0,
         Gives-append seen piece _ _ _ _ _ _ c.pieces.invariant.seen.2 c.in-Bytes.ensures.bytes,
         Takes-lines lines adds.0 passes.0 (g.O.Sink.taken c.args.out.now) (g.O.Sink.taken c.pieces.out) (g.O.Sink.taken c.show_piece.new.out) adds.1 c.pieces.invariant.seen.3 passes.2,
-        subst (λ (b : List ℕ). Follows (seen ++ take c.in-Bytes.count b) (lines ++ adds.0) c.show_piece.new.show) whole (adds.2 seen lines c.pieces.invariant.seen.4),
+        subst (λ (b : List ℕ). ShowingFollows (seen ++ take c.in-Bytes.count b) (lines ++ adds.0) c.show_piece.new.show) whole (adds.2 seen lines c.pieces.invariant.seen.4),
       );
       empty = c.in_default-show_piece.ensures.empty;
       wide = c.pieces.invariant.wide;

@@ -1,6 +1,6 @@
 use Rattle.std.proofs.Common.{List, ℕ, refl, ap, subst}
 use Rattle.std.specs.Prelude.{Option}
-use Rattle.zetcd_cmd.specs.Serving.{Serves}
+use Rattle.zetcd_cmd.specs.Serving.{EtcdServes}
 use Rattle.zetcd_cmd.proofs.Proxyings.{only_serve}
 use Rattle.zetcd_cmd.proofs.top.zetcd.Goals as goal
 
@@ -9,7 +9,7 @@ returns-in-Some-clause-usage g c = c.in-Some.ensures.usage
 
 pub returns-in-Some-etcd_words-clause-etcd : goal.returns-in-Some-etcd_words-clause-etcd
 returns-in-Some-etcd_words-clause-etcd g c = λ listen limit is.
-    subst (λ (taken : Option (List ℕ)). Serves c.run_etcd.result listen limit (g.N.Net.counts c.args.net.now) (g.N.Net.counts c.run_etcd.new.net) taken (g.O.Sink.taken c.run_etcd.new.out))
+    subst (λ (taken : Option (List ℕ)). EtcdServes c.run_etcd.result listen limit (g.N.Net.counts c.args.net.now) (g.N.Net.counts c.run_etcd.new.net) taken (g.O.Sink.taken c.run_etcd.new.out))
     (ap g.O.Sink.taken (c.in-None.ensures.untouched refl).1) (c.run_etcd.ensures.told listen limit is)
 
 pub returns-in-None-etcd_words-clause-net : goal.returns-in-None-etcd_words-clause-net

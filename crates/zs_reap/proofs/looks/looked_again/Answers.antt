@@ -2,7 +2,7 @@
 use Rattle.std.proofs.Common.{rules, arith, ◌≡◌, length, ℤ, w64, to_z, of_z, pos, ap, ◌∙◌, subst, inr}
 use Rattle.std.proofs.lemmas.Int.{to_z-of_z}
 use Rattle.zs_session.specs.Answering.{viewed}
-use Rattle.zs_reap.specs.Steps.{IsTested, LacksSome, LooksFirst}
+use Rattle.zs_reap.specs.Steps.{IsReaperTested, LacksSome, ReaperLooksFirst}
 use Rattle.zs_reap.proofs.Deciding.{lacks-some, looked-at, nothing-whole}
 use Rattle.zs_reap.proofs.looks.looked_again.Goals as goal
 
@@ -18,9 +18,9 @@ returns-clause-ok c =
     let ws = c.args.wants.now in
     let parts = c.args.parts.now in
     let some : length c.in_ok-lacking.lacking ≡ 0 → ⊥ = search (arith, rules) in (
-      subst (λ (r : ℤ). IsTested c.args.session ws r parts) at (own (λ i. IsTested i ws (to_z w64 (of_z w64 c.args.revision)) parts) c.in_ok-view.ensures.tested),
+      subst (λ (r : ℤ). IsReaperTested c.args.session ws r parts) at (own (λ i. IsReaperTested i ws (to_z w64 (of_z w64 c.args.revision)) parts) c.in_ok-view.ensures.tested),
       inr (looked-at c.args.session c.args.revision ws parts c.in_ok-view.view c.in_ok-look.field-0.phase c.in_ok-look.field-0.step c.in_ok-lacking.lacking
           (c.in_ok-view.ensures.ok ∙ ap (λ (r : ℤ). viewed r ws parts) at)
           (own (λ i. LacksSome i c.in_ok-view.view c.in_ok-lacking.lacking) (lacks-some _ c.in_ok-view.view c.in_ok-lacking.lacking c.in_ok-lacking.ensures.kept (λ gone. c.in_ok-lacking.ensures.needs gone (pos 0)) some))
-          (own (λ i. LooksFirst i c.in_ok-look.field-0.phase c.in_ok-look.field-0.step) c.in_ok-look.ensures.asks)),
+          (own (λ i. ReaperLooksFirst i c.in_ok-look.field-0.phase c.in_ok-look.field-0.step) c.in_ok-look.ensures.asks)),
     )

@@ -2,7 +2,7 @@
 use Rattle.std.proofs.Common.{rules, arith, ◌≡◌, length, pos}
 use Rattle.std.specs.Prelude.{◌⊎◌}
 use Rattle.zs_session.specs.Answering.{viewed}
-use Rattle.zs_reap.specs.Steps.{Decides, IsCounted, IsTested}
+use Rattle.zs_reap.specs.Steps.{ReaperDecides, IsReaperCounted, IsReaperTested}
 use Rattle.zs_reap.proofs.Deciding.{lacks-some, looked-there, nothing-whole}
 use Rattle.zs_reap.proofs.looks.looked_there.Goals as goal
 
@@ -24,7 +24,7 @@ returns-then-is_empty-clause-ok c =
     let parts = c.args.parts.now in
     let phase = c.in_ok-decided.field-0.phase in
     let step = c.in_ok-decided.field-0.step in
-    let h : IsTested id ws r parts × (Decides id (viewed r ws parts) phase step ⊎ IsCounted id (viewed r ws parts) phase step) = search rules in
+    let h : IsReaperTested id ws r parts × (ReaperDecides id (viewed r ws parts) phase step ⊎ IsReaperCounted id (viewed r ws parts) phase step) = search rules in
     looked-there id r ws parts phase step c.requires.real h
 
 pub returns-clause-ok : goal.returns-clause-ok
@@ -35,5 +35,5 @@ returns-clause-ok c =
     let parts = c.args.parts.now in
     let phase = c.in_ok-count.field-0.phase in
     let step = c.in_ok-count.field-0.step in
-    let h : IsTested id ws r parts × (Decides id (viewed r ws parts) phase step ⊎ IsCounted id (viewed r ws parts) phase step) = search rules in
+    let h : IsReaperTested id ws r parts × (ReaperDecides id (viewed r ws parts) phase step ⊎ IsReaperCounted id (viewed r ws parts) phase step) = search rules in
     looked-there id r ws parts phase step c.requires.real h

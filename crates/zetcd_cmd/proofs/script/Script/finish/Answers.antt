@@ -2,7 +2,7 @@ use Rattle.std.proofs.Common.{arith, ◌≡◌, ◌<◌, [], length, List, ℕ, 
 use Rattle.std.proofs.lemmas.Grind.{common_steps}
 use Rattle.std.proofs.lemmas.Result.{on_ok_weaker, IfErr-weaker}
 use Rattle.zetcd_cmd.specs.declared.script.Stop.{Stop}
-use Rattle.zetcd_cmd.specs.Scripting.{Plays, Halts}
+use Rattle.zetcd_cmd.specs.Scripting.{Plays, ScriptHalts}
 use Rattle.zetcd_cmd.proofs.Progress.{IsApplied-whole, IsApplied-line, Ends-last}
 use Rattle.zetcd_cmd.proofs.script.Script.finish.Goals as goal
 
@@ -24,7 +24,7 @@ pub returns-clause-err : goal.returns-clause-err
 returns-clause-err c =
     let some : 0 < length c.args.self.now.pending.items = grind (arith, common_steps) in
     let is = c.as_slice.ensures.value in
-    IfErr-weaker c.apply_line.result (λ (why : Stop). Halts c.as_slice.result.now c.args.self.now.world why c.apply_line.new.world) _
+    IfErr-weaker c.apply_line.result (λ (why : Stop). ScriptHalts c.as_slice.result.now c.args.self.now.world why c.apply_line.new.world) _
     (λ why halts seen st.
-    Ends-last seen c.args.self.now _ why some (subst (λ (line : List ℕ). Halts line c.args.self.now.world why c.apply_line.new.world) is halts) refl st)
+    Ends-last seen c.args.self.now _ why some (subst (λ (line : List ℕ). ScriptHalts line c.args.self.now.world why c.apply_line.new.world) is halts) refl st)
     c.apply_line.ensures.err

@@ -2,7 +2,7 @@ use Rattle.std.proofs.Common.{◌≡◌, ◌+◌, ◌-◌, ◌++◌, ◌≤◌, 
 use Rattle.std.specs.Prelude.{sum_by}
 use Rattle.std.proofs.lemmas.List.{length-drop, take_all}
 use Rattle.zk_jute.specs.Frames.{bad_length}
-use Rattle.zk_wire.specs.Cutting.{Stands, Stream}
+use Rattle.zk_wire.specs.Cutting.{CutStands, Stream}
 use Rattle.zp_step.specs.Stages.{max_count}
 use Rattle.zp_world.specs.Framing.{framed_size}
 use Rattle.zp_world.proofs.Framing.{cuts-of, stands-short}
@@ -13,7 +13,7 @@ returns-clause-cuts c =
     let stream : List ℕ = c.extend_from_slice.new.self.items in
     let new : Stream = record { place = c.saturating_add.result; rest = c.in_ok-rest.rest.items } in
     let whole : stream ≡ c.args.self.now.rest ++ c.args.bytes.now = search rules in
-    let stands : Stands stream c.in_ok-frames.frames.items c.frames_in.new.cutter = search rules in
+    let stands : CutStands stream c.in_ok-frames.frames.items c.frames_in.new.cutter = search rules in
     let bad : c.in_ok-bad.bad ≡ bad_length c.frames_in.new.cutter.rest = search rules in
     let size : c.size_of_all.result ≡ min (sum_by framed_size c.in_ok-frames.frames.items) max_count = search rules in
     let fits : length stream ≤ max_count = search rules in
@@ -26,5 +26,5 @@ returns-clause-cuts c =
 
 pub returns-clause-short : goal.returns-clause-short
 returns-clause-short c =
-    let stands : Stands c.extend_from_slice.new.self.items c.in_ok-frames.frames.items c.frames_in.new.cutter = search rules in
+    let stands : CutStands c.extend_from_slice.new.self.items c.in_ok-frames.frames.items c.frames_in.new.cutter = search rules in
     stands-short c.extend_from_slice.new.self.items c.in_ok-frames.frames.items c.frames_in.new.cutter stands

@@ -1,5 +1,5 @@
 use Rattle.std.proofs.Common.{◌≡◌, refl, subst, true, false, inr}
-use Rattle.zp_script.specs.Worlds.{is_closed}
+use Rattle.zp_script.specs.Worlds.{is_closed_actor}
 use Rattle.zp_world.specs.Activities.{actor_of}
 use Rattle.zp_world.specs.declared.activity.Actor.{Actor}
 use Rattle.zp_world.proofs.Delivered.{failure-ends, failure-steps}
@@ -15,4 +15,4 @@ pub returns-in-Reaper : goal.returns-in-Reaper
 returns-in-Reaper c = failure-ends c.args.connection c.args.self.now c.end_reaper.new.self c.args.seat c.end_reaper.result c.args.actor c.in-Reaper._reaper c.args.flight c.in-Reaper.is c.end_reaper.ensures
 
 pub returns-in-Closed : goal.returns-in-Closed
-returns-in-Closed c = absurd (let e : true ≡ false = subst (λ (a : Actor). is_closed (actor_of a) ≡ false) c.in-Closed.is c.requires.open in cc)
+returns-in-Closed c = absurd (let e : true ≡ false = subst (λ (a : Actor). is_closed_actor (actor_of a) ≡ false) c.in-Closed.is c.requires.open in cc)

@@ -1,7 +1,7 @@
 use Rattle.std.proofs.Common.{◌≡◌, ◌-◌, ℤ, subst, sym, ap, ◌∙◌, refl, rules, arith, inr, true, w64, to_z, of_z}
 use Rattle.std.specs.Prelude.{OnOk, Some, pos, ◌+ℤ◌, int_lt, length}
 use Rattle.std.proofs.lemmas.Int.{ints}
-use Rattle.zp_script.specs.Entries.{cursor_at, is_lagging_at, max_kept}
+use Rattle.zp_script.specs.Entries.{cursor_at, is_lagging_at, max_kept_entries}
 use Rattle.zp_step.specs.declared.input.Input.TheVariants.{Lagged}
 use Rattle.zp_world.proofs.Awaiting.{awaits-next, cursor-is, cursor-wanted}
 use Rattle.zp_world.proofs.Entered.{HandsTo, lagged}
@@ -22,7 +22,7 @@ returns-in_default c = absurd (entry-cursor c.args.connection c.args.self.now (l
 pub returns : goal.returns
 returns c =
     let at : cursor_at c.args.connection c.args.self.now ≡ Some c.in-Some.cursor = sym c.cursor_of.ensures ∙ c.in-Some.is in
-    let floor : c.in-Ok.floor ≡ pos (length c.args.self.now.entries - max_kept) = grind (arith, ints) in
+    let floor : c.in-Ok.floor ≡ pos (length c.args.self.now.entries - max_kept_entries) = grind (arith, ints) in
     let same : to_z w64 (of_z w64 c.in-Some.cursor) ≡ c.in-Some.cursor = search rules in
     let fits : to_z w64 (of_z w64 c.in-Ok.floor) ≡ c.in-Ok.floor = search rules in
     lagged c.args.connection c.args.self.now c.hand.new.self c.hand.result c.in-Some.cursor c.in-Ok.floor
