@@ -21,6 +21,7 @@ use Rattle.zk_transcript.proofs.Owned.{get-owned, get-owned_as}
 use Rattle.zk_machine.specs.Entries.{order, Entries, map_of}
 use Rattle.zk_machine.specs.Groups.{Group, Families, Owners, family, group_of, owned_group, HasFamilies, HasOwners, HasFamily, HasOwner}
 use Rattle.zk_machine.proofs.EntryLaws.{entries-empty, entries-map, others, remove-map, sorted-where}
+use Rattle.zk_transcript.proofs.Owned.{owned_by-gone}
 
 -- ---- keys after a change
 
@@ -141,13 +142,6 @@ owned_by-put_out t q n id other = ext _ _ (λ r. ⊎_elim
 
 owned_by-put_other : (t : Tree) (q : Bytes) (n : Node) (id : ℤ) → get t q ≡ None → int_eq n.owner id ≡ false → owned_by (insert t q n) id ≡ owned_by t id
 owned_by-put_other t q n id none other = owned_by-put_out t q n id other ∙ remove-absent (owned_by t id) q (get-owned_as t id q None none)
-
-pub owned_by-gone : (t : Tree) (q : Bytes) (id : ℤ) → owned_by (remove t q) id ≡ remove (owned_by t id) q
-owned_by-gone t q id = ext _ _ (λ r. ⊎_elim
-    (λ (e : r ≡ q). subst (λ (x : Bytes). get (owned_by (remove t q) id) x ≡ get (remove (owned_by t id) q) x) (sym e)
-    (get-owned_as (remove t q) id q None (get-remove_same t q) ∙ sym (get-remove_same (owned_by t id) q)))
-    (λ (a : r ≢ q). get-owned_as (remove t q) id r (get t r) (get-remove_other t q r a) ∙ sym (get-owned t id r) ∙ sym (get-remove_other (owned_by t id) q r a))
-    (either r q))
 
 owned_by-gone_other : (t : Tree) (q : Bytes) (n : Node) (id : ℤ) → get t q ≡ Some n → int_eq n.owner id ≡ false → owned_by (remove t q) id ≡ owned_by t id
 owned_by-gone_other t q n id there other =

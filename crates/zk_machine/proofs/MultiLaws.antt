@@ -4,8 +4,8 @@ use Rattle.std.proofs.lemmas.List.{take_all}
 use Rattle.zk_model.specs.declared.node.Trigger.{Trigger}
 use Rattle.zk_model.specs.declared.reply.PartResult.{PartResult}
 use Rattle.zk_model.specs.declared.request.Part.{Part}
-use Rattle.zk_model.specs.Multi.{data_len, Parts, Stopped, parts_of, then_parts, touched_by}
-use Rattle.zk_model.specs.Single.{Outcome, Refused, Done, single}
+use Rattle.zk_model.specs.Multi.{data_len}
+use Rattle.zk_model.specs.Single.{Outcome, Done, single}
 use Rattle.zk_model.specs.Znodes.{Tree}
 use Rattle.zk_machine.specs.Faults.{IsWithin, After, StaysWithin}
 use Rattle.zk_model.specs.Limits.{max_frame}
@@ -13,13 +13,6 @@ use Rattle.zk_model.specs.Limits.{max_frame}
 pub first_and_rest : {A : Type 0} (xs : List A) (x : A) → 1 ≤ length xs → x ≡ get_or xs 0 x → xs ≡ x ∷ drop 1 xs
 first_and_rest [] x h e = absurd (omega arith)
 first_and_rest (y ∷ ys) x h e = ap (λ z. z ∷ ys) (sym e)
-
-pub parts_of-done : (t u : Tree) (limit : ℕ) (session : ℤ) (p : Part) (ps : List Part) (zxid : ℤ) (now : ℕ) (r : PartResult) (g : List Trigger)
-    → single t limit session p zxid now ≡ Done r u g
-    → parts_of t limit session (p ∷ ps) zxid now ≡ then_parts r g (touched_by t session p) (parts_of u limit session ps zxid now)
-unfolding parts_of
-parts_of-done t u limit session p ps zxid now r g e =
-    ap (λ (o : Outcome). elim o as (λ x. Parts) [ Refused code ↦ Stopped 0 code | Done r u g ↦ then_parts r g (touched_by t session p) (parts_of u limit session ps zxid now) ]) e
 
 pub rest_all : {A : Type 0} (xs : List A) → take (length xs - 1) (drop 1 xs) ≡ drop 1 xs
 rest_all [] = refl

@@ -10,7 +10,6 @@ use Rattle.zk_machine.specs.declared.multi.Parts.{Parts as Chain}
 use Rattle.zk_machine.specs.declared.multi.Parts.TheVariants as chain
 use Rattle.zk_machine.specs.declared.multi.Transaction.{Transaction}
 use Rattle.zk_machine.specs.declared.multi.Transaction.TheVariants as answers
-use Rattle.zk_model.specs.Limits.{max_load}
 use Rattle.zk_model.specs.Znodes.{Tree}
 use Rattle.zk_machine.specs.Edits.{edited_if}
 use Rattle.zk_machine.specs.Writes.{written_all}
@@ -33,10 +32,6 @@ parts_as t (chain.Passed results writes triggers touched) = Passed results.items
 abbrev pub IsPlacedBelow : Chain → ℕ → Type 0
 IsPlacedBelow (chain.Stopped place code) n = place < n
 IsPlacedBelow (chain.Passed results writes triggers touched) n = ⊤
-
--- a load, or None where it is above the most
-abbrev pub within : ℕ → Option ℕ
-within n = if nat_le n max_load then Some n else None
 
 abbrev pub several_as : Tree → Transaction → Several
 several_as t (answers.Denied code) = Denied code

@@ -29,7 +29,7 @@ pub use create::{begin, is_create_mode, is_open_acl, is_sequential};
 pub use edit::Edit;
 pub use fault::Fault;
 pub use laws::{parts_fit, sound_trees_fit};
-pub use multi::{Transaction, data_load, distinct, path_load, row_of, several};
+pub use multi::{Transaction, several};
 pub use outcome::Outcome;
 pub use requests::read_path;
 pub use stats::stat;

@@ -1,13 +1,13 @@
 //! Several requests as one transaction (`multi` of the ZooKeeper API).
 
-ghost use Rattle.std.specs.Prelude.{◌≡◌, ◌∷◌, [], ◌+◌, ◌++◌, ◌<◌, ℕ, length, nat_lt, replicate, sum_by, IfOk, IfErr};
+ghost use Rattle.std.specs.Prelude.{◌≡◌, ◌∷◌, [], ◌+◌, ◌++◌, ◌<◌, ℕ, length, nat_lt, sum_by, IfOk, IfErr};
 ghost use Rattle.std.specs.FinMap.{get};
 ghost use Rattle.std.specs.Option.{option_to_list};
-ghost use Rattle.zk_model.specs.declared.reply.PartResult.TheVariants.{Code};
-ghost use Rattle.zk_model.specs.Multi.{data_len, distinct, load, row_of, several, parts_of, then_parts, touched_by, owner_list};
+ghost use Rattle.zk_model.specs.Multi.{load, several, parts_of, then_parts, touched_by, owner_list};
 ghost use Rattle.zk_model.specs.Znodes.{Tree as Nodes, owned};
 ghost use Rattle.zk_machine.specs.Faults.{BeyondUnless, StaysWithin};
-ghost use Rattle.zk_machine.specs.Outcomes.{parts_as, IsPlacedBelow, several_as, within};
+ghost use Rattle.zk_machine.specs.Outcomes.{parts_as, IsPlacedBelow, several_as};
+ghost use Rattle.zk_model.specs.Loads.{within};
 ghost use Rattle.zk_machine.specs.Writes.{AreTold, written_all};
 ghost use Rattle.zk_model.specs.Limits.{max_load};
 
@@ -21,10 +21,9 @@ use crate::tree::Tree;
 use crate::turn::Turn;
 use crate::write::Write;
 use std::alloc::Global;
-use std::collections::BTreeSet;
-use zk_model::code::{BAD_ARGUMENTS, OK, RUNTIME_INCONSISTENCY};
-use zk_model::limit::MAX_LOAD;
-use zk_model::{Part, PartResult, Path, Trigger};
+use zk_model::code::BAD_ARGUMENTS;
+use zk_model::load::{data_load, distinct, joined, listed, path_load, row_of};
+use zk_model::{Part, PartResult, Trigger};
 use zx_base::{Memory, Seq};
 
 /// What the parts make of the tree in turn.
@@ -63,24 +62,6 @@ fn touched_by(tree: &Draft, session: i64, part: &Part) -> Option<i64>
         Part::Delete { path, .. } => owner(tree, path.as_slice()),
         _ => None,
     }
-}
-
-/// Some items followed by others.
-fn joined<T: Drop>(first: Vec<T>, rest: Vec<T>) -> Result<Vec<T>, Memory>
-    ensures { IfOk result (λ v. v.items ≡ first.items ++ rest.items) }
-{
-    let mut all = first;
-    let mut more = rest;
-    all.append(&mut more)?;
-    Ok(all)
-}
-
-fn listed<T: Drop>(alloc: Global, item: T) -> Result<Vec<T>, Memory>
-    ensures { IfOk result (λ v. v.items ≡ item ∷ []) }
-{
-    let mut items = Vec::new(alloc);
-    items.push(item)?;
-    Ok(items)
 }
 
 fn listed_if(alloc: Global, item: Option<i64>) -> Result<Vec<i64>, Memory>
@@ -160,60 +141,6 @@ fn parts_of(
     }
 }
 
-/// A sum and some more, or `None` above 1,000,000.
-fn add_within(sum: Option<usize>, more: usize) -> Option<usize>
-    ensures { (n : ℕ) → sum ≡ within n → result ≡ within (n + more) }
-{
-    match sum {
-        Some(sum) if more <= MAX_LOAD && sum <= MAX_LOAD - more => Some(sum + more),
-        _ => None,
-    }
-}
-
-/// How many bytes of data a part has.
-fn data_len(part: &Part) -> usize
-    ensures { result ≡ data_len part.now }
-{
-    match part {
-        Part::Create { content, .. } => content.len(),
-        Part::SetData { content, .. } => content.len(),
-        _ => 0,
-    }
-}
-
-/// How many bytes of data all parts have together, or `None` above 1,000,000.
-pub fn data_load(parts: &[Part]) -> Option<usize>
-    ensures { result ≡ within (sum_by data_len parts.now) }
-{
-    let mut sum = Some(0);
-    for part in parts {
-        sum = add_within(sum, data_len(part));
-    }
-    sum
-}
-
-/// How many bytes these paths have, added to a sum, or `None` above 1,000,000.
-pub fn path_load(paths: &[Path], before: Option<usize>) -> Option<usize>
-    ensures { (n : ℕ) → before ≡ within n → result ≡ within (n + sum_by length paths.now) }
-{
-    let mut sum = before;
-    for path in paths {
-        sum = add_within(sum, path.bytes().len());
-    }
-    sum
-}
-
-/// Each session once, in the order of their numbers.
-pub fn distinct(alloc: Global, sessions: &[i64]) -> Result<Vec<i64>, Memory>
-    ensures { IfOk result (λ v. v.items ≡ distinct sessions.now) }
-{
-    let mut once = BTreeSet::new(alloc);
-    for session in sessions {
-        once.insert(*session)?;
-    }
-    Ok(once.iter().copied().collect(alloc)?)
-}
-
 /// How many bytes the paths of these sessions' nodes have, added to a sum, or `None` above 1,000,000.
 fn owned_load(
     alloc: Global,
@@ -237,29 +164,6 @@ fn exceeds(alloc: Global, tree: &Tree, parts: &[Part], touched: &[i64]) -> Resul
 {
     let sessions = distinct(alloc, touched)?;
     Ok(owned_load(alloc, tree, &sessions, data_load(parts))?.is_none())
-}
-
-/// A row of `len` times the same code.
-fn codes(alloc: Global, len: usize, code: i32) -> Result<Vec<PartResult>, Memory>
-    ensures { IfOk result (λ v. v.items ≡ replicate len (Code code)) }
-{
-    let mut row = Vec::new(alloc);
-    for _ in 0..len {
-        row.push(PartResult::Code(code))?;
-    }
-    Ok(row)
-}
-
-/// The codes of a transaction's `len` parts where the one at `place` is refused with `code`: 0 for each part before it,
-/// `RUNTIMEINCONSISTENCY` for each after it (`KeeperException.Code`).
-pub fn row_of(alloc: Global, len: usize, place: usize, code: i32) -> Result<Vec<PartResult>, Memory>
-    requires { place < len }
-    ensures { IfOk result (λ row. row.items ≡ row_of len place code) }
-{
-    let earlier = codes(alloc, place, OK)?;
-    let refused = listed(alloc, PartResult::Code(code))?;
-    let later = codes(alloc, len - place - 1, RUNTIME_INCONSISTENCY)?;
-    Ok(joined(earlier, joined(refused, later)?)?)
 }
 
 /// What comes of a multi.

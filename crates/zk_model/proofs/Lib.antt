@@ -5,3 +5,4 @@ pub mod SequencePaths
 pub mod SequenceParents
 pub mod ValidPaths
 pub mod PathSets
+pub mod PartLaws

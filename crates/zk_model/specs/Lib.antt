@@ -6,5 +6,6 @@ pub mod Codes
 pub mod Znodes
 pub mod Single
 pub mod Multi
+pub mod Loads
 pub mod Watches
 pub mod PathSets

@@ -11,6 +11,7 @@
 pub mod code;
 mod connect;
 pub mod limit;
+pub mod load;
 mod node;
 mod path;
 mod reply;

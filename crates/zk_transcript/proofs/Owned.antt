@@ -112,3 +112,10 @@ num_owned-gone t k id =
     let is = num_owned (remove t k) id ∙ ap len (own-gone t k id) ∙ len-remove nat_list_cmp_total (owned_by t id) k in
     let was = num_owned t id in
     omega (arith, is, was, fewer (contains_key (owned_by t id) k) (len (owned_by t id)))
+
+pub owned_by-gone : (t : Tree) (q : Bytes) (id : ℤ) → owned_by (remove t q) id ≡ remove (owned_by t id) q
+owned_by-gone t q id = ext _ _ (λ r. ⊎_elim
+    (λ (e : r ≡ q). subst (λ (x : Bytes). get (owned_by (remove t q) id) x ≡ get (remove (owned_by t id) q) x) (sym e)
+    (get-owned_as (remove t q) id q None (get-remove_same t q) ∙ sym (get-remove_same (owned_by t id) q)))
+    (λ (a : r ≢ q). get-owned_as (remove t q) id r (get t r) (get-remove_other t q r a) ∙ sym (get-owned t id r) ∙ sym (get-remove_other (owned_by t id) q r a))
+    (either r q))

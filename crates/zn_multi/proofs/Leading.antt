@@ -36,7 +36,7 @@ use Rattle.zk_model.specs.Codes.{bad_arguments}
 use Rattle.zk_model.specs.Limits.{max_frame}
 use Rattle.zk_model.specs.Multi.{owner_list}
 use Rattle.zk_model.specs.Single.{effect, form_refusal, is_ephemeral, unless_refused}
-use Rattle.zk_machine.proofs.MultiLaws.{parts_of-done}
+use Rattle.zk_model.proofs.PartLaws.{parts_of-done}
 use Rattle.zx_base.specs.Maps.{Bytes}
 use Rattle.zn_layout.specs.Keys.{DataKey, CountsKey, SessionKey, LeaseKey}
 use Rattle.zn_view.specs.Lookups.{HasSeen, sees}

@@ -21,7 +21,7 @@ use Rattle.zk_transcript.proofs.Children.{create_count_other, create_count_paren
 use Rattle.zk_transcript.proofs.Owned.{get-owned_as, num_owned, num_owned-change, num_owned-new, num_owned-new_other}
 use Rattle.zk_transcript.proofs.SoundEffects.{Leads}
 use Rattle.zk_transcript.proofs.SoundTrees.{Each, each-gone, each-put}
-use Rattle.zk_machine.proofs.GroupLaws.{owned_by-gone}
+use Rattle.zk_transcript.proofs.Owned.{owned_by-gone}
 use Rattle.zn_layout.specs.declared.record.CountRec.{CountRec}
 use Rattle.zn_layout.specs.Begin.{first_counts}
 use Rattle.zn_layout.specs.Keys.{CountsKey, key_bytes}

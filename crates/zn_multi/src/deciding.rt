@@ -22,7 +22,7 @@ use std::alloc::Global;
 use zk_model::code::BAD_ARGUMENTS;
 use zk_model::limit::MAX_PARTS;
 use zk_model::{Body, Part, Reply};
-use zk_machine::row_of;
+use zk_model::load::row_of;
 use zn_layout::HeadRec;
 use zn_ops::attached_at;
 use zn_updates::success;

@@ -4,12 +4,12 @@
 ghost use Rattle.std.specs.Prelude.{◌≡◌, ◌+◌, ℕ, nat_lt, sum_by, IfOk};
 ghost use Rattle.zk_model.specs.Limits.{max_load};
 ghost use Rattle.zk_model.specs.Multi.{data_len, distinct as distinct_of};
-ghost use Rattle.zk_machine.specs.Outcomes.{within};
+ghost use Rattle.zk_model.specs.Loads.{within};
 ghost use Rattle.zn_multi.specs.Deciding.{AreOwnedLoads, IsOwnedLoad};
 
 use std::alloc::Global;
 use zk_model::Part;
-use zk_machine::{data_load, distinct, path_load};
+use zk_model::load::{data_load, distinct, path_load};
 use zn_updates::paths_over;
 use zn_view::View;
 use zx_base::Memory;

@@ -3,7 +3,7 @@
 ghost use Rattle.std.specs.Prelude.{◌≡◌, ◌≤ℤ◌, pos, true, false, IfOk, OnErr, ◌<◌, ◌^◌};
 ghost use Rattle.zp_step.specs.Stages.{is_shut, new_core, wants_of};
 ghost use Rattle.zp_step.specs.Steps.{IsFit, MayTake, Steps, StepsOpen};
-ghost use Rattle.zp_script.specs.Kinds.{kind_in_stage};
+ghost use Rattle.zp_step.specs.Kinds.{kind_in_stage};
 ghost use Rattle.zp_core.specs.Held.{IsHeld};
 ghost use Rattle.zp_core.specs.Meanings.{Leads, core_of, stage_of};
 

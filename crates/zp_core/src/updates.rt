@@ -1,7 +1,7 @@
 //! Which update the ask that is out is.
 
 ghost use Rattle.std.specs.Prelude.{◌≡◌};
-ghost use Rattle.zp_script.specs.Kinds.{kind_in_stage, kind_of_connect, kind_of_request};
+ghost use Rattle.zp_step.specs.Kinds.{kind_in_stage, kind_of_connect, kind_of_request};
 ghost use Rattle.zp_core.specs.Meanings.{core_of, stage_of};
 
 use crate::client::Client;

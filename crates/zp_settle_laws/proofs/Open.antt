@@ -37,7 +37,8 @@ use Rattle.zp_script.specs.Entries.{next_entry}
 use Rattle.zp_script.specs.Faults.{flight_at}
 use Rattle.zp_script.specs.Handing.{AnswerComes, AnswerComesTo, FailureComes, FailureComesTo, Handed}
 use Rattle.zp_script.specs.Happens.{Settles, flight_line, settling, settling_conn}
-use Rattle.zp_script.specs.Kinds.{kind_asked, kind_in_stage, kind_of_request}
+use Rattle.zp_script.specs.Kinds.{kind_asked}
+use Rattle.zp_step.specs.Kinds.{kind_in_stage, kind_of_request}
 use Rattle.zp_script.specs.StepOutcomes.{StepOutcome, acts, acts_all, quiet}
 use Rattle.zp_script.specs.Worlds.{Closed, Conn, Connection, World, after_step, conn_at, is_closed_actor, with_conn, zxid_at}
 use Rattle.zp_script.specs.declared.flight.Asking.{Asking}

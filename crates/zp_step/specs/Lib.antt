@@ -1,4 +1,5 @@
 pub mod Stages
+pub mod Kinds
 pub mod Kept
 pub mod Replies
 pub mod Looking

@@ -9,7 +9,7 @@ use Rattle.zs_session.specs.declared.connect.Connect.{Connect}
 use Rattle.zs_session.specs.declared.connect.Phase.{Phase}
 use Rattle.zs_session.specs.declared.connect.Phase.TheVariants.{Unasked, Looking, Granting, Creating, Keeping, LookingAgain, Attaching, Over}
 use Rattle.zp_core.specs.Held.{IsHeld, IsHeldIn, IsServing}
-use Rattle.zp_script.specs.Kinds.{kind_in_stage, kind_of_connect, kind_of_request}
+use Rattle.zp_step.specs.Kinds.{kind_in_stage, kind_of_connect, kind_of_request}
 use Rattle.zp_step.specs.Stages.{Core, Stage, Unconnected, Connecting, Ready, KeepingAlive, Checking, Reading, Committing, Waiting, Shut, is_shut}
 use Rattle.zx_base.proofs.Options.{none_some, some_is}
 use Rattle.zp_world.specs.Flying.{HasSession}

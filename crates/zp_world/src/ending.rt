@@ -7,7 +7,8 @@ ghost use Rattle.zk_transcript.specs.declared.transcript.Cause.TheVariants as ca
 ghost use Rattle.zk_transcript.specs.declared.transcript.TranscriptLine.TheVariants.{Close as CloseLine};
 ghost use Rattle.zp_script.specs.Arriving.{frame_lines};
 ghost use Rattle.zp_script.specs.Effects.{restarted};
-ghost use Rattle.zp_script.specs.Kinds.{kind_asked, kind_in_stage};
+ghost use Rattle.zp_script.specs.Kinds.{kind_asked};
+ghost use Rattle.zp_step.specs.Kinds.{kind_in_stage};
 ghost use Rattle.zp_script.specs.StepOutcomes.{acts, acts_all, ended_by, leaves, left_by, quiet};
 ghost use Rattle.zp_script.specs.Worlds.{Closed, Conn, Connection as AConnection, after_step, conn_at, with_conn};
 ghost use Rattle.zp_step.specs.Stages.{is_shut};

@@ -18,7 +18,8 @@ use Rattle.zk_transcript.specs.declared.transcript.TranscriptLine.TheVariants.{F
 use Rattle.zk_transcript.specs.declared.transcript.TranscriptLine.{TranscriptLine}
 use Rattle.zp_script.specs.Arriving.{frame_lines, shown_frame}
 use Rattle.zp_script.specs.Handing.{Handed}
-use Rattle.zp_script.specs.Kinds.{kind_asked, kind_in_stage}
+use Rattle.zp_script.specs.Kinds.{kind_asked}
+use Rattle.zp_step.specs.Kinds.{kind_in_stage}
 use Rattle.zp_script.specs.StepOutcomes.{acts_all, leaves, quiet}
 use Rattle.zp_script.specs.Worlds.{Closed, Conn, Connection, World, after_step, conn_at, is_closed_actor, with_conn, zxid_at}
 use Rattle.zp_script.specs.declared.flight.Asking.{Asking}

@@ -20,7 +20,7 @@ use Rattle.zp_step.specs.Stages.{Core, Stage, Unconnected, Connecting, Ready, Ke
 use Rattle.zp_laws.specs.Frames.{IsAtWork, is_served}
 use Rattle.zp_laws.specs.Standing.{Knows, is_ahead}
 use Rattle.zp_laws.specs.Walking.{IsAheadIn}
-use Rattle.zp_script.specs.Kinds.{kind_in_stage, kind_of_request}
+use Rattle.zp_step.specs.Kinds.{kind_in_stage, kind_of_request}
 use Rattle.zx_base.proofs.Options.{none_some, some_is}
 use Rattle.zp_world_laws.proofs.Executing.{kind-same}
 use Rattle.zp_world_laws.specs.Bounds.{IsBound, IsBoundAs, IsBoundAsk, IsBoundRequest, attachment}

@@ -32,7 +32,7 @@ use Rattle.zk_transcript.specs.declared.transcript.UpdateKind.{UpdateKind}
 use Rattle.zn_layout.specs.StandsFor.{StandsFor}
 use Rattle.zn_layout.specs.declared.record.LeaseRec.{LeaseRec}
 use Rattle.zn_view.specs.Asks.{ranges_of}
-use Rattle.zp_script.specs.Kinds.{kind_of_connect}
+use Rattle.zp_step.specs.Kinds.{kind_of_connect}
 use Rattle.zp_script.specs.declared.flight.Asking.{Asking}
 use Rattle.zp_script.specs.declared.flight.Flight.TheVariants.{Carried, Denied, Out}
 use Rattle.zp_laws.proofs.Attached.{first-there}

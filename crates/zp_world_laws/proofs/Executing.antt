@@ -40,7 +40,7 @@ use Rattle.zp_laws.proofs.Growing.{moment-push, past-push, stands-push}
 use Rattle.zp_laws.specs.Frames.{IsAtWork, is_served}
 use Rattle.zp_laws.specs.Inputs.{IsOfEarlierIn, IsOwn, IsOwnLine, IsTrueAnswer, Precedes, StoodAt, is_first, kind_for}
 use Rattle.zp_laws.specs.Standing.{IsMoment, IsPastFrame, Knows, Stands, has_looked, is_ahead}
-use Rattle.zp_script.specs.Kinds.{kind_in_stage, kind_of_request}
+use Rattle.zp_step.specs.Kinds.{kind_in_stage, kind_of_request}
 use Rattle.zp_script.specs.declared.flight.Asking.{Asking}
 use Rattle.zp_script.specs.declared.flight.Flight.{Flight}
 use Rattle.zp_script.specs.declared.flight.Flight.TheVariants.{Out, Carried}

@@ -23,7 +23,8 @@ use Rattle.zk_transcript.specs.declared.transcript.TranscriptLine.{TranscriptLin
 use Rattle.zk_transcript.specs.declared.transcript.UpdateKind.{UpdateKind}
 use Rattle.zn_view.specs.declared.plan.Who.{Who}
 use Rattle.zp_script.specs.Handing.{Handed}
-use Rattle.zp_script.specs.Kinds.{kind_asked, kind_of_connect}
+use Rattle.zp_script.specs.Kinds.{kind_asked}
+use Rattle.zp_step.specs.Kinds.{kind_of_connect}
 use Rattle.zp_script.specs.StepOutcomes.{StepOutcome, acts_all, ends, leaves, left_by, quiet}
 use Rattle.zp_script.specs.Worlds.{Closed, Conn, Connection, World, after_step, is_closed_actor, with_conn}
 use Rattle.zp_script.specs.declared.flight.Asking.{Asking}

@@ -16,7 +16,8 @@ use Rattle.zk_transcript.specs.declared.transcript.TranscriptLine.TheVariants.{C
 use Rattle.zk_transcript.specs.declared.transcript.TranscriptLine.{TranscriptLine}
 use Rattle.zn_view.specs.declared.plan.Who.{Who}
 use Rattle.zp_script.specs.Handing.{Handed}
-use Rattle.zp_script.specs.Kinds.{kind_asked, kind_in_stage}
+use Rattle.zp_script.specs.Kinds.{kind_asked}
+use Rattle.zp_step.specs.Kinds.{kind_in_stage}
 use Rattle.zp_script.specs.StepOutcomes.{ends, leaves, left_by, quiet}
 use Rattle.zp_script.specs.Worlds.{Actor, Closed, Conn, Connection, World, after_step, is_closed_actor, with_conn}
 use Rattle.zp_script.specs.declared.flight.Asking.{Asking}

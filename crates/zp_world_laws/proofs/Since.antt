@@ -35,7 +35,8 @@ use Rattle.zp_script.specs.Entries.{cursor_at, next_entry}
 use Rattle.zp_script.specs.Faults.{fault, flight_at}
 use Rattle.zp_script.specs.Handing.{AnswerComesTo, FailureComesTo, Handed, Reaps, landed, landed_conn}
 use Rattle.zp_script.specs.Happens.{Settles, settling}
-use Rattle.zp_script.specs.Kinds.{kind_in_stage, kind_of_connect, kind_of_reap, kind_of_request}
+use Rattle.zp_step.specs.Kinds.{kind_in_stage, kind_of_connect, kind_of_request}
+use Rattle.zp_script.specs.Kinds.{kind_of_reap}
 use Rattle.zp_script.specs.StepOutcomes.{StepOutcome, ended_by, ends, leaves, left_by, reap_acts}
 use Rattle.zp_script.specs.Worlds.{Actor, Closed, Conn, Connection, Reaper, World, after_reap, after_step, conn_at, is_open_conn, with_conn, zxid_at}
 use Rattle.zp_script.specs.declared.flight.Asking.{Asking}

@@ -17,7 +17,7 @@ use Rattle.zk_transcript.specs.declared.transcript.UpdateRec.{UpdateRec}
 use Rattle.zn_layout.specs.Records.{IsLeaseRec}
 use Rattle.zn_layout.specs.StandsFor.{StandsFor}
 use Rattle.zn_layout.specs.declared.record.LeaseRec.{LeaseRec}
-use Rattle.zp_script.specs.Kinds.{kind_of_connect}
+use Rattle.zp_step.specs.Kinds.{kind_of_connect}
 use Rattle.zp_script.specs.declared.flight.Asking.{Asking}
 use Rattle.zp_script.specs.declared.flight.Flight.TheVariants.{Carried, Denied, Out}
 use Rattle.zp_script.specs.declared.flight.Flight.{Flight}

@@ -14,7 +14,7 @@ use Rattle.zp_laws.specs.Standing.{IsFreshLook, Stands, is_ahead}
 use Rattle.zp_script.specs.declared.flight.Asking.{Asking}
 use Rattle.zp_script.specs.declared.flight.Flight.{Flight}
 use Rattle.zp_script.specs.declared.flight.Flight.TheVariants.{Out, Carried, Denied}
-use Rattle.zp_script.specs.Kinds.{kind_in_stage}
+use Rattle.zp_step.specs.Kinds.{kind_in_stage}
 use Rattle.zp_script.specs.Worlds.{Conn, Connection, World, conn_at, is_closed_actor}
 use Rattle.zp_world_laws.specs.Bounds.{attachment}
 use Rattle.zp_world_laws.specs.Holding.{Holds, Left, Talks, air, asker_in}

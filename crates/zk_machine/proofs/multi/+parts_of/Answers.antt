@@ -12,7 +12,8 @@ use Rattle.zk_machine.specs.Outcomes.{parts_as, outcome_of}
 use Rattle.zk_machine.specs.Faults.{BeyondUnless, IsWithin, StaysWithin}
 use Rattle.zk_machine.specs.Writes.{AreTold, written_all}
 use Rattle.zk_machine.proofs.FaultLaws.{beyond-weaker}
-use Rattle.zk_machine.proofs.MultiLaws.{first_and_rest, rest_all, parts_of-done, stays-first, stays-rest}
+use Rattle.zk_machine.proofs.MultiLaws.{first_and_rest, rest_all, stays-first, stays-rest}
+use Rattle.zk_model.proofs.PartLaws.{parts_of-done}
 use Rattle.zk_machine.proofs.multi.+parts_of.Goals as goal
 
 pub after-requires : goal.after-requires

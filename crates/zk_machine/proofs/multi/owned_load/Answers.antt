@@ -4,7 +4,7 @@ use Rattle.std.proofs.lemmas.List.{take_more}
 use Rattle.std.proofs.lemmas.List.Sums.{sum_by-append}
 use Rattle.std.specs.Prelude.{sum_by}
 use Rattle.zk_model.specs.Znodes.{owned}
-use Rattle.zk_machine.specs.Outcomes.{within}
+use Rattle.zk_model.specs.Loads.{within}
 use Rattle.zk_machine.proofs.multi.owned_load.Goals as goal
 
 pub loop-session-preserved : goal.loop-session-preserved

@@ -1,7 +1,7 @@
 use Rattle.std.proofs.Common.{◌≡◌, ℕ, ◌+◌, take, length}
 use Rattle.std.specs.Prelude.{sum_by}
 use Rattle.zk_model.specs.Znodes.{owned}
-use Rattle.zk_machine.specs.Outcomes.{within}
+use Rattle.zk_model.specs.Loads.{within}
 use Rattle.zk_machine.proofs.multi.owned_load.Given as goal
 
 abbrev pub invariant-loop-session : goal.invariant-loop-session

@@ -3,7 +3,7 @@ use Rattle.std.specs.Prelude.{sum_by}
 use Rattle.std.proofs.lemmas.Int.{to_z-of_z}
 use mir.Val.{SFits}
 use Rattle.zk_model.specs.Multi.{data_len}
-use Rattle.zk_machine.specs.Outcomes.{within}
+use Rattle.zk_model.specs.Loads.{within}
 use Rattle.zn_multi.specs.Deciding.{IsOwnedLoad}
 use Rattle.zn_multi.proofs.Loads.{loads_push}
 use Rattle.zn_multi.proofs.load.exceeds.Goals as goal

@@ -2,7 +2,7 @@
 use Rattle.std.proofs.Common.{◌≡◌, ℕ, ◌+◌}
 use Rattle.std.specs.Prelude.{sum_by}
 use Rattle.zk_model.specs.Multi.{data_len}
-use Rattle.zk_machine.specs.Outcomes.{within}
+use Rattle.zk_model.specs.Loads.{within}
 use Rattle.zn_multi.specs.Deciding.{AreOwnedLoads}
 use Rattle.zn_multi.proofs.load.exceeds.Given as goal
 

@@ -2,7 +2,7 @@ use Rattle.std.proofs.Common.{◌≡◌, ℤ, ◌+◌, List, length, refl, subst
 use Rattle.std.specs.Prelude.{Option, Some, sum_by}
 use Rattle.std.proofs.lemmas.Int.{to_z-of_z}
 use mir.Val.{SFits}
-use Rattle.zk_machine.specs.Outcomes.{within}
+use Rattle.zk_model.specs.Loads.{within}
 use Rattle.zn_view.specs.Seen.{View}
 use Rattle.zx_base.specs.Maps.{Bytes}
 use Rattle.zn_updates.specs.Layers.{layered}
