@@ -16,8 +16,8 @@ use std::process::ExitCode;
 use std::rt::Files;
 use std::{env, fs};
 use zk_judge::{Verdict, judge};
-use zt_lines::{TranscriptFault, read_transcript};
 use zk_transcript::TranscriptLine;
+use zt_lines::{TranscriptFault, read_transcript};
 use zx_base::Memory;
 
 /// Looks in the folder that the first argument names, or in the present one without one.

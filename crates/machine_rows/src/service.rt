@@ -7,8 +7,8 @@ use std::alloc::Global;
 use std::mem;
 use zk_answers::{Told, Watches, plain_request, tree_reply};
 use zk_history::{Applied, Commit, Past, Session, State, apply, commit};
-use zk_model::{ConnectRequest, Reply, Request};
 use zk_machine::{Fault, Turn, begin};
+use zk_model::{ConnectRequest, Reply, Request};
 use zk_transcript::{TranscriptLine, UpdateKind, UpdateRec};
 use zx_base::{Bytes, Memory, Seq};
 

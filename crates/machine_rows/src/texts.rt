@@ -4,8 +4,8 @@ use row_files::{Piece, joined, push, push_number, push_word, word_of};
 use row_words::trigger_word;
 use std::alloc::Global;
 use zk_history::Session;
-use zk_model::{Body, PartResult, Reply, Stat, Trigger};
 use zk_machine::Tree;
+use zk_model::{Body, PartResult, Reply, Stat, Trigger};
 use zx_base::{Memory, Text};
 
 /// A reply: a refusal's code, or what the body shows.

@@ -14,10 +14,10 @@ ghost use Rattle.zk_answers.specs.Outcomes.{told_of};
 use crate::told::{Told, good, refused};
 use crate::watches::Watches;
 use std::alloc::Global;
+use zk_machine::{is_create_mode, is_open_acl, is_sequential, read_path};
 use zk_model::code::{AUTH_FAILED, BAD_ARGUMENTS, INVALID_ACL};
 use zk_model::limit::MAX_PARTS;
 use zk_model::{Acl, Body, Request};
-use zk_machine::{is_create_mode, is_open_acl, is_sequential, read_path};
 use zx_base::Memory;
 
 fn path_refusal(alloc: Global, text: &[u8]) -> Result<Option<i32>, Memory>

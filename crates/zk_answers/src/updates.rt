@@ -15,8 +15,11 @@ use crate::rearm::set_watches;
 use crate::told::{Told, good, refused};
 use crate::watches::{Seen, Watches};
 use std::alloc::Global;
+use zk_machine::{
+    Fault, Outcome, Transaction, Tree, Turn, several, single_check, single_create, single_delete,
+    single_set_data,
+};
 use zk_model::{Body, Reply, Request};
-use zk_machine::{Fault, Outcome, Transaction, Tree, Turn, several, single_check, single_create, single_delete, single_set_data};
 use zx_base::{Memory, Text};
 
 /// The refusal of an update; one that succeeds is not answered here, but by what it commits.

@@ -12,8 +12,8 @@ use crate::lines::{Applied, apply};
 use crate::past::{Past, line_at};
 use crate::state::State;
 use std::alloc::Global;
-use zk_model::Body;
 use zk_machine::Fault;
+use zk_model::Body;
 use zk_transcript::TranscriptLine;
 
 /// A moment of a transcript, which is a place between two lines, and the state at it. It moves on without going over the earlier

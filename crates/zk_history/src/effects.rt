@@ -14,8 +14,8 @@ ghost use Rattle.zk_history.specs.Fits.{AllFit};
 use crate::cursor::Cursor;
 use crate::past::update_zxid;
 use std::alloc::Global;
-use zk_model::{Body, Trigger};
 use zk_machine::Fault;
+use zk_model::{Body, Trigger};
 use zk_transcript::TranscriptLine;
 use zx_base::{Memory, Seq};
 

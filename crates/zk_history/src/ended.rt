@@ -8,8 +8,8 @@ ghost use Rattle.zk_history.specs.Fits.{IsCountable};
 
 use crate::state::State;
 use std::alloc::Global;
-use zk_model::{Path, Trigger};
 use zk_machine::{Fault, Tree};
+use zk_model::{Path, Trigger};
 use zx_base::{Memory, Seq};
 
 /// The tree without these nodes, removed one by one at one zxid.

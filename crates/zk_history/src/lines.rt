@@ -15,9 +15,9 @@ use crate::requests::commit;
 use crate::session::Session;
 use crate::state::State;
 use std::alloc::Global;
+use zk_machine::{Fault, Turn, begin};
 use zk_model::Body;
 use zk_model::limit::MAX_OWNED;
-use zk_machine::{Fault, Turn, begin};
 use zk_transcript::{TranscriptLine, UpdateKind, UpdateRec};
 use zx_base::{Memory, Seq};
 

@@ -4,8 +4,8 @@ ghost use Rattle.std.specs.Prelude.{◌≡◌, IfOk};
 ghost use Rattle.zk_history.specs.Commits.{changed};
 
 use std::alloc::Global;
-use zk_model::{Body, Trigger};
 use zk_machine::{Edit, Tree, Write};
+use zk_model::{Body, Trigger};
 use zx_base::{Memory, Seq};
 
 /// What a request changes of a tree.

@@ -12,8 +12,8 @@ ghost use Rattle.zk_history.specs.Fits.{PartFits, RequestFits};
 
 use crate::outcome::{Change, Commit};
 use std::alloc::Global;
-use zk_model::{Body, Part, PartResult, Request};
 use zk_machine::{Fault, Outcome, Transaction, Tree, Turn, several, single};
+use zk_model::{Body, Part, PartResult, Request};
 
 fn response_of(outcome: PartResult) -> Body
     ensures { result ≡ response_of outcome }

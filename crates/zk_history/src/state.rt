@@ -12,8 +12,8 @@ use crate::session::Session;
 use crate::sessions::Sessions;
 use std::alloc::Global;
 use std::marker::Model;
-use zk_model::{Path, Trigger};
 use zk_machine::{Fault, Tree};
+use zk_model::{Path, Trigger};
 use zx_base::{Memory, Seq};
 
 /// The state of the service: its tree, its open sessions, and of the last update the zxid, the number and what watches see.

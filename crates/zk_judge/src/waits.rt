@@ -197,7 +197,9 @@ fn try_only(alloc: Global, index: &Index, state: &State, wait: Wait) -> Result<W
         state,
         wait.party,
         wait.walker,
-        index.packets_of(wait.party.connection).rest_after(wait.taken),
+        index
+            .packets_of(wait.party.connection)
+            .rest_after(wait.taken),
         moment,
     )?;
     match tried {
@@ -230,7 +232,9 @@ fn try_first(alloc: Global, index: &Index, state: &State, wait: Wait) -> Result<
         state,
         wait.party,
         walker,
-        index.packets_of(wait.party.connection).rest_after(wait.taken),
+        index
+            .packets_of(wait.party.connection)
+            .rest_after(wait.taken),
         moment,
     )?;
     match tried {

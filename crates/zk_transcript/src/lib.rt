@@ -11,8 +11,8 @@ mod transcript;
 
 pub use laws::{
     alive_since_own_line, attached_by_own_line, attached_last, attached_since_own_line,
-    attached_to_own_line, attaches_show_the_password, begin_comes_before_lapses,
-    begin_comes_after_an_open_line, legal_histories_are_bounded, legal_histories_are_sound,
+    attached_to_own_line, attaches_show_the_password, begin_comes_after_an_open_line,
+    begin_comes_before_lapses, legal_histories_are_bounded, legal_histories_are_sound,
     reaped_sessions_had_lapsed, requests_are_carried_out_in_order, sessions_begin_as_offered,
     updates_are_counted, zxids_rise,
 };

@@ -7,7 +7,7 @@ ghost use Rattle.zn_layout.specs.Reading.{IsSomeValue, IsNoValue, IsValueOf, nod
 ghost use Rattle.zn_layout.specs.ReadingSteps.{HasNumbers};
 
 use crate::read::{
-    NODE_NUMBERS, are_counts, after_first, counts_in, lease_in, split_int, split_long,
+    NODE_NUMBERS, after_first, are_counts, counts_in, lease_in, split_int, split_long,
 };
 use zk_model::limit::MAX_FRAME;
 

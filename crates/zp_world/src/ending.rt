@@ -25,8 +25,8 @@ use crate::world::World;
 use std::vec::IntoIter;
 use zk_transcript::{Cause, Ended, TranscriptLine, UpdateKind};
 use zp_core::Core;
-use zp_script::{Asking, Flight};
 use zp_ledger::Transcript;
+use zp_script::{Asking, Flight};
 use zp_step::{Action, Wants};
 use zx_base::{Bytes, Memory};
 
