@@ -1,5 +1,5 @@
 -- Addresses that are dialled in turn, until one dial succeeds.
-use Rattle.std.specs.Prelude.{◌≡◌, ℕ, zero, suc, ◌<◌, Result, Ok, Err}
+use Rattle.std.specs.Prelude.{◌≡◌, ℕ, zero, suc, ◌<◌, Result, Err}
 use Rattle.zx_net.specs.Nets.{NetCounts}
 use Rattle.ev_link.specs.Dialling.{undialled}
 use Rattle.ev_link.specs.declared.reaching.NoLink.{NoLink}
