@@ -1,6 +1,8 @@
 //! The command `judge`: a transcript in, the verdict on it out.
 
-ghost use Rattle.std.specs.Prelude.{◌≡◌, ◌≢◌, [], IfOk};
+ghost use Rattle.std.specs.Prelude.{◌≡◌, ◌≢◌, [], None, IfErr, IfOk};
+ghost use Rattle.zt_lines.specs.Outcomes.{IsFaultOf};
+ghost use Rattle.zt_lines.specs.Transcripts.{transcript};
 ghost use Rattle.zx_outside.specs.Writing.{counts_after_write};
 ghost use Rattle.zx_outside.specs.declared.sink.Took.TheVariants.{Failed as TookFailed};
 ghost use Rattle.zetcd_cmd.specs.Outcomes.{Did, Failed, IsUnharmed, Judges};
@@ -33,7 +35,7 @@ pub enum Reading {
 
 /// Reads a transcript and writes the verdict on it, or the number of its first line that cannot be read.
 ///
-/// The time is that of [`zk_judge::judge`]; the whole transcript is kept.
+/// The time is that of [`zk_judge::judge`]; all lines of the transcript are kept, but not its text.
 pub fn judge<I: Source, O: Sink>(alloc: Global, input: &mut I, out: &mut O) -> Status
     ensures told { Did (Judges result (I.ended input.new) (I.left input.new)) (I.given input.old) (I.given input.new) (I.left input.old) (I.left input.new) (O.taken out.old) (O.taken out.new) }
     ensures read { result ≡ Status.ReadFault → Failed (I.counts input.old) (I.counts input.new) }
@@ -43,7 +45,7 @@ pub fn judge<I: Source, O: Sink>(alloc: Global, input: &mut I, out: &mut O) -> S
 {
     let mut text = Vec::new(alloc);
     match read_text(alloc, input, &mut text) {
-        Reading::Whole | Reading::TooLong => judge_text(alloc, &text, out),
+        Reading::Whole | Reading::TooLong => judge_text(alloc, text, out),
         Reading::Fault => Status::ReadFault,
         Reading::Memory => Status::Memory,
     }
@@ -75,8 +77,8 @@ fn read_text<I: Source>(alloc: Global, input: &mut I, text: &mut Vec<u8>) -> Rea
 }
 
 /// Writes what is found of a text.
-fn judge_text<O: Sink>(alloc: Global, text: &[u8], out: &mut O) -> Status
-    ensures told { TellsVerdict result text.now (O.taken out.old) (O.taken out.new) }
+fn judge_text<O: Sink>(alloc: Global, text: Vec<u8>, out: &mut O) -> Status
+    ensures told { TellsVerdict result text.items (O.taken out.old) (O.taken out.new) }
     ensures write { result ≡ Status.WriteFault → O.counts out.new ≡ counts_after_write TookFailed (O.counts out.old) }
     ensures unless_write_fault { result ≢ Status.WriteFault → O.counts out.new ≡ O.counts out.old }
 {
@@ -97,10 +99,18 @@ pub struct Finding {
     text: Vec<u8>,
 }
 
-fn find(alloc: Global, text: &[u8]) -> Result<Finding, Memory>
-    ensures { IfOk result (λ f. Finds f.status text.now f.text.items) }
+/// The lines of a transcript. The text is given back before they are judged.
+fn lines_of(alloc: Global, text: Vec<u8>) -> Result<Vec<TranscriptLine>, TranscriptFault>
+    ensures ok { IfOk result (λ v. transcript text.items ≡ (v.items, None)) }
+    ensures err { IfErr result (IsFaultOf (transcript text.items)) }
 {
-    match read_transcript(alloc, text) {
+    read_transcript(alloc, &text)
+}
+
+fn find(alloc: Global, text: Vec<u8>) -> Result<Finding, Memory>
+    ensures { IfOk result (λ f. Finds f.status text.items f.text.items) }
+{
+    match lines_of(alloc, text) {
         Ok(lines) => {
             let verdict = verdict_on(alloc, &lines)?;
             Ok(Finding {

@@ -4,5 +4,4 @@ pub mod Counts
 pub mod Fitting
 pub mod Marks
 pub mod Looking
-pub mod Kept
 pub mod Updates

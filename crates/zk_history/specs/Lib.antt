@@ -1,7 +1,6 @@
 pub mod Attachments
 pub mod Codes
 pub mod Commits
-pub mod Effects
 pub mod Fits
 pub mod Pasts
 pub mod Shown

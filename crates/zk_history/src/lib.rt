@@ -7,7 +7,6 @@
 
 mod attachments;
 mod cursor;
-mod effects;
 mod ended;
 mod firsts;
 mod lines;
@@ -21,7 +20,6 @@ mod state;
 mod zxids;
 
 pub use cursor::Cursor;
-pub use effects::Effects;
 pub use lines::{Applied, apply, change, planned_commit};
 pub use outcome::{Change, Commit};
 pub use past::Past;
