@@ -31,7 +31,7 @@ pub fn children_start(alloc: Global, path: &Path) -> Result<Bytes, Memory>
 }
 
 /// The end of the range of the data keys of a node's children, which is not in it: of `/a` it is `zk/d/0002/a0`.
-#[tactic(auto, unfolding(crate::specs::Asks::children_end))]
+#[tactic(auto, unfolding(crate::specs::Asks::children_until))]
 pub fn children_end(alloc: Global, path: &Path) -> Result<Bytes, Memory>
     ensures { IfOk result (λ k. k ≡ after_children path.now) }
 {

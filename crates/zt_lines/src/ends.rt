@@ -167,7 +167,7 @@ fn end_of_one(form: &[u8], a: &[u8]) -> Option<Ended>
 }
 
 /// `length PLACE LENGTH`
-#[tactic(auto, unfolding(crate::specs::Lines::bad_length))]
+#[tactic(auto, unfolding(crate::specs::Lines::bad_length_end))]
 fn bad_length(a: &[u8], b: &[u8]) -> Option<Ended>
     ensures { result ≡ bad_length_of a.now b.now }
 {

@@ -11,7 +11,7 @@ use std::alloc::Global;
 use zx_base::{Bytes, Memory};
 
 /// What a line says, by its first word and the others.
-#[tactic(auto, unfolding(crate::specs::Scripts::line_of_form))]
+#[tactic(auto, unfolding(crate::specs::Scripts::happening_of_form))]
 pub(crate) fn line_of_form(
     alloc: Global,
     form: &[u8],
