@@ -20,8 +20,8 @@ allowed-requires-clause-told c = subst (λ (x : Walking). IsTold c.args.index.no
 
 pub retry-requires-clause-failed : goal.retry-requires-clause-failed
 retry-requires-clause-failed c =
-    let ps = packets_in c.after.result in
-    let here = c.after.ensures ∙ ap (λ (ds : List Due). drop c.args.wait.taken ds) c.packets_of.ensures in
+    let ps = packets_in c.rest_after.result in
+    let here = c.rest_after.ensures ∙ ap (λ (ds : List Due). drop c.args.wait.taken ds) c.packets_of.ensures in
     let lines = c.args.index.now.lines.now in
     ap (option_map (left_by ps)) (sym c.in-None.is)
     ∙ c.in_ok-tried.ensures.step
@@ -30,8 +30,8 @@ retry-requires-clause-failed c =
 
 pub settle-requires-clause-early : goal.settle-requires-clause-early
 settle-requires-clause-early c =
-    let ps = packets_in c.after.result in
-    let here = c.after.ensures ∙ ap (λ (ds : List Due). drop c.args.wait.taken ds) c.packets_of.ensures in
+    let ps = packets_in c.rest_after.result in
+    let here = c.rest_after.ensures ∙ ap (λ (ds : List Due). drop c.args.wait.taken ds) c.packets_of.ensures in
     let lines = c.args.index.now.lines.now in
     let is = sym (c.in_ok-tried.ensures.step ∙ same-try lines c.args.wait.party.connection c.args.wait.party.session _ _ ps c.args.wait.first c.in_ok-walker.ensures) ∙ ap (option_map (left_by ps)) c.in-Some.is in
     let a = answer-on lines c.args.wait.party.connection c.args.wait.party.session (walker_of c.args.wait.walker) ps c.args.wait.first (left_by ps c.in-Some.field-0) c.requires.run c.requires.stands.above is in
@@ -39,8 +39,8 @@ settle-requires-clause-early c =
 
 pub settle-requires-clause-above : goal.settle-requires-clause-above
 settle-requires-clause-above c =
-    let ps = packets_in c.after.result in
-    let here = c.after.ensures ∙ ap (λ (ds : List Due). drop c.args.wait.taken ds) c.packets_of.ensures in
+    let ps = packets_in c.rest_after.result in
+    let here = c.rest_after.ensures ∙ ap (λ (ds : List Due). drop c.args.wait.taken ds) c.packets_of.ensures in
     let lines = c.args.index.now.lines.now in
     let is = sym (c.in_ok-tried.ensures.step ∙ same-try lines c.args.wait.party.connection c.args.wait.party.session _ _ ps c.args.wait.first c.in_ok-walker.ensures) ∙ ap (option_map (left_by ps)) c.in-Some.is in
     let a = answer-on lines c.args.wait.party.connection c.args.wait.party.session (walker_of c.args.wait.walker) ps c.args.wait.first (left_by ps c.in-Some.field-0) c.requires.run c.requires.stands.above is in
@@ -48,8 +48,8 @@ settle-requires-clause-above c =
 
 pub settle-requires-clause-told : goal.settle-requires-clause-told
 settle-requires-clause-told c =
-    let ps = packets_in c.after.result in
-    let here = c.after.ensures ∙ ap (λ (ds : List Due). drop c.args.wait.taken ds) c.packets_of.ensures in
+    let ps = packets_in c.rest_after.result in
+    let here = c.rest_after.ensures ∙ ap (λ (ds : List Due). drop c.args.wait.taken ds) c.packets_of.ensures in
     let lines = c.args.index.now.lines.now in
     let is = sym (c.in_ok-tried.ensures.step ∙ same-try lines c.args.wait.party.connection c.args.wait.party.session _ _ ps c.args.wait.first c.in_ok-walker.ensures) ∙ ap (option_map (left_by ps)) c.in-Some.is in
     let a = answer-on lines c.args.wait.party.connection c.args.wait.party.session (walker_of c.args.wait.walker) ps c.args.wait.first (left_by ps c.in-Some.field-0) c.requires.run c.requires.stands.above is in
@@ -57,21 +57,21 @@ settle-requires-clause-told c =
 
 pub returns-in-Some-clause-walked : goal.returns-in-Some-clause-walked
 returns-in-Some-clause-walked c =
-    let ps = packets_in c.after.result in
-    let here = c.after.ensures ∙ ap (λ (ds : List Due). drop c.args.wait.taken ds) c.packets_of.ensures in
+    let ps = packets_in c.rest_after.result in
+    let here = c.rest_after.ensures ∙ ap (λ (ds : List Due). drop c.args.wait.taken ds) c.packets_of.ensures in
     let lines = c.args.index.now.lines.now in
     let is = sym (c.in_ok-tried.ensures.step ∙ same-try lines c.args.wait.party.connection c.args.wait.party.session _ _ ps c.args.wait.first c.in_ok-walker.ensures) ∙ ap (option_map (left_by ps)) c.in-Some.is in
     let goes = goes-first lines c.args.wait.party.connection c.args.wait.party.session (walker_of c.args.wait.walker) ps c.args.wait.first (option_to_list c.args.wait.second) (left_by ps c.in-Some.field-0) is in
     let len : c.len.result ≡ length c.in-Some.field-0.due.items = search rules in
-    let after = ap (is_least lines c.args.wait.party.connection c.args.wait.party.session (walker_of c.in-Some.field-0.walker))
+    let rest_after = ap (is_least lines c.args.wait.party.connection c.args.wait.party.session (walker_of c.in-Some.field-0.walker))
     (ap (λ n. drop n ps) (sym len) ∙ ap (drop c.len.result) here ∙ drop-both c.args.wait.taken c.len.result (packets c.args.wait.party.connection c.args.index.now.lines.now)) in
     let whole = ap (λ (ds : List Due). goes_on lines c.args.wait.party.connection c.args.wait.party.session (walker_of c.args.wait.walker) ds (c.args.wait.first ∷ option_to_list c.args.wait.second)) here in
-    subst (λ (b : Bool). IfOk c.settle.result (λ r. is_walked lines r ≡ b)) (sym (goes ∙ after) ∙ whole) c.settle.ensures.walked
+    subst (λ (b : Bool). IfOk c.settle.result (λ r. is_walked lines r ≡ b)) (sym (goes ∙ rest_after) ∙ whole) c.settle.ensures.walked
 
 pub returns-in-Some-clause-fewer : goal.returns-in-Some-clause-fewer
 returns-in-Some-clause-fewer c =
-    let ps = packets_in c.after.result in
-    let here = c.after.ensures ∙ ap (λ (ds : List Due). drop c.args.wait.taken ds) c.packets_of.ensures in
+    let ps = packets_in c.rest_after.result in
+    let here = c.rest_after.ensures ∙ ap (λ (ds : List Due). drop c.args.wait.taken ds) c.packets_of.ensures in
     let lines = c.args.index.now.lines.now in
     let is = sym (c.in_ok-tried.ensures.step ∙ same-try lines c.args.wait.party.connection c.args.wait.party.session _ _ ps c.args.wait.first c.in_ok-walker.ensures) ∙ ap (option_map (left_by ps)) c.in-Some.is in
     let a = answer-on lines c.args.wait.party.connection c.args.wait.party.session (walker_of c.args.wait.walker) ps c.args.wait.first (left_by ps c.in-Some.field-0) c.requires.run c.requires.stands.above is in
