@@ -135,7 +135,7 @@ where
 /// Runs `etcd`.
 #[tactic(auto, using(crate::proofs::Servings::names_one, crate::proofs::Servings::never_read, crate::proofs::Servings::net_fault, crate::proofs::Servings::no_fault, crate::proofs::Servings::write_counts, crate::proofs::Servings::other_counts))]
 fn run_etcd<
-    W: Wait + Copy + Send + Drop + 'static,
+    W: Wait + SystemClock + Copy + Send + Drop + 'static,
     O: Sink,
     N: Net,
     P: Spawner,
