@@ -6,8 +6,11 @@
 //! # The end
 //!
 //! A call ends once `limit` connections were accepted and have ended. A watch has no end of its own: once the last connection was
-//! accepted and each one that is still open waits in a watch, all watches are ended. Where the door is broken, the watches are ended
-//! too, but nobody is waited for.
+//! accepted and each one that is still open watches, all watches are ended. Where the door is broken, the watches are ended too, but
+//! nobody is waited for.
+//!
+//! A watch whose client went away, or sent more, is over once its key was not put for a second or two; where it is put more often, a
+//! client that went away is noticed by the lines that can no longer be sent to it.
 //!
 //! # What is proved
 //!
