@@ -70,6 +70,9 @@ const LOOKS: u32 = 100;
 
 const LOOK_PAUSE: u64 = 100;
 
+/// How long the watch waits before the key is put, in milliseconds: so long that the server looks meanwhile whether its client is there.
+const SILENCE: u64 = 2_500;
+
 /// What each request names as its host.
 #[tactic(auto, using(ev_link::proofs::Local::local))]
 pub fn host() -> &'static str
@@ -166,7 +169,7 @@ fn put_it<R: Clock, N: Net>(
     Ok(())
 }
 
-/// Watches the key, puts it, and sees that the watch is told and then ended.
+/// Watches the key, puts it some seconds later, and sees that the watch is told and then ended.
 fn watch_and_put<R: Clock, N: Net>(
     rt: &R,
     alloc: Global,
@@ -182,6 +185,7 @@ fn watch_and_put<R: Clock, N: Net>(
     if !is_created(alloc, &mut lines) {
         return Err(Tried::NoWatch);
     }
+    thread::sleep(rt, Duration::from_millis(SILENCE));
     put_it(rt, alloc, net, address)?;
     if !is_told(alloc, &mut lines, FIRST) {
         return Err(Tried::NotTold);

@@ -1,7 +1,7 @@
 //! Tries the etcd in memory over the loopback. A client's link carries out a transaction, the first of the store, and a watch on
-//! another connection is told of it. These two are the server's last, so it listens no more. Then the client goes, the watch is ended,
-//! and the server has served its two connections. Nothing is written where all went so; otherwise standard error says what did not,
-//! and the status is 1.
+//! another connection, which has waited for some seconds, is told of it. These two are the server's last, so it listens no more. Then
+//! the client goes, the watch is ended, and the server has served its two connections. Nothing is written where all went so; otherwise
+//! standard error says what did not, and the status is 1.
 //!
 //! `etcd_loopback HOST:PORT` asks the etcd there, over one link, what the lines of standard input spell, each a route, a blank and a
 //! body, and writes its answers as the link reads them, a line each. `bench/etcd.sh` compares a real etcd's with those of `zetcd etcd`.
