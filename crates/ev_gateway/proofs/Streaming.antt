@@ -147,8 +147,8 @@ further key from next later k k' came le = record {
 
 -- ---- how it ends
 
-over : (r : Result (Unit {0}) HttpFault) (key : List ℕ) (from next : ℕ) (ending : List ℕ) (k m k' : SinkTold) (came : Came key from next k m) → IsEnding came.last ending → WroteFront r ending m k' → Streams r key from k k'
-over r key from next ending k m k' came ends wrote = record {
+sent_whole : (r : Result (Unit {0}) HttpFault) (key : List ℕ) (from next : ℕ) (ending : List ℕ) (k m k' : SinkTold) (came : Came key from next k m) → IsEnding came.last ending → WroteFront r ending m k' → Streams r key from k k'
+sent_whole r key from next ending k m k' came ends wrote = record {
   bytes = so_far came.created came.puts ++ ending;
   stream = record { created = came.created; puts = came.puts; next = came.last; ending = ending; rise = came.rise; ends = ends; bytes_are = refl };
   wrote = both r (so_far came.created came.puts) ending k m k' came.wrote wrote;
@@ -162,7 +162,7 @@ whole (Err f) key from s s' k k' streams waits = (streams, waits)
 pub closed : (result : Result WatchEnd HttpFault) (r : Result (Unit {0}) HttpFault) (key : List ℕ) (from next : ℕ) (s s' : Told) (k m k' : SinkTold) → result ≡ told_whole r
     → Came key from next k m → Waits s s' → WroteFront r last_chunk m k' → Watches result key from s s' k k'
 closed result r key from next s s' k m k' is came waits wrote =
-    subst (λ (x : Result WatchEnd HttpFault). Watches x key from s s' k k') (sym is) (whole r key from s s' k k' (over r key from next last_chunk k m k' came (inl refl) wrote) waits)
+    subst (λ (x : Result WatchEnd HttpFault). Watches x key from s s' k k') (sym is) (whole r key from s s' k k' (sent_whole r key from next last_chunk k m k' came (inl refl) wrote) waits)
 
 -- the revision to go on from was compacted
 pub canceled : (result : Result WatchEnd HttpFault) (r : Result (Unit {0}) HttpFault) (key : List ℕ) (from next : ℕ) (floor now : ℤ) (s s' : Told) (k m k' : SinkTold) → result ≡ told_whole r
@@ -170,7 +170,7 @@ pub canceled : (result : Result WatchEnd HttpFault) (r : Result (Unit {0}) HttpF
 canceled result r key from next floor now s s' k m k' is came waits below wrote =
     let earlier : pos came.last <ℤ floor = omega (arith, below, came.within) in
     subst (λ (x : Result WatchEnd HttpFault). Watches x key from s s' k k') (sym is)
-    (whole r key from s s' k k' (over r key from next (line_chunk (canceled_text floor now) ++ last_chunk) k m k' came (inr (floor, now, earlier, refl)) wrote) waits)
+    (whole r key from s s' k k' (sent_whole r key from next (line_chunk (canceled_text floor now) ++ last_chunk) k m k' came (inr (floor, now, earlier, refl)) wrote) waits)
 
 -- the client left
 pub left : (key : List ℕ) (from next : ℕ) (s here s' : Told) (k k' : SinkTold) → Came key from next k k' → Waits s here → Looks false here s' → Watches (Ok over.Left) key from s s' k k'

@@ -73,8 +73,8 @@ pub record StreamsOn (key : List ℕ) (from : ℕ) (sink sink' : SinkTold) : Typ
   pub rise : Rise key from puts next
   pub wrote : WroteFront (Ok tt) (begun created ++ put_lines puts) sink sink'
 
--- How a watch ended: its stream was sent to its end; or its client left it between two lines; or there was a fault of the sink, or want
--- of memory. Its client was looked after meanwhile.
+-- How a watch ended: its stream was sent to its end; or its client left it between two lines; or there was a fault of the sink, or memory
+-- ran out. In each case the looks at its client found it there and quiet, but for the last one of a client that left.
 abbrev pub Watches : Result WatchEnd HttpFault → List ℕ → ℕ → Told → Told → SinkTold → SinkTold → Type 0
 Watches (Ok over.Told) key from source source' sink sink' = Streams (Ok tt) key from sink sink' × Waits source source'
 Watches (Ok over.Left) key from source source' sink sink' = StreamsOn key from sink sink' × Leaves source source'
