@@ -1,15 +1,16 @@
 -- Which link is kept, and what the net counts.
-use Rattle.std.proofs.Common.{◌≡◌, ℕ, zero, suc, ◌<◌, refl, sym, ◌∙◌, subst, arith, inl, inr}
+use Rattle.std.proofs.Common.{◌≡◌, ℕ, zero, suc, ◌+◌, ◌<◌, refl, ap, ◌∙◌, subst, inl, inr}
 use Rattle.std.specs.Prelude.{Bool, true, false, [], Option, Some, None, Result, Ok, Err}
 use Rattle.ev_link.specs.declared.failure.LinkFailure.{LinkFailure}
 use Rattle.ev_link.specs.declared.failure.LinkFailure.TheVariants as failure
 use Rattle.ev_words.specs.declared.fault.Fault.{Fault}
 use Rattle.ev_words.specs.declared.fault.Fault.TheVariants as told
+use Rattle.ev_link.specs.Dialling.{undialled}
 use Rattle.ev_link.specs.Reaching.{undialled_times}
 use Rattle.zx_net.specs.Nets.{NetCounts}
 use Rattle.zs_lapsed.specs.declared.calling.TurnFault.{TurnFault}
 use Rattle.zs_lapsed.specs.Calling.{LinkTold, Makes}
-use Rattle.zs_lapsed.specs.Turning.{DialsOver, IsLeftNone, Turns, TurnsOn, TurnsOver, begun_from, damage_told, fault_in, max_lists}
+use Rattle.zs_lapsed.specs.Turning.{DialsFor, DialsOver, IsLeftNone, Turns, TurnsOn, TurnsOver, begun_from, damage_told, fault_in, max_lists}
 use Rattle.zs_lapsed.specs.Working.{OnlyDials}
 
 -- ---- the link
@@ -37,62 +38,72 @@ pub damage_linked : (damaged : Bool) → damage_told damaged ≡ Err told.Dial �
 damage_linked true h = absurd (cc)
 damage_linked false h = absurd (cc)
 
--- the link that was kept is used, and nothing is dialled
-pub dials_none : (size : ℕ) (counts : NetCounts) → 0 < size → (failed : ℕ) × (failed < size) × (counts ≡ undialled_times failed counts)
-dials_none size counts some = (0, some, refl)
+-- what is dialled for a new link, of which the turn is told
+for_told : {A : Type 0} (result : Result A Fault) (size : ℕ) (counts counts' : NetCounts) → ((failed : ℕ) × (failed < size) × (counts' ≡ undialled_times failed counts)) → (result ≡ Err told.Dial → ⊥) → DialsFor result size counts counts'
+for_told (Ok x) size counts counts' h other = h
+for_told (Err told.First) size counts counts' h other = h
+for_told (Err told.Dial) size counts counts' h other = absurd (other refl)
+for_told (Err (told.Http fault)) size counts counts' h other = h
+for_told (Err (told.Json fault)) size counts counts' h other = h
+for_told (Err told.Ended) size counts counts' h other = h
+for_told (Err (told.Compacted rev)) size counts counts' h other = h
+for_told (Err (told.Gap expected found)) size counts counts' h other = h
+for_told (Err told.Damaged) size counts counts' h other = h
+for_told (Err told.NoLine) size counts counts' h other = h
+for_told (Err told.Memory) size counts counts' h other = h
 
--- what is dialled for a link, of which the turn is told
-pub dials_told : {A : Type 0} (result : Result A Fault) (size : ℕ) (counts counts' : NetCounts) → ((failed : ℕ) × (failed < size) × (counts' ≡ undialled_times failed counts)) → (result ≡ Err told.Dial → ⊥) → DialsOver result size counts counts'
-dials_told (Ok x) size counts counts' h other = h
-dials_told (Err told.First) size counts counts' h other = h
-dials_told (Err told.Dial) size counts counts' h other = absurd (other refl)
-dials_told (Err (told.Http fault)) size counts counts' h other = h
-dials_told (Err (told.Json fault)) size counts counts' h other = h
-dials_told (Err told.Ended) size counts counts' h other = h
-dials_told (Err (told.Compacted rev)) size counts counts' h other = h
-dials_told (Err (told.Gap expected found)) size counts counts' h other = h
-dials_told (Err told.Damaged) size counts counts' h other = h
-dials_told (Err told.NoLine) size counts counts' h other = h
-dials_told (Err told.Memory) size counts counts' h other = h
+-- the same, where a link may have been kept
+pub dials_told : {L A B : Type 0} (kept : Option L) (mine : A) (result : Result B Fault) (size : ℕ) (counts counts' : NetCounts)
+    → DialsOver {A = A} kept (Ok mine) size counts counts' → (result ≡ Err told.Dial → ⊥) → DialsOver kept result size counts counts'
+dials_told (Some link) mine result size counts counts' h other = h
+dials_told None mine result size counts counts' h other = for_told result size counts counts' h other
+
+for_unlinked : (A B : Type 0) (fault : Fault) (size : ℕ) (counts counts' : NetCounts) → DialsFor {A = A} (Err fault) size counts counts' → DialsFor {A = B} (Err fault) size counts counts'
+for_unlinked A B told.First size counts counts' h = h
+for_unlinked A B told.Dial size counts counts' h = h
+for_unlinked A B (told.Http fault) size counts counts' h = h
+for_unlinked A B (told.Json fault) size counts counts' h = h
+for_unlinked A B told.Ended size counts counts' h = h
+for_unlinked A B (told.Compacted rev) size counts counts' h = h
+for_unlinked A B (told.Gap expected found) size counts counts' h = h
+for_unlinked A B told.Damaged size counts counts' h = h
+for_unlinked A B told.NoLine size counts counts' h = h
+for_unlinked A B told.Memory size counts counts' h = h
 
 -- there is no link
-pub dials_unlinked : (A B : Type 0) (fault : Fault) (size : ℕ) (counts counts' : NetCounts) → DialsOver {A = A} (Err fault) size counts counts' → DialsOver {A = B} (Err fault) size counts counts'
-dials_unlinked A B told.First size counts counts' h = h
-dials_unlinked A B told.Dial size counts counts' h = h
-dials_unlinked A B (told.Http fault) size counts counts' h = h
-dials_unlinked A B (told.Json fault) size counts counts' h = h
-dials_unlinked A B told.Ended size counts counts' h = h
-dials_unlinked A B (told.Compacted rev) size counts counts' h = h
-dials_unlinked A B (told.Gap expected found) size counts counts' h = h
-dials_unlinked A B told.Damaged size counts counts' h = h
-dials_unlinked A B told.NoLine size counts counts' h = h
-dials_unlinked A B told.Memory size counts counts' h = h
+pub dials_unlinked : (L A B : Type 0) (kept : Option L) (fault : Fault) (size : ℕ) (counts counts' : NetCounts)
+    → DialsOver {A = A} kept (Err fault) size counts counts' → DialsOver {A = B} kept (Err fault) size counts counts'
+dials_unlinked L A B (Some link) fault size counts counts' h = h
+dials_unlinked L A B None fault size counts counts' h = for_unlinked A B fault size counts counts' h
 
-times-dials : (n : ℕ) (counts : NetCounts) → OnlyDials counts (undialled_times n counts)
-times-dials zero counts = record { doors = refl; accepted = refl; dials = omega arith }
-times-dials (suc n) counts = let h = times-dials n counts in record { doors = h.doors; accepted = h.accepted; dials = omega (arith, h.dials) }
+-- ---- the worker
+
+times-both : (n m : ℕ) (counts : NetCounts) → undialled_times n (undialled_times m counts) ≡ undialled_times (n + m) counts
+times-both zero m counts = refl
+times-both (suc n) m counts = ap undialled (times-both n m counts)
+
+for-dials : (result : Result (Unit {0}) Fault) (size : ℕ) (counts counts' : NetCounts) → DialsFor result size counts counts' → OnlyDials counts counts'
+for-dials (Ok x) size counts counts' h = record { failed = h.0; counted = h.2 }
+for-dials (Err told.First) size counts counts' h = record { failed = h.0; counted = h.2 }
+for-dials (Err told.Dial) size counts counts' h = record { failed = size; counted = h }
+for-dials (Err (told.Http fault)) size counts counts' h = record { failed = h.0; counted = h.2 }
+for-dials (Err (told.Json fault)) size counts counts' h = record { failed = h.0; counted = h.2 }
+for-dials (Err told.Ended) size counts counts' h = record { failed = h.0; counted = h.2 }
+for-dials (Err (told.Compacted rev)) size counts counts' h = record { failed = h.0; counted = h.2 }
+for-dials (Err (told.Gap expected found)) size counts counts' h = record { failed = h.0; counted = h.2 }
+for-dials (Err told.Damaged) size counts counts' h = record { failed = h.0; counted = h.2 }
+for-dials (Err told.NoLine) size counts counts' h = record { failed = h.0; counted = h.2 }
+for-dials (Err told.Memory) size counts counts' h = record { failed = h.0; counted = h.2 }
+
+over-dials : {L : Type 0} (kept : Option L) (result : Result (Unit {0}) Fault) (size : ℕ) (counts counts' : NetCounts) → DialsOver kept result size counts counts' → OnlyDials counts counts'
+over-dials (Some link) result size counts counts' h = record { failed = 0; counted = h }
+over-dials None result size counts counts' h = for-dials result size counts counts' h
 
 then-dials : (a b c : NetCounts) → OnlyDials a b → OnlyDials b c → OnlyDials a c
-then-dials a b c h k = record { doors = k.doors ∙ h.doors; accepted = k.accepted ∙ h.accepted; dials = omega (arith, h.dials, k.dials) }
-
-over-dials : (n : ℕ) (counts counts' : NetCounts) → counts' ≡ undialled_times n counts → OnlyDials counts counts'
-over-dials n counts counts' is = subst (OnlyDials counts) (sym is) (times-dials n counts)
-
-told-dials : (result : Result (Unit {0}) Fault) (size : ℕ) (counts counts' : NetCounts) → DialsOver result size counts counts' → OnlyDials counts counts'
-told-dials (Ok x) size counts counts' h = over-dials h.0 counts counts' h.2
-told-dials (Err told.First) size counts counts' h = over-dials h.0 counts counts' h.2
-told-dials (Err told.Dial) size counts counts' h = over-dials size counts counts' h
-told-dials (Err (told.Http fault)) size counts counts' h = over-dials h.0 counts counts' h.2
-told-dials (Err (told.Json fault)) size counts counts' h = over-dials h.0 counts counts' h.2
-told-dials (Err told.Ended) size counts counts' h = over-dials h.0 counts counts' h.2
-told-dials (Err (told.Compacted rev)) size counts counts' h = over-dials h.0 counts counts' h.2
-told-dials (Err (told.Gap expected found)) size counts counts' h = over-dials h.0 counts counts' h.2
-told-dials (Err told.Damaged) size counts counts' h = over-dials h.0 counts counts' h.2
-told-dials (Err told.NoLine) size counts counts' h = over-dials h.0 counts counts' h.2
-told-dials (Err told.Memory) size counts counts' h = over-dials h.0 counts counts' h.2
+then-dials a b c h k = record { failed = k.failed + h.failed; counted = k.counted ∙ ap (undialled_times k.failed) h.counted ∙ times-both k.failed h.failed a }
 
 pub dials_first : (counts : NetCounts) → OnlyDials counts counts
-dials_first counts = record { doors = refl; accepted = refl; dials = omega arith }
+dials_first counts = record { failed = 0; counted = refl }
 
-pub dials_more : (result : Result (Unit {0}) Fault) (size : ℕ) (a b c : NetCounts) → OnlyDials a b → DialsOver result size b c → OnlyDials a c
-dials_more result size a b c h over = then-dials a b c h (told-dials result size b c over)
+pub dials_more : (L : Type 0) (kept : Option L) (result : Result (Unit {0}) Fault) (size : ℕ) (a b c : NetCounts) → OnlyDials a b → DialsOver kept result size b c → OnlyDials a c
+dials_more L kept result size a b c h over = then-dials a b c h (over-dials kept result size b c over)

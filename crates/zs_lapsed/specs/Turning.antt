@@ -88,7 +88,13 @@ TurnsOver old new result = TurnsOn (begun_from old) new result ⊎ (IsLeftNone o
 
 -- ---- the net
 
--- Dials that failed are counted, and nothing else is: one for each endpoint where none could be dialled, and otherwise fewer.
-abbrev pub DialsOver : {A : Type 0} → Result A Fault → ℕ → NetCounts → NetCounts → Type 0
-DialsOver (Err told.Dial) size counts counts' = counts' ≡ undialled_times size counts
-DialsOver _ size counts counts' = (failed : ℕ) × (failed < size) × (counts' ≡ undialled_times failed counts)
+-- For a new link each dial that failed is counted, and nothing else is: one for each endpoint where none could be dialled, and otherwise
+-- fewer.
+abbrev pub DialsFor : {A : Type 0} → Result A Fault → ℕ → NetCounts → NetCounts → Type 0
+DialsFor (Err told.Dial) size counts counts' = counts' ≡ undialled_times size counts
+DialsFor _ size counts counts' = (failed : ℕ) × (failed < size) × (counts' ≡ undialled_times failed counts)
+
+-- over a link that was kept nothing is dialled
+abbrev pub DialsOver : {L A : Type 0} → Option L → Result A Fault → ℕ → NetCounts → NetCounts → Type 0
+DialsOver (Some link) result size counts counts' = counts' ≡ counts
+DialsOver None result size counts counts' = DialsFor result size counts counts'

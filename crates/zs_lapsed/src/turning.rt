@@ -5,7 +5,7 @@ ghost use Rattle.ev_addresses.specs.Lists.{addresses_in};
 ghost use Rattle.ev_call.specs.Addresses.{IsAddress};
 ghost use Rattle.ev_call.specs.Calls.{calls_of};
 ghost use Rattle.zs_lapsed.specs.Calling.{Makes, link_told, of_kept, tells};
-ghost use Rattle.zs_lapsed.specs.Turning.{DialsOver, IsLeftNone, IsPage, Turns, TurnsOn, TurnsOver, begun_from, damage_told, max_lists};
+ghost use Rattle.zs_lapsed.specs.Turning.{DialsFor, DialsOver, IsLeftNone, IsPage, Turns, TurnsOn, TurnsOver, begun_from, damage_told, max_lists};
 
 use crate::calling::TurnFault;
 use crate::failure::fault_of;
@@ -79,7 +79,7 @@ fn dialled<N: Net>(
 ) -> Result<HttpLink<N::In, N::Out>, Fault>
     requires { IsAddress endpoint.now }
     ensures begun { IfOk result (λ l. tells (calls_of l.asks.items l.results.items) l.failures ≡ tells [] 0) }
-    ensures dials { DialsOver result (length (addresses_in endpoint.now)) (N.counts net.old) (N.counts net.new) }
+    ensures dials { DialsFor result (length (addresses_in endpoint.now)) (N.counts net.old) (N.counts net.new) }
 {
     match link_to(alloc, net, endpoint) {
         Ok(link) => Ok(link),
@@ -89,7 +89,6 @@ fn dialled<N: Net>(
 }
 
 /// The link that was kept, or a new one.
-#[tactic(auto, using(crate::proofs::Keeping::dials_none, ev_addresses::proofs::Numbers::are_some))]
 fn link_of<N: Net>(
     alloc: Global,
     net: &mut N,
@@ -99,7 +98,7 @@ fn link_of<N: Net>(
     requires { IsAddress endpoint.now }
     ensures begun { IfOk result (λ l. tells (calls_of l.asks.items l.results.items) l.failures ≡ begun_from (of_kept kept (λ l. tells (calls_of l.asks.items l.results.items) l.failures))) }
     ensures none { OnErr result (IsLeftNone (of_kept kept (λ l. tells (calls_of l.asks.items l.results.items) l.failures))) }
-    ensures dials { DialsOver result (length (addresses_in endpoint.now)) (N.counts net.old) (N.counts net.new) }
+    ensures dials { DialsOver kept result (length (addresses_in endpoint.now)) (N.counts net.old) (N.counts net.new) }
 {
     match kept {
         Some(link) => Ok(link),
@@ -163,7 +162,7 @@ pub(crate) fn turn_over<N: Net>(
 ) -> Result<(), Fault>
     requires { IsAddress endpoint.now }
     ensures turns { TurnsOver (of_kept link.old (λ l. tells (calls_of l.asks.items l.results.items) l.failures)) (of_kept link.new (λ l. tells (calls_of l.asks.items l.results.items) l.failures)) result }
-    ensures dials { DialsOver result (length (addresses_in endpoint.now)) (N.counts net.old) (N.counts net.new) }
+    ensures dials { DialsOver link.old result (length (addresses_in endpoint.now)) (N.counts net.old) (N.counts net.new) }
 {
     let kept = link.take();
     match link_of(alloc, net, endpoint, kept) {
