@@ -46,7 +46,7 @@ serve_status (ends.Feed end) = status.Feed end
 -- that were refused.
 --
 -- 0: it listened, as many clients as the limit allows were accepted, and there is one line about each: `closed N CAUSE`, or
--- `closed N no link` where a dial failed. No cause is `feed`.
+-- `closed N no link` where the dial of each endpoint failed. No cause is `feed`.
 -- 10: the hub was found closed by this end, which is told after the lines about all clients so far, but for one at most: the last, who
 -- was accepted as the hub was found closed, and has no number.
 -- 6: the first ask failed or a worker was not started, and `net fault` is all that was written; or a door had a fault, at once or

@@ -35,8 +35,11 @@ none_then size failed = let none : size * 0 ≡ 0 = omega arith in omega (arith,
 all_failed : (size : ℕ) → size ≡ size * 1 + 0
 all_failed size = omega arith
 
-some_failed : (size failed : ℕ) → failed < size → failed ≤ (size - 1) * 1
-some_failed size failed fewer = omega (arith, fewer)
+none_passed : (n : ℕ) → 0 + n ≤ n
+none_passed n = omega arith
+
+some_failed : (size failed : ℕ) → failed < size → failed + (size - 1) * 0 ≤ (size - 1) * 1
+some_failed size failed fewer = let none : (size - 1) * 0 ≡ 0 = omega arith in omega (arith, none, fewer)
 
 pub times_failed : (n : ℕ) (counts : NetCounts) → (undialled_times n counts).dial_faults ≡ more n counts.dial_faults
 times_failed zero counts = sym (more_none counts.dial_faults)
@@ -50,16 +53,19 @@ pub same_doors : (n : ℕ) (counts : NetCounts) → (undialled_times n counts).d
 same_doors zero counts = refl
 same_doors (suc n) counts = same_doors n counts
 
-few_both : (other a b : ℕ) (fresh fresh' : List ℕ) → a ≤ other * length fresh → b ≤ other * length fresh' → a + b ≤ other * length (fresh' ++ fresh)
-few_both other a b fresh fresh' first then =
+unlinked_both : (n : ℕ) (xs ys : List Line) → n * length (filter_map unlinked (xs ++ ys)) ≡ n * length (filter_map unlinked xs) + n * length (filter_map unlinked ys)
+unlinked_both n xs ys =
+    ap (λ (k : ℕ). n * k) (ap length (filter_map-append unlinked xs ys) ∙ length-append (filter_map unlinked xs) (filter_map unlinked ys)) ∙ mul-add n (length (filter_map unlinked xs)) (length (filter_map unlinked ys))
+
+few_both : (other a b : ℕ) (xs ys : List Line) (fresh fresh' : List ℕ) → a + other * length (filter_map unlinked xs) ≤ other * length fresh → b + other * length (filter_map unlinked ys) ≤ other * length fresh'
+    → (a + b) + other * length (filter_map unlinked (xs ++ ys)) ≤ other * length (fresh' ++ fresh)
+few_both other a b xs ys fresh fresh' first then =
     let all : other * length (fresh' ++ fresh) ≡ other * length fresh' + other * length fresh = ap (λ (n : ℕ). other * n) (length-append fresh' fresh) ∙ mul-add other (length fresh') (length fresh) in
-    omega (arith, all, first, then)
+    let lost = unlinked_both other xs ys in
+    omega (arith, all, lost, first, then)
 
 failed_both : (size a b : ℕ) (xs ys : List Line) → (size * length (filter_map unlinked xs) + a) + (size * length (filter_map unlinked ys) + b) ≡ size * length (filter_map unlinked (xs ++ ys)) + (a + b)
-failed_both size a b xs ys =
-    let all : size * length (filter_map unlinked (xs ++ ys)) ≡ size * length (filter_map unlinked xs) + size * length (filter_map unlinked ys) =
-    ap (λ (n : ℕ). size * n) (ap length (filter_map-append unlinked xs ys) ∙ length-append (filter_map unlinked xs) (filter_map unlinked ys)) ∙ mul-add size (length (filter_map unlinked xs)) (length (filter_map unlinked ys)) in
-    omega (arith, all)
+failed_both size a b xs ys = let all = unlinked_both size xs ys in omega (arith, all)
 
 -- ---- books
 
@@ -83,7 +89,7 @@ logs_none size met busy t = record {
   accepted = sym (more_none (t.net).accepted);
   doors = refl;
   passed = 0;
-  few = omega arith;
+  few = none_passed ((size - 1) * 0);
   dials = none_failed size (t.net).dial_faults;
   numbers = IsPermutation-refl busy;
   fed = λ unmet. refl;
@@ -100,7 +106,7 @@ logs_accepted size met busy t t' accepted doors dials out book = record {
   accepted = accepted;
   doors = doors;
   passed = 0;
-  few = omega arith;
+  few = none_passed ((size - 1) * 0);
   dials = dials ∙ none_failed size (t.net).dial_faults;
   numbers = IsPermutation-refl busy;
   fed = λ unmet. refl;
@@ -135,7 +141,7 @@ logs_unlinked size met number busy t t' accepted doors dials written book = reco
   accepted = accepted ∙ sym (more_none (t.net).accepted);
   doors = doors;
   passed = 0;
-  few = omega arith;
+  few = none_passed ((size - 1) * 1);
   dials = dials ∙ ap (λ (n : ℕ). more n (t.net).dial_faults) (all_failed size);
   numbers = IsPermutation-refl (number ∷ busy);
   fed = λ unmet. refl;
@@ -152,7 +158,7 @@ logs_closed size met e busy busy' t t' fed numbers net written book = record {
   accepted = ap (λ n. n.accepted) net ∙ sym (more_none (t.net).accepted);
   doors = ap (λ n. n.door_faults) net;
   passed = 0;
-  few = omega arith;
+  few = none_passed ((size - 1) * 0);
   dials = ap (λ n. n.dial_faults) net ∙ none_failed size (t.net).dial_faults;
   numbers = numbers;
   fed = λ unmet. rw (fed unmet) refl;
@@ -179,7 +185,7 @@ logs_then size met k k' sum is fresh fresh' busy busy' busy'' t t' t'' a b = rec
   accepted = b.accepted ∙ ap (more k') a.accepted ∙ more_plus k k' (t.net).accepted ∙ ap (λ (n : ℕ). more n (t.net).accepted) (sym is);
   doors = b.doors ∙ a.doors;
   passed = a.passed + b.passed;
-  few = few_both (size - 1) a.passed b.passed fresh fresh' a.few b.few;
+  few = few_both (size - 1) a.passed b.passed a.lines b.lines fresh fresh' a.few b.few;
   dials = b.dials ∙ ap (more (size * length (filter_map unlinked b.lines) + b.passed)) a.dials
       ∙ more_plus (size * length (filter_map unlinked a.lines) + a.passed) (size * length (filter_map unlinked b.lines) + b.passed) (t.net).dial_faults
       ∙ ap (λ (n : ℕ). more n (t.net).dial_faults) (failed_both size a.passed b.passed a.lines b.lines);

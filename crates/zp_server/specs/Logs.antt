@@ -16,14 +16,15 @@ counting zero = []
 counting (suc n) = suc n ∷ counting n
 
 -- k clients were accepted. Of the connections that were open before, and of the fresh ones, each has its one line, but for those that
--- are open still; the book took those that had a worker, in the order of the lines; and for each line without one the dials of all
--- endpoints failed, and for any other fresh connection fewer. Unless a connection has met the hub closed, none of them ended for that.
+-- are open still; the book took those that had a worker, in the order of the lines. For each line without one the dials of all `size`
+-- endpoints failed; for the other fresh connections, m of them, no more than (size - 1) * m dials failed in all. Unless a connection has
+-- met the hub closed, none of them ended for that.
 pub record Logs (size : ℕ) (met : Bool) (k : ℕ) (fresh busy busy' : List ℕ) (t t' : Seen) : Type 0 where
   pub lines : List Line
   pub accepted : (t'.net).accepted ≡ more k (t.net).accepted
   pub doors : (t'.net).door_faults ≡ (t.net).door_faults
   pub passed : ℕ
-  pub few : passed ≤ (size - 1) * length fresh
+  pub few : passed + (size - 1) * length (filter_map unlinked lines) ≤ (size - 1) * length fresh
   pub dials : (t'.net).dial_faults ≡ more (size * length (filter_map unlinked lines) + passed) (t.net).dial_faults
   pub numbers : IsPermutation (map number_of_line lines ++ busy') (fresh ++ busy)
   pub fed : met ≡ false → filter is_fed lines ≡ []
