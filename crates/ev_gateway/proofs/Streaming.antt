@@ -1,5 +1,6 @@
 -- How the stream of a watch is written, piece by piece.
-use Rattle.std.proofs.Common.{◌≡◌, ◌∙◌, ℕ, ◌+◌, ◌≤◌, List, [], ◌∷◌, ◌++◌, length, take, inl, inr, refl, sym, ap, subst, arith, append-nil, append_assoc, length-append}
+use Rattle.std.proofs.Common.{◌≡◌, ◌∙◌, ℕ, ◌+◌, ◌≤◌, false, List, [], ◌∷◌, ◌++◌, length, take, inl, inr, refl, sym, ap, subst, arith, append-nil, append_assoc, length-append}
+use Rattle.std.proofs.lemmas.Int.{ints}
 use Rattle.std.proofs.lemmas.List.{take-append-le}
 use Rattle.std.proofs.Math.Seq.{take-append-add}
 use Rattle.std.specs.Prelude.{ℤ, pos, nat_abs, ◌≤ℤ◌, ◌<ℤ◌, Option, Result, Ok, Err}
@@ -100,7 +101,7 @@ rise_more key from (first ∷ puts) next kv rise put = (rise.0, rise_more key (n
 
 -- A put that comes no earlier than one revision comes no earlier than one before it.
 put_since : (key : List ℕ) (last next : ℕ) (kv : Kv) → last ≤ next → IsPut key next kv → IsPut key last kv
-put_since key last next kv le put = (put.0, omega (arith, put.1, le), put.2)
+put_since key last next kv le put = let at = put.1 in (put.0, omega (arith, ints), put.2)
 
 -- how far a stream came: every put before the next revision was told
 pub record Came (key : List ℕ) (from next : ℕ) (k k' : SinkTold) : Type 0 where
@@ -168,7 +169,8 @@ closed result r key from next s s' k m k' is came waits wrote =
 pub canceled : (result : Result WatchEnd HttpFault) (r : Result (Unit {0}) HttpFault) (key : List ℕ) (from next : ℕ) (floor now : ℤ) (s s' : Told) (k m k' : SinkTold) → result ≡ told_whole r
     → Came key from next k m → Waits s s' → pos next <ℤ floor → WroteFront r (line_chunk (canceled_text floor now) ++ last_chunk) m k' → Watches result key from s s' k k'
 canceled result r key from next floor now s s' k m k' is came waits below wrote =
-    let earlier : pos came.last <ℤ floor = omega (arith, below, came.within) in
+    let within = came.within in
+    let earlier : pos came.last <ℤ floor = omega (arith, ints) in
     subst (λ (x : Result WatchEnd HttpFault). Watches x key from s s' k k') (sym is)
     (whole r key from s s' k k' (sent_whole r key from next (line_chunk (canceled_text floor now) ++ last_chunk) k m k' came (inr (floor, now, earlier, refl)) wrote) waits)
 
