@@ -62,7 +62,7 @@ pub record Receives (result : Result (Route × Vec ℕ) HttpFault) (source sourc
   pub answer : RequestAnswer result bytes source' tally
   pub whole : (all body rest : List ℕ) (goes : Route) → source.left ≡ Some all → HoldsRequest goes body rest all → length body ≤ 8388608 → ReadsRequestBody result goes body rest source'.left
 
--- These bytes were written, or a front of them up to a fault of the sink, or nothing, as memory ran out.
+-- These bytes were written, or a front of them up to a fault of the sink, or nothing, where memory ran out.
 abbrev pub Writes : Result (Unit {0}) HttpFault → List ℕ → SinkTold → SinkTold → Type 0
 Writes result bytes sink sink' = Sends result bytes sink.taken sink'.taken sink.counts sink'.counts sink.name sink'.name
 
@@ -87,7 +87,7 @@ Answers result to body source source' sink sink' = (AnswersOnce result to body s
 abbrev pub IsLeft : Route → List ℕ → Told → Told → SinkTold → SinkTold → Type 0
 IsLeft to body source source' sink sink' = (to ≡ route.Watch) × (from : ℤ) × (key : List ℕ) × reads_watch body from key × StreamsOn key (nat_abs from) sink sink' × Leaves source source'
 
--- nothing was sent as memory ran out, or a front of a watch's stream
+-- memory ran out, and nothing was sent, or a front of a watch's stream
 abbrev pub Starves : Route → List ℕ → Told → Told → SinkTold → SinkTold → Type 0
 Starves to body source source' sink sink' =
     (Rests sink sink' × (source' ≡ source)) ⊎ ((to ≡ route.Watch) × (from : ℤ) × (key : List ℕ) × reads_watch body from key × Streams (Err http.Memory) key (nat_abs from) sink sink' × Waits source source')
@@ -140,7 +140,7 @@ end_of (Ok _) = Ok tt
 end_of (Err http.Memory) = Err ends.Memory
 end_of (Err f) = Err (ends.Http f)
 
--- a response was sent, or a front of it up to a fault of the sink, or nothing, as memory ran out
+-- a response was sent, or a front of it up to a fault of the sink, or nothing, where memory ran out
 abbrev pub RespondsOr : Result (Unit {0}) GatewayEnd → ℕ → List ℕ → SinkTold → SinkTold → Type 0
 RespondsOr (Ok _) status text sink sink' = Responds (Ok tt) status text sink sink'
 RespondsOr (Err (ends.Http f)) status text sink sink' = (f ≡ http.WriteFault) × Responds (Err http.WriteFault) status text sink sink'

@@ -45,7 +45,7 @@ pub fn replay<I: Source, O: Sink>(alloc: Global, input: &mut I, out: &mut O) -> 
     }
 }
 
-/// Whether reading ended since memory ran out.
+/// Whether reading ended because memory ran out.
 fn wants_memory(end: End) -> bool
     ensures { result ≡ false → end ≢ End.Stopped Stop.Memory }
 {

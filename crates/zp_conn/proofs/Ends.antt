@@ -245,7 +245,7 @@ unanswered old new cause.WriteFault h = absurd h
 unanswered old new cause.Restart h = absurd h
 unanswered old new cause.Memory h = refl
 
--- one call at most wanted memory
+-- one call at most ran out of memory
 at-most-one : (why : Cause) (unheard : List (Option (Option Answer))) → IsUnheard (next.Ended why) unheard → 0 + length unheard ≤ 1
 at-most-one why unheard (inl none) = subst (λ (l : List (Option (Option Answer))). 0 + length l ≤ 1) (sym none) (omega arith)
 at-most-one why unheard (inr (is, one)) = subst (λ (l : List (Option (Option Answer))). 0 + length l ≤ 1) (sym one) (omega arith)

@@ -136,7 +136,7 @@ closings-after c c' (input.BadLength p n) now out a b opened h unshut e = e
 
 -- ---- what came of the calls
 
--- an input is there, so no call wanted memory
+-- an input is there, so no call ran out of memory
 all-handed : (x : Input) (unheard : List (Option (Option Answer))) → IsUnheard (next.Input x) unheard → unheard ≡ []
 all-handed x unheard (inl none) = none
 all-handed x unheard (inr (is, one)) = absurd (cc)

@@ -103,7 +103,7 @@ pub all-heard : (unheard : List (Option (Option Answer))) → IsUnheard next.Idl
 all-heard unheard (inl none) = none
 all-heard unheard (inr (is, one)) = absurd (cc)
 
--- where no call wanted memory, and the next input is no answer
+-- where no call ran out of memory, and the next input is no answer
 same-outcomes : (found : List (Option (Option Answer))) (answers more : List (Option Answer)) (unheard : List (Option (Option Answer))) → found ≡ map Some (answers ++ []) ++ unheard → IsUnheard next.Idle unheard → more ≡ [] → found ≡ map Some (answers ++ more) ++ []
 same-outcomes found answers more unheard e none m = e ∙ ap (λ l. map Some (answers ++ []) ++ l) (all-heard unheard none) ∙ ap (λ l. map Some (answers ++ l) ++ []) (sym m)
 

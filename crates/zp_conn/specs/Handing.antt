@@ -25,6 +25,6 @@ pub record IsSpoken (r : Result Rest Memory) (x : Input) (now : ℕ) (core core'
 abbrev pub IsStepped : Result Rest Memory → Input → ℕ → Core → Core → List ℕ → List ℕ → Option (List Noted) → Option (List Noted) → Type 0
 IsStepped r x now core core' o o' n n' = IsRefused r o o' n n' ⊎ IsSpoken r x now core core' o o' n n'
 
--- the input was not noted; or it was, and then the core took its step, or wanted memory
+-- the input was not noted; or it was, and then the core took its step, or ran out of memory
 abbrev pub Hands : Result Rest Memory → Input → ℕ → Core → Core → List ℕ → List ℕ → Option (List Noted) → Option (List Noted) → Type 0
 Hands r x now core core' o o' n n' = IsRefused r o o' n n' ⊎ IsStepped r x now core core' o o' (with_note n (In (noted_input x) now)) n'

@@ -184,7 +184,7 @@ abbrev pub closings_in : Next → ℕ
 closings_in (next.Input input.FeedClosed) = 1
 closings_in _ = 0
 
--- a call that wanted memory gave nothing to hand in, and ends the connection
+-- a call that ran out of memory gave nothing to hand in, and ends the connection
 abbrev pub IsUnheard : Next → List (Option (Option Answer)) → Type 0
 IsUnheard n unheard = (unheard ≡ []) ⊎ ((n ≡ next.Ended cause.Memory) × (unheard ≡ None ∷ []))
 

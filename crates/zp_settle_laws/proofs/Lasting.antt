@@ -447,7 +447,7 @@ module _ (w w' : World) (c j : ℕ) (ex : Executes c w w') (k : IsAccounted w) w
       let most = l.most in
       left-by (Connection core) actor (Carried b) carried (record {
         total = d.left + asks_of_all core.waiting;
-        left = subst (λ s. RemainsAfter s core b (d.left + asks_of_all core.waiting)) (sym at_u) (record { asks = d.left; rest = d.after; most = omega arith });
+        left = subst (λ s. RemainsAfter s core b (d.left + asks_of_all core.waiting)) (sym at_u) (record { asks = d.left; after = d.after; most = omega arith });
         most = omega (arith, most, t.most, d.is, one_more, then-entries);
       })
 

@@ -3,8 +3,8 @@
 //! keepalive and a look at its session, looks up each key that it reads once, and asks for one transaction, whose guards then hold.
 //! What was looked up before the settle may be of an earlier state; then its plan fails once, and all of it is looked up anew.
 //!
-//! By what nothing ends in a replay. A line's bytes are read and written without a fault, no line closes the list of entries, want of
-//! memory is shown by no line, and each value that is found under a key of the service is a record.
+//! By what nothing ends in a replay. A line's bytes are read and written without a fault, no line closes the list of entries, none
+//! shows that memory ran out, and each value that is found under a key of the service is a record.
 //!
 //! When a connection stays open. While its session lives and is attached to it, only these end it: its own requests and bytes, the
 //! lines of a script that end it, and a full store, which denies what it asks.
@@ -12,7 +12,8 @@
 //! In `specs/`: `Looks` (how much a request looks up, and how many asks a frame takes), `Lines` (how many lines are left at
 //! most), `Bytes` (the bytes of the frames that came), `Settling` (a settle ends), `Answering` (then each frame has its answer,
 //! by the lines alone), `Staying` (a connection stays open at its own lines), `Undisturbed` (and in every run), `Causes` (what
-//! nothing ends by). In `proofs/` by topic: `Places` (each look-up has its place), `Coming` (the asks that are still to come),
+//! nothing ends by), `Possible` (a possible line has a world after it).
+//! In `proofs/` by topic: `Places` (each look-up has its place), `Coming` (the asks that are still to come),
 //! `Answered`, `Carried` (an answer comes, an ask is carried out), `Truths` (a plan on the present is carried out), `Reaps`,
 //! `Entered` (an entry brings the cursor on), `Lasting` (a line leaves fewer), `Sizes` (what a frame looks up is bounded by its
 //! bytes), `Bytes`, `Enough` (the bound is enough), `Ending`, `Replied` (what a walk gives is one reply a frame); `Homes` (a
