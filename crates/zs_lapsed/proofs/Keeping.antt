@@ -78,7 +78,7 @@ dials_unlinked L A B None fault size counts counts' h = for_unlinked A B fault s
 
 -- ---- the worker
 
-times-both : (n m : ℕ) (counts : NetCounts) → undialled_times n (undialled_times m counts) ≡ undialled_times (n + m) counts
+times-both : (n m : ℕ) (counts : NetCounts) → undialled_times n (undialled_times m counts) ≡ undialled_times (m + n) counts
 times-both zero m counts = refl
 times-both (suc n) m counts = ap undialled (times-both n m counts)
 
@@ -100,7 +100,7 @@ over-dials (Some link) result size counts counts' h = record { failed = 0; count
 over-dials None result size counts counts' h = for-dials result size counts counts' h
 
 then-dials : (a b c : NetCounts) → OnlyDials a b → OnlyDials b c → OnlyDials a c
-then-dials a b c h k = record { failed = k.failed + h.failed; counted = k.counted ∙ ap (undialled_times k.failed) h.counted ∙ times-both k.failed h.failed a }
+then-dials a b c h k = record { failed = h.failed + k.failed; counted = k.counted ∙ ap (undialled_times k.failed) h.counted ∙ times-both k.failed h.failed a }
 
 pub dials_first : (counts : NetCounts) → OnlyDials counts counts
 dials_first counts = record { failed = 0; counted = refl }
