@@ -1,5 +1,6 @@
 -- What was left to ask is what is lacking.
-use Rattle.std.proofs.Common.{rules, arith, ◌≡◌, ◌≤◌, sym, subst, true, length}
+use Rattle.std.proofs.Common.{rules, arith, w64, ℤ, ◌≡◌, ◌≤◌, sym, subst, true, length}
+use Rattle.std.proofs.lemmas.Int.{to_z-of_z}
 use Rattle.zn_view.specs.Adding.{IsOtherRevision, at_revision}
 use Rattle.zn_view.specs.Asks.{with_parts}
 use Rattle.zn_view.specs.Needs.{AreNeeds}
@@ -25,4 +26,7 @@ returns-then-is_left-clause-needs c =
 pub returns-then-is_left-clause-same_revision : goal.returns-then-is_left-clause-same_revision
 returns-then-is_left-clause-same_revision c =
     let before : c.deref_mut.result.now ≡ c.args.round = search rules in
-    λ other. c.in_ok-add.ensures.same_revision (subst (λ (t : Task). IsOtherRevision t.view c.args.revision) (sym before) other)
+    let number = sym (to_z-of_z w64 c.args.revision c.ranges.revision) in
+    λ other.
+    c.in_ok-add.ensures.same_revision
+    (subst (λ (n : ℤ). IsOtherRevision c.deref_mut.result.now.view n) number (subst (λ (t : Task). IsOtherRevision t.view c.args.revision) (sym before) other))
