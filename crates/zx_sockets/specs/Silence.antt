@@ -1,14 +1,19 @@
 -- How long a peer may say nothing.
-use Rattle.std.specs.Prelude.{◌≡◌, ℕ, ◌+◌, ◌-◌, ◌<◌, zero, suc, Option, Some, None}
+use Rattle.std.specs.Prelude.{◌≡◌, ℕ, ◌+◌, ◌-◌, ◌*◌, ◌<◌, zero, suc, Option, Some, None}
 use Rattle.zx_outside.specs.declared.source.Got.{Got}
 use Rattle.zx_outside.specs.declared.source.Got.TheVariants as got
 use Rattle.std.specs.declared.time.Duration.{Duration}
+use Rattle.std.specs.Duration.{as_nanos}
 use Rattle.zx_sockets.specs.declared.patience.Patience.{Patience}
 
 -- The least connect has a length of 4 bytes, a version of 4, a zxid of 8, a timeout of 4, a session of 8, and no password, of which
 -- 4 bytes tell (zookeeper.jute, `ConnectRequest`).
 abbrev pub least_connect : ℕ
 least_connect = 4 + 4 + 8 + 4 + 8 + 4
+
+-- Of a peer that was accepted nothing has come, and it has 10 seconds for its first bytes, and 60 for each silence after them.
+abbrev pub IsAccepted : Patience → Type 0
+IsAccepted patience = (as_nanos patience.first ≡ 10_000 * 1_000_000) × (as_nanos patience.later ≡ 60_000 * 1_000_000) × (patience.wanted ≡ least_connect)
 
 -- The first limit holds until as many bytes came as the least connect has.
 abbrev pub limit_after : ℕ → Duration → Duration → Duration

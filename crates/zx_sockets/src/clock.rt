@@ -110,7 +110,8 @@ impl<R: SystemClock + Copy> Clock for StdClock<R> {
     }
 
     fn another(&self) -> StdClock<R>
-        ensures { result.last ≡ self.now.last }
+        ensures told { result.last ≡ self.now.last }
+        ensures mark { result.mark ≡ self.now.mark }
     {
         StdClock {
             rt: self.rt,

@@ -2,6 +2,7 @@
 
 ghost use Rattle.std.specs.Prelude.{◌≡◌, false, IfSome};
 ghost use Rattle.zx_sockets.specs.Nets.{is_passing};
+ghost use Rattle.zx_sockets.specs.Silence.{IsAccepted};
 
 use crate::keeping::keep_watch;
 use crate::patience::Patience;
@@ -89,6 +90,7 @@ pub fn ends_of<R: SystemClock + Copy>(
     name: u64,
     patience: Option<Patience>,
 ) -> Option<(SocketSource<R>, SocketSink)>
+    ensures patience { IfSome result (λ ends. ends.0.patience ≡ patience) }
     ensures source { IfSome result (λ ends. (ends.0.ended ≡ false) × (ends.0.faults ≡ 0) × (ends.0.idles ≡ 0) × (ends.0.name ≡ name)) }
     ensures sink { IfSome result (λ ends. (ends.1.faults ≡ 0) × (ends.1.name ≡ name)) }
 {
@@ -124,6 +126,7 @@ fn next_ends<R: SystemClock + Copy>(
     door: &StdDoor,
     name: u64,
 ) -> Option<(SocketSource<R>, SocketSink)>
+    ensures patience { IfSome result (λ ends. IfSome ends.0.patience IsAccepted) }
     ensures source { IfSome result (λ ends. (ends.0.ended ≡ false) × (ends.0.faults ≡ 0) × (ends.0.idles ≡ 0) × (ends.0.name ≡ name)) }
     ensures sink { IfSome result (λ ends. (ends.1.faults ≡ 0) × (ends.1.name ≡ name)) }
 {
@@ -191,7 +194,9 @@ impl<
         }
     }
 
-    fn accept(&mut self, door: &mut StdDoor) -> Result<(SocketSource<R>, SocketSink), NetFailed> {
+    fn accept(&mut self, door: &mut StdDoor) -> Result<(SocketSource<R>, SocketSink), NetFailed>
+        ensures patience { IfOk result (λ ends. IfSome ends.0.patience IsAccepted) }
+    {
         let name = self.accepted.saturating_add(1);
         match next_ends(self.rt, self.alloc, door, name) {
             Some(ends) => {
@@ -205,7 +210,9 @@ impl<
         }
     }
 
-    fn dial(&mut self, address: &str) -> Result<(SocketSource<R>, SocketSink), NetFailed> {
+    fn dial(&mut self, address: &str) -> Result<(SocketSource<R>, SocketSink), NetFailed>
+        ensures patience { IfOk result (λ ends. ends.0.patience ≡ None) }
+    {
         if let Some(pauses) = &mut self.pauses {
             pauses.wait(&self.rt);
         }

@@ -139,7 +139,8 @@ impl<R: SystemClock + Copy> SocketSource<R> {
         name: u64,
         patience: Option<Patience>,
     ) -> Result<SocketSource<R>, AllocError>
-        ensures { IfOk result (λ source. (source.ended ≡ false) × (source.faults ≡ 0) × (source.idles ≡ 0) × (source.name ≡ name)) }
+        ensures new { IfOk result (λ source. (source.ended ≡ false) × (source.faults ≡ 0) × (source.idles ≡ 0) × (source.name ≡ name)) }
+        ensures patience { IfOk result (λ source. source.patience ≡ patience) }
     {
         let room = vec![in alloc; 0u8; ROOM]?;
         Ok(SocketSource {
