@@ -1,5 +1,5 @@
 -- Which link is kept, and what the net counts.
-use Rattle.std.proofs.Common.{◌≡◌, ℕ, zero, suc, ◌+◌, ◌<◌, refl, ap, ◌∙◌, subst, inl, inr}
+use Rattle.std.proofs.Common.{◌≡◌, ℕ, zero, suc, ◌+◌, ◌<◌, refl, ap, ◌∙◌, subst, arith, inl, inr}
 use Rattle.std.specs.Prelude.{Bool, true, false, [], Option, Some, None, Result, Ok, Err}
 use Rattle.ev_link.specs.declared.failure.LinkFailure.{LinkFailure}
 use Rattle.ev_link.specs.declared.failure.LinkFailure.TheVariants as failure
@@ -79,8 +79,8 @@ dials_unlinked L A B None fault size counts counts' h = for_unlinked A B fault s
 -- ---- the worker
 
 times-both : (n m : ℕ) (counts : NetCounts) → undialled_times n (undialled_times m counts) ≡ undialled_times (m + n) counts
-times-both zero m counts = refl
-times-both (suc n) m counts = ap undialled (times-both n m counts)
+times-both zero m counts = let all : m ≡ m + 0 = omega arith in ap (λ (k : ℕ). undialled_times k counts) all
+times-both (suc n) m counts = ap undialled (times-both n m counts) ∙ (let all : suc (m + n) ≡ m + suc n = omega arith in ap (λ (k : ℕ). undialled_times k counts) all)
 
 for-dials : (result : Result (Unit {0}) Fault) (size : ℕ) (counts counts' : NetCounts) → DialsFor result size counts counts' → OnlyDials counts counts'
 for-dials (Ok x) size counts counts' h = record { failed = h.0; counted = h.2 }
