@@ -177,7 +177,7 @@ canceled result r key from next floor now s s' k m k' is came waits below wrote 
 -- the client left
 pub left : (key : List ℕ) (from next : ℕ) (s here s' : Told) (k k' : SinkTold) → Came key from next k k' → Waits s here → Looks false here s' → Watches (Ok over.Left) key from s s' k k'
 left key from next s here s' k k' came waits look =
-    (record { created = came.created; puts = came.puts; next = came.last; rise = came.rise; wrote = came.wrote }, here, waits, look)
+    (record { created = came.created; puts = came.puts; next = came.last; rise = came.rise; wrote = came.wrote }, (here, waits, look))
 
 -- a fault before the first put
 pub unbegun : (f : HttpFault) (key : List ℕ) (from : ℕ) (created : ℤ) (s : Told) (k k' : SinkTold) → WroteFront (Err f) (begun created) k k' → Watches (Err f) key from s s k k'

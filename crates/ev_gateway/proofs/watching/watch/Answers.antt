@@ -27,7 +27,7 @@ returns-in-Compacted g c =
     let present = to_z w64 (of_z w64 c.revision-in-Compacted.result) in
     let fits : FitsSigned w64 floor = search rules in
     let same = ap (λ (a : ℤ). line_chunk (canceled_text a present) ++ last_chunk) (to_z-of_z w64 floor fits) in
-    canceled c.told_whole-in-Compacted.result c.cancel.result c.args.key.now c.args.from c.puts.next floor present first now began here end c.told_whole-in-Compacted.ensures c.puts.invariant.4 c.puts.invariant.5 c.in-Compacted.ensures
+    canceled c.told_whole.result c.cancel.result c.args.key.now c.args.from c.puts.next floor present first now began here end c.told_whole.ensures c.puts.invariant.4 c.puts.invariant.5 c.in-Compacted.ensures
     (subst (λ (t : List ℕ). WroteFront c.cancel.result t here end) same c.cancel.ensures)
 
 pub returns-in-Closed : goal.returns-in-Closed
