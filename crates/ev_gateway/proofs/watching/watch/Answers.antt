@@ -1,12 +1,35 @@
-use Rattle.std.proofs.Common.{ℤ, List, ℕ, ◌++◌, ap, subst, w64, to_z, of_z, rules, FitsSigned}
+use Rattle.std.proofs.Common.{ℤ, List, ℕ, ◌++◌, ◌≤◌, Bool, true, arith, ap, subst, w64, to_z, of_z, rules, FitsSigned}
 use Rattle.std.proofs.lemmas.Int.{to_z-of_z}
 use Rattle.ev_http.specs.Chunked.{last_chunk}
 use Rattle.ev_http.specs.Taking.{told}
 use Rattle.ev_json.specs.Messages.{canceled_text}
+use Rattle.ev_gateway.specs.Looking.{Looks}
 use Rattle.ev_gateway.specs.Sinks.{sink_told}
 use Rattle.ev_gateway.specs.Streaming.{WroteFront, line_chunk}
-use Rattle.ev_gateway.proofs.Streaming.{broken, by_wrote, canceled, closed, left, starved}
+use Rattle.ev_gateway.proofs.Looking.{one_look_more}
+use Rattle.ev_gateway.proofs.Streaming.{broken, by_wrote, canceled, closed, further, starved, unbegun}
 use Rattle.ev_gateway.proofs.watching.watch.Goals as goal
+
+pub returns-in-Err : goal.returns-in-Err
+returns-in-Err g c =
+    let began = (sink_told g.K.Sink.taken g.K.Sink.counts g.K.Sink.name c.args.sink.now) in
+    let here = (sink_told g.K.Sink.taken g.K.Sink.counts g.K.Sink.name c.begin.new.sink) in
+    let first = (told g.S.Source.given g.S.Source.left g.S.Source.counts g.S.Source.ended g.S.Source.name c.args.source.now) in
+    let created = to_z w64 (of_z w64 c.revision.result) in
+    unbegun c.in-Err.fault c.args.key.now c.args.from created first began here c.in-Err.ensures
+
+pub puts-preserved : goal.puts-preserved
+puts-preserved g c =
+    let began = (sink_told g.K.Sink.taken g.K.Sink.counts g.K.Sink.name c.args.sink.now) in
+    let here = (sink_told g.K.Sink.taken g.K.Sink.counts g.K.Sink.name c.puts.sink) in
+    let first = (told g.S.Source.given g.S.Source.left g.S.Source.counts g.S.Source.ended g.S.Source.name c.args.source.now) in
+    let now = (told g.S.Source.given g.S.Source.left g.S.Source.counts g.S.Source.ended g.S.Source.name c.puts.source) in
+    let later = (told g.S.Source.given g.S.Source.left g.S.Source.counts g.S.Source.ended g.S.Source.name c.waits.new.source) in
+    let next = c.in-Waits.ensures in
+    let positive : 1 ≤ c.in-Waits.revision = omega (arith, c.puts.invariant.2, next.0) in
+    let quiet : Looks true now later = subst (λ (b : Bool). Looks b now later) c.if-not-waits.false c.waits.ensures in
+    let came = further c.args.key.now c.args.from c.puts.next c.in-Waits.revision began here c.puts.invariant.4 next.0 in
+    (tt, tt, positive, next.1, came, one_look_more first now later c.puts.invariant.5 quiet)
 
 pub returns-in-Err-send_put : goal.returns-in-Err-send_put
 returns-in-Err-send_put g c =
