@@ -1,6 +1,8 @@
 -- Packets that are the front of a queue, packet by packet.
-use Rattle.std.proofs.Common.{◌≡◌, ◌≢◌, Bool, true, false, ◌&&◌, List, [], ◌∷◌, length, refl}
+use Rattle.std.proofs.Common.{◌≡◌, ◌≢◌, ℕ, suc, ◌-◌, Bool, true, false, ◌&&◌, List, [], ◌∷◌, length, take, drop, refl, sym, arith}
 use Rattle.std.specs.Prelude.{◌==◌, bytes_eq, nat_le}
+use Rattle.std.proofs.lemmas.Bool.Decides.{nat_tests}
+use Rattle.std.proofs.lemmas.List.{length-drop, take_all}
 use Rattle.zk_transcript.specs.Walks.{Due}
 use Rattle.zk_least.specs.LeastQueues.{is_apart, is_front}
 
@@ -30,6 +32,13 @@ pub front-more : (d p : Due) (ds ps : List Due) → length ps ≢ 0 → is_due d
 front-more d p ds [] more is = absurd (more refl)
 front-more d p ds (q ∷ ps) more is = given (nat_le d.0 p.0) (bytes_eq d.1 p.1) (is_front (q ∷ ps) ds) is
 
+not-empty : (n : ℕ) → (suc n == 0) ≡ false
+not-empty n = grind (arith, nat_tests)
+
 pub front-over : (ps : List Due) → is_front ps [] ≡ (length ps == 0)
 front-over [] = refl
-front-over (p ∷ ps) = refl
+front-over (p ∷ ps) = sym (not-empty (length ps))
+
+-- the entries after the one at a place, as a slice to the end has them
+pub later : (ds : List Due) (k : ℕ) → take (length ds - k) (drop k ds) ≡ drop k ds
+later ds k = take_all _ _ (omega (arith, length-drop k ds))

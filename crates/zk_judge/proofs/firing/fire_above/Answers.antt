@@ -1,8 +1,9 @@
-use Rattle.std.proofs.Common.{◌≡◌, ◌≤◌, true, List, length, ap, sym, ◌∙◌, arith}
+use Rattle.std.proofs.Common.{◌≡◌, ◌≤◌, ℤ, true, List, length, ap, sym, ◌∙◌, subst, rules, arith, w64, to_z, of_z}
+use Rattle.std.proofs.lemmas.Int.{to_z-of_z}
 use Rattle.zk_model.specs.Watches.{Watches, is_unarmed}
 use Rattle.zk_transcript.specs.declared.transcript.TranscriptLine.{TranscriptLine}
-use Rattle.zk_transcript.specs.Walks.{Due, fired_above}
-use Rattle.zk_judge.specs.Seen.{walker_of}
+use Rattle.zk_transcript.specs.Walks.{Due, fired_above, is_above, then_fired}
+use Rattle.zk_judge.specs.Seen.{fired_of, walker_of}
 use Rattle.zk_judge.proofs.Fronts.{fired-end, fired-next, fired-start, fired-unarmed, front-get, line-at}
 use Rattle.zk_judge.proofs.Opened.{take-end}
 use Rattle.zk_judge.proofs.firing.fire_above.Goals as goal
@@ -24,9 +25,13 @@ updates-preserved c =
     let lines = c.args.index.now.lines.now in
     let place = c.next_update-place.ensures in
     let here = line-at past c.next_update-place.result c.if-past-place.false in
+    let zxid : to_z w64 (of_z w64 c.args.walker.zxid) ≡ c.args.walker.zxid = to_z-of_z w64 c.args.walker.zxid (search rules) in
+    let fires =
+    subst (λ (z : ℤ). fired_of c.in_ok-fired.fired ≡ then_fired lines c.next_update-place.result (is_above z here.0) (fired_of c.updates.fired)) zxid
+    (c.in_ok-fired.ensures here.0 (front-get past lines c.next_update-place.result here.0 c.requires.front here.1)) in
     fired-next past lines c.args.walker.zxid c.args.walker.watches c.updates.at c.next_update-place.result here.0 _ _ c.requires.front place.from c.if-past-place.false
     (λ k u low high at. place.none k u low high (front-get past lines k _ c.requires.front at))
-    here.1 c.updates.invariant (c.in_ok-fired.ensures here.0 (front-get past lines c.next_update-place.result here.0 c.requires.front here.1))
+    here.1 c.updates.invariant fires
 
 pub returns : goal.returns
 returns c =

@@ -10,6 +10,6 @@ pub returns-in-Some : goal.returns-in-Some
 returns-in-Some c =
     ap reply_in (sym (ap (option_map told_of) c.in-Some.is) ∙ c.in_ok-told.ensures ∙ ap (λ (w : Watches). plain_request w c.args.request.now) c.new.ensures)
 
-pub returns-in-None : goal.returns-in-None
-returns-in-None c =
+pub returns : goal.returns
+returns c =
     ap reply_in (sym (ap (option_map told_of) c.in-None.is) ∙ c.in_ok-told.ensures ∙ ap (λ (w : Watches). plain_request w c.args.request.now) c.new.ensures)

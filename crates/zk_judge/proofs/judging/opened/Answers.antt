@@ -3,6 +3,7 @@ use Rattle.std.proofs.lemmas.List.{take_more}
 use Rattle.zk_transcript.specs.declared.transcript.TranscriptLine.{TranscriptLine}
 use Rattle.zk_judge.specs.Agendas.{HasConversation}
 use Rattle.zk_judge.specs.Staged.{AreOpened}
+use Rattle.zk_judge.proofs.Opened.{take-end}
 use Rattle.zk_judge.proofs.judging.opened.Goals as goal
 
 pub loop-line-preserved : goal.loop-line-preserved
@@ -16,3 +17,7 @@ loop-line-preserved c =
       next = c.in_ok-agenda.ensures.next;
       opened = subst (λ (ls : List TranscriptLine). AreOpened ls (HasConversation c.in_ok-agenda.agenda)) next (c.in_ok-agenda.ensures.opened (take k lines) c.loop-line.invariant.opened);
     }
+
+pub returns-clause-opened : goal.returns-clause-opened
+returns-clause-opened c =
+    subst (λ (ls : List TranscriptLine). AreOpened ls (HasConversation c.loop-line.agenda)) (take-end c.args.index.now.lines.now c.loop-line.line-index c.loop-line-test.false) c.loop-line.invariant.opened

@@ -2,9 +2,9 @@ use Rattle.std.proofs.Common.{◌≡◌, ◌≢◌, ◌+◌, ◌∷◌, List, fa
 use Rattle.std.specs.Prelude.{◌==◌}
 use Rattle.std.proofs.lemmas.List.{at_drop_all, at_drop_more}
 use Rattle.zk_transcript.specs.Walks.{Due}
-use Rattle.zk_least.specs.LeastQueues.{is_front}
+use Rattle.zk_least.specs.LeastQueues.{is_apart, is_front}
 use Rattle.zk_judge.specs.Sent.{packets_in}
-use Rattle.zk_judge.proofs.FrontPackets.{front-last, front-more, front-over, front-refused, is_due}
+use Rattle.zk_judge.proofs.FrontPackets.{front-last, front-more, front-over, front-refused, is_due, later}
 use Rattle.zk_judge.proofs.packets.is_front.Goals as goal
 
 pub returns-then-not-is_given : goal.returns-then-not-is_given
@@ -34,7 +34,7 @@ returns-then-len-eq0 c =
     sym (c.loop-at.invariant ∙ ap (λ (qs : List Due). is_front qs (drop at queue)) c.in-Some.ensures
     ∙ at_drop_more (is_front (p ∷ ps)) queue at d c.loop-at-test.true
     ∙ ap (λ (e : Due). is_front (p ∷ ps) (e ∷ ds)) (sym c.index-queue-at.is)
-    ∙ front-last d p ds ps last due ∙ sym (c.is_apart.ensures d.1))
+    ∙ front-last d p ds ps last due ∙ sym (c.is_apart.ensures d.1 ∙ ap (is_apart d) (later queue (at + 1))))
 
 pub loop-at-preserved : goal.loop-at-preserved
 loop-at-preserved c =
@@ -57,5 +57,5 @@ returns-in_default c = sym (c.loop-at.invariant ∙ ap (λ (qs : List Due). is_f
 pub returns : goal.returns
 returns c =
     let left = packets_in c.loop-at.left in
-    ap (λ n. n == 0) c.len.ensures
+    ap (λ n. n == 0) c.len-2.ensures
     ∙ sym (c.loop-at.invariant ∙ at_drop_all (is_front left) c.args.queue.now c.loop-at.at c.loop-at-test.false ∙ front-over left)

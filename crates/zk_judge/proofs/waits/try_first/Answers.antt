@@ -1,10 +1,11 @@
-use Rattle.std.proofs.Common.{◌≡◌, ◌∷◌, ℕ, ℤ, Bool, List, inr, ap, sym, ◌∙◌, drop, length, length-drop, subst, rules, IfOk, arith}
-use Rattle.std.specs.Prelude.{option_map, option_to_list}
+use Rattle.std.proofs.Common.{◌≡◌, ◌≤◌, ◌∷◌, ℕ, ℤ, Bool, List, inr, ap, sym, ◌∙◌, drop, length, length-drop, subst, rules, IfOk, arith}
+use Rattle.std.specs.Prelude.{Option, IfSome, option_map, option_to_list}
 use Rattle.zk_transcript.specs.Walks.{Due, packets}
 use Rattle.zk_least.specs.LeastSteps.{is_least}
 use Rattle.zk_judge.specs.Sent.{packets_in}
 use Rattle.zk_judge.specs.Seen.{left_by, walker_of}
 use Rattle.zk_judge.specs.Waiting.{goes_on, is_walked, tried}
+use Rattle.zk_judge.specs.declared.walker.Step.{Step}
 use Rattle.zk_judge.specs.declared.walker.Walker.{Walker as Walking}
 use Rattle.zk_judge.specs.Fronts.{IsTold}
 use Rattle.zk_transcript.specs.declared.transcript.TranscriptLine.{TranscriptLine}
@@ -54,6 +55,17 @@ settle-requires-clause-told c =
     let is = sym (c.in_ok-tried.ensures.step ∙ same-try lines c.args.wait.party.connection c.args.wait.party.session _ _ ps c.args.wait.first c.in_ok-walker.ensures) ∙ ap (option_map (left_by ps)) c.in-Some.is in
     let a = answer-on lines c.args.wait.party.connection c.args.wait.party.session (walker_of c.args.wait.walker) ps c.args.wait.first (left_by ps c.in-Some.field-0) c.requires.run c.requires.stands.above is in
     a.told
+
+pub settle-requires-clause-within : goal.settle-requires-clause-within
+settle-requires-clause-within c =
+    let ps = packets_in c.rest_after.result in
+    let whole = packets c.args.wait.party.connection c.args.index.now.lines.now in
+    let here = c.rest_after.ensures ∙ ap (λ (ds : List Due). drop c.args.wait.taken ds) c.packets_of.ensures in
+    let most : length c.in-Some.field-0.due.items ≤ length ps = subst (λ (o : Option Step). IfSome o (λ s. length s.due.items ≤ length ps)) c.in-Some.is c.in_ok-tried.ensures.within in
+    let size = ap (λ (ds : List Due). length ds) here in
+    let len : c.len.result ≡ length c.in-Some.field-0.due.items = search rules in
+    let taken = c.requires.stands.taken in
+    omega (arith, most, size, len, taken, length-drop c.args.wait.taken whole)
 
 pub returns-in-Some-clause-walked : goal.returns-in-Some-clause-walked
 returns-in-Some-clause-walked c =

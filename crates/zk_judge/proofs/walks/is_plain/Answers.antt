@@ -18,8 +18,8 @@ returns-in-Some c =
     plain-is x (plain_reply no_watches x) c.in-Some.answer c.args.reply.now answered ∙ ap (λ (y : Frame). is_plain y (plain_reply no_watches y) c.args.reply.now) c.in_ok-frame.ensures in
     subst (λ (b : Bool). IfOk c.is_reply.result (λ r. r ≡ b)) same c.is_reply.ensures
 
-pub returns-in-None : goal.returns-in-None
-returns-in-None c =
+pub returns : goal.returns
+returns c =
     let x = frame_as c.in_ok-frame.frame in
     let unanswered : None ≡ reply_in (plain_reply no_watches x) = sym c.in-None.is ∙ c.in_ok-answer.ensures in
     plain-is-not x (plain_reply no_watches x) c.args.reply.now unanswered ∙ ap (λ (y : Frame). is_plain y (plain_reply no_watches y) c.args.reply.now) c.in_ok-frame.ensures
