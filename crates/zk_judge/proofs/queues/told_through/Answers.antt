@@ -17,4 +17,6 @@ returns c =
     subst
     (λ (z : ℤ). (l : TranscriptLine) → slice_get lines c.args.place ≡ Some l → fired_of c.in_ok-fired.fired ≡ then_fired lines c.args.place (is_above z l) (fired_of c.in_ok-before.before))
     told c.in_ok-fired.ensures in
-    told-through lines (walker_of c.args.walker) c.args.place c.args.zxid (fired_of c.in_ok-before.before) (fired_of c.in_ok-fired.fired) c.requires.place c.in_ok-before.ensures armed fires
+    let zxid : to_z w64 (of_z w64 c.args.zxid) ≡ c.args.zxid = search rules in
+    rw zxid
+    (told-through lines (walker_of c.args.walker) c.args.place c.args.zxid (fired_of c.in_ok-before.before) (fired_of c.in_ok-fired.fired) c.requires.place c.in_ok-before.ensures armed fires)
