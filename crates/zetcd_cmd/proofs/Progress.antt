@@ -14,7 +14,7 @@ use Rattle.zetcd_cmd.specs.declared.script.Script.{Script}
 use Rattle.zetcd_cmd.specs.declared.script.Stop.{Stop}
 use Rattle.zetcd_cmd.specs.declared.script.Stop.TheVariants as stop
 use Rattle.zetcd_cmd.specs.Replayed.{IsOver}
-use Rattle.zetcd_cmd.specs.Scripting.{HasNoLineFeed, Plays, ScriptHalts, IsKeptOut, ScriptSays, after, HasRead, ScriptStands, IsApplied, ScriptEnds, EndsEarly, IsOverAt}
+use Rattle.zetcd_cmd.specs.Scripting.{HasNoLineFeed, Plays, ScriptHalts, IsKeptOut, ScriptSays, with_first, HasRead, ScriptStands, IsApplied, ScriptEnds, EndsEarly, IsOverAt}
 use Rattle.zetcd_cmd.proofs.ScriptLaws.{Says-line, script_from-line, line_read-long, script_from-long, script_from-last, script_from-cut}
 
 abbrev no_line_feed : ℕ → Type 0
@@ -244,7 +244,7 @@ last_line-some n [] some = absurd (omega arith)
 last_line-some n (b ∷ bs) some = refl
 
 -- what is read of it all
-script-seen : (seen : List ℕ) (s : Script) (r : HasRead seen s) → length seen ≤ max_script → script seen ≡ after r.happenings (last_happening false (length r.happenings + 1) s.pending.items)
+script-seen : (seen : List ℕ) (s : Script) (r : HasRead seen s) → length seen ≤ max_script → script seen ≡ with_first r.happenings (last_happening false (length r.happenings + 1) s.pending.items)
 script-seen seen s r fits =
     let size : length seen ≡ length r.lines + length s.pending.items = ap length r.parts ∙ length-append r.lines s.pending.items in
     script-from seen ∙ ap (script_from 1 max_script) r.parts ∙ script_from-last max_script r.lines s.pending.items r.happenings r.says r.begun (omega arith)
