@@ -194,9 +194,7 @@ impl<
         }
     }
 
-    fn accept(&mut self, door: &mut StdDoor) -> Result<(SocketSource<R>, SocketSink), NetFailed>
-        ensures patience { IfOk result (λ ends. IfSome ends.0.patience IsAccepted) }
-    {
+    fn accept(&mut self, door: &mut StdDoor) -> Result<(SocketSource<R>, SocketSink), NetFailed> {
         let name = self.accepted.saturating_add(1);
         match next_ends(self.rt, self.alloc, door, name) {
             Some(ends) => {
@@ -210,9 +208,7 @@ impl<
         }
     }
 
-    fn dial(&mut self, address: &str) -> Result<(SocketSource<R>, SocketSink), NetFailed>
-        ensures patience { IfOk result (λ ends. ends.0.patience ≡ None) }
-    {
+    fn dial(&mut self, address: &str) -> Result<(SocketSource<R>, SocketSink), NetFailed> {
         if let Some(pauses) = &mut self.pauses {
             pauses.wait(&self.rt);
         }
