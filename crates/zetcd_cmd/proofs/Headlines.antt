@@ -7,6 +7,7 @@ use Rattle.zetcd_cmd.specs.Replayed.{IsReplayed, IsStopped, IsCutShort, IsOver, 
 use Rattle.zt_text.specs.Faults.{done_text, fault_text}
 use Rattle.zt_text.specs.Transcripts.{transcript_text}
 use Rattle.zx_outside.specs.Counts.{InputCounts}
+use Rattle.zx_outside.specs.Reading.{Gives}
 use Rattle.zx_outside.specs.Writing.{Takes}
 use Rattle.zt_lines.specs.Readable.{IsReason}
 use Rattle.zt_lines.specs.Words.{max_place}
@@ -18,7 +19,7 @@ use Rattle.zetcd_cmd.specs.declared.script.Stop.TheVariants as stop
 use Rattle.zetcd_cmd.specs.declared.status.Status.{Status}
 use Rattle.zetcd_cmd.specs.declared.status.Status.TheVariants as status
 use Rattle.zetcd_cmd.specs.Ending.{EndsAt, EndsReading}
-use Rattle.zetcd_cmd.specs.Outcomes.{Did, IsAtItsEnd, IsFront, StopsAt, ReplayWrites, Replays, TakesSome, IsUnharmed, Failed}
+use Rattle.zetcd_cmd.specs.Outcomes.{Did, AreFirstLines, IsAtItsEnd, IsFront, StopsAt, ReplayWrites, Replays, TakesSome, IsUnharmed, Failed}
 use Rattle.zetcd_cmd.specs.Reporting.{ending_text, status_after, stop_text}
 use Rattle.zetcd_cmd.specs.Scripting.{HasNoLineFeed, ScriptStands, IsApplied, IsHalted}
 use Rattle.zetcd_cmd.proofs.Progress.{script-lines}
@@ -151,7 +152,47 @@ Did-front how n s ended given given' left left' taken taken' held at not ends so
 pub Did-memory : (ended : Bool) (given given' left left' taken taken' : Option (List ℕ)) →
     Did (λ read output. IsFront (λ other whole. ReplayWrites other ended left' read whole) output) given given' left left' taken taken' →
     Did (Replays status.Memory ended left') given given' left left' taken taken'
-Did-memory ended given given' left left' taken taken' did = record { read = did.read; output = did.output; gives = did.gives; takes = did.takes; holds = inr did.holds }
+Did-memory ended given given' left left' taken taken' did = record { read = did.read; output = did.output; gives = did.gives; takes = did.takes; holds = inr (inr did.holds) }
+
+-- ---- it came to no end
+
+pub Did-refused : (ended : Bool) (given given' left left' taken taken' : Option (List ℕ)) → Did (Replays status.WriteFault ended left') given given' left left' taken taken' →
+    Did (Replays status.Memory ended left') given given' left left' taken taken'
+Did-refused ended given given' left left' taken taken' did = record { read = did.read; output = did.output; gives = did.gives; takes = did.takes; holds = inr (inr did.holds) }
+
+-- a front of the lines so far was written, and there may be more to read
+pub Did-begun : (seen : List ℕ) (s : Script) (ended : Bool) (given given' left left' taken taken' : Option (List ℕ)) → AreHeld s.world.lines → ScriptStands seen s → Gives seen given given' left left' →
+    TakesSome (transcript_text s.world.lines ++ []) taken taken' → Did (Replays status.WriteFault ended left') given given' left left' taken taken'
+Did-begun seen s ended given given' left left' taken taken' held st gives some = record {
+  read = seen;
+  output = some.0;
+  gives = gives;
+  takes = some.3;
+  holds = (status.ReadFault, transcript_text s.world.lines ++ [], some.1, cut_short seen s held st, some.2);
+}
+
+-- the lines so far were written, and memory was refused in what came next
+pub Did-spoiled : (seen later : List ℕ) (s : Script) (ended : Bool) (given given' left left' taken taken' : Option (List ℕ)) → AreHeld s.world.lines → ScriptStands seen s → Gives (seen ++ later) given given' left left' →
+    Takes (transcript_text s.world.lines) taken taken' → Did (Replays status.Memory ended left') given given' left left' taken taken'
+Did-spoiled seen later s ended given given' left left' taken taken' held st gives takes = record {
+  read = seen ++ later;
+  output = transcript_text s.world.lines;
+  gives = gives;
+  takes = takes;
+  holds = inr (inl (record {
+    front = seen;
+    later = later;
+    parts = refl;
+    transcript = transcript_text s.world.lines ++ [];
+    lines = cut_short seen s held st;
+    rest = [];
+    written = refl;
+  }));
+}
+
+-- nothing was read yet
+pub Did-unbegun : (ended : Bool) (given left taken : Option (List ℕ)) → Gives [] given given left left → Takes [] taken taken → Did (Replays status.Memory ended left) given given left left taken taken
+Did-unbegun ended given left taken gives takes = record { read = []; output = []; gives = gives; takes = takes; holds = inl refl }
 
 -- ---- which status comes of which end
 

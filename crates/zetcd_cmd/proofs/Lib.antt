@@ -1,3 +1,4 @@
+pub mod Appending
 pub mod Endings
 pub mod Fronts
 pub mod Headlines

@@ -80,7 +80,7 @@ pub HasRead-line : (seen bytes : List ℕ) (old new : Script) → HasNoLineFeed 
 HasRead-line seen bytes old new lacks plays empty next r fits =
     let line = old.pending.items ++ bytes in
     let text = seen ++ (bytes ++ 10 ∷ []) in
-    let applied = plays r.happenings r.reached in
+    let applied = plays.1 r.happenings r.reached in
     let many = r.says.many in
     let size = length-after seen r.lines old.pending.items bytes r.parts in
     let count : length (r.happenings ++ applied.0 ∷ []) ≡ length r.happenings + 1 = length-append r.happenings (applied.0 ∷ []) in
@@ -263,7 +263,7 @@ pub IsApplied-line : (seen : List ℕ) (old new : Script) → 0 < length old.pen
 IsApplied-line seen old new some plays st =
     let left = st.room in
     let hs = st.read.happenings in
-    let applied = plays hs st.read.reached in
+    let applied = plays.1 hs st.read.reached in
     record {
       happenings = hs ++ applied.0 ∷ [];
       reached = applied.2;

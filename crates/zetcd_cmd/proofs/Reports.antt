@@ -62,3 +62,13 @@ TakesSome-lines buffer lines i taken taken' some =
 pub TakesSome-begun : (first second buffer' : List ℕ) (taken taken' : Option (List ℕ)) → ReportPasses first [] buffer' taken taken' → TakesSome (first ++ second) taken taken'
 TakesSome-begun first second buffer' taken taken' early =
     (early.0, buffer' ++ second, ap (λ t. t ++ second) (sym early.1) ∙ append_assoc early.0 buffer' second, early.2)
+
+-- all that passed through an empty buffer, and then the buffer
+pub Passes-whole : (bytes buffer' : List ℕ) (taken taken' taken'' : Option (List ℕ)) → ReportPasses bytes [] buffer' taken taken' → Takes buffer' taken' taken'' → Takes bytes taken taken''
+Passes-whole bytes buffer' taken taken' taken'' early late =
+    subst (λ (t : List ℕ). Takes t taken taken'') early.1 (Takes-append early.0 buffer' taken taken' taken'' early.2 late)
+
+-- or a front of the buffer
+pub Passes-front : (bytes buffer' : List ℕ) (taken taken' taken'' : Option (List ℕ)) → ReportPasses bytes [] buffer' taken taken' → TakesSome buffer' taken' taken'' → TakesSome bytes taken taken''
+Passes-front bytes buffer' taken taken' taken'' early some =
+    subst (λ (t : List ℕ). TakesSome t taken taken'') early.1 (TakesSome-after early.0 buffer' taken taken' taken'' early.2 some)

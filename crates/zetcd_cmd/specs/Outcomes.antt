@@ -70,11 +70,22 @@ ReplayWrites (status.Script line) ended left read output = StopsAt line ended le
 ReplayWrites status.ReadFault ended left read output = IsCutShort read output
 ReplayWrites _ ended left read output = ⊥
 
--- A replay with this status read and wrote these bytes. With a fault of the output a front was written, and out of memory
--- a front or nothing.
+-- the output is a front of the transcript of the whole lines of a front of what was read
+pub record AreFirstLines (read output : List ℕ) : Type 0 where
+  pub front : List ℕ
+  pub later : List ℕ
+  pub parts : read ≡ front ++ later
+  pub transcript : List ℕ
+  pub lines : IsCutShort front transcript
+  pub rest : List ℕ
+  pub written : transcript ≡ output ++ rest
+
+-- A replay with this status read and wrote these bytes. With a fault of the output a front was written. With out of memory nothing
+-- was; or lines that earlier bytes led to; or, where it came after all lines, a front.
 abbrev pub Replays : Status → Bool → Option (List ℕ) → List ℕ → List ℕ → Type 0
 Replays status.WriteFault ended left read output = IsFront (λ other whole. ReplayWrites other ended left read whole) output
-Replays status.Memory ended left read output = (output ≡ []) ⊎ IsFront (λ other whole. ReplayWrites other ended left read whole) output
+Replays status.Memory ended left read output =
+    (output ≡ []) ⊎ AreFirstLines read output ⊎ IsFront (λ other whole. ReplayWrites other ended left read whole) output
 Replays s ended left read output = ReplayWrites s ended left read output
 
 -- ---- show

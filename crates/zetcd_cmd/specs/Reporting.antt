@@ -1,5 +1,7 @@
 -- What is written of a replay, and the status that goes with it.
-use Rattle.std.specs.Prelude.{◌≡◌, ℕ, List, [], ◌++◌, Option}
+use Rattle.std.specs.Prelude.{◌≡◌, ℕ, ◌≤◌, List, [], ◌++◌, length, take, Option}
+use Rattle.zk_transcript.specs.declared.transcript.TranscriptLine.{TranscriptLine}
+use Rattle.zt_text.specs.Transcripts.{transcript_text}
 use Rattle.zt_text.specs.Faults.{done_text, fault_text, unread_text, why_text}
 use Rattle.zx_outside.specs.Counts.{OutputCounts}
 use Rattle.zx_outside.specs.Writing.{Takes, counts_after_write}
@@ -32,6 +34,10 @@ status_after (end.Stopped (stop.Unread why)) n = status.Script n
 status_after (end.Stopped (stop.Refused why)) n = status.Script n
 status_after (end.Stopped stop.Memory) n = status.Memory
 status_after end.ReadFault n = status.ReadFault
+
+-- so many of these lines were written, from the first on
+abbrev pub HasWritten : ℕ → List TranscriptLine → Option (List ℕ) → Option (List ℕ) → Type 0
+HasWritten count lines taken taken' = (count ≤ length lines) × Takes (transcript_text (take count lines)) taken taken'
 
 -- bytes went through a buffer: some were written, and the buffer has the rest
 abbrev pub ReportPasses : List ℕ → List ℕ → List ℕ → Option (List ℕ) → Option (List ℕ) → Type 0

@@ -1,5 +1,6 @@
 -- A script that comes piece by piece: what of it was read and applied, and what ended it.
 use Rattle.std.specs.Prelude.{◌≡◌, ℕ, ◌+◌, ◌<◌, ◌≤◌, Bool, false, ◌==◌, List, [], ◌∷◌, ◌++◌, length, Option, Some, None, All}
+use Rattle.zk_transcript.specs.declared.transcript.TranscriptLine.{TranscriptLine}
 use Rattle.zt_text.specs.declared.script.Happening.{Happening}
 use Rattle.zt_text.specs.declared.script.Unread.{Unread}
 use Rattle.zt_text.specs.declared.script.Unread.TheVariants.{Unreadable}
@@ -23,9 +24,14 @@ IsFirstLine bytes line later = (bytes ≡ line ++ 10 ∷ later) × HasNoLineFeed
 
 -- ---- one line
 
+-- the transcript was only added to
+abbrev pub Appends : World → World → Type 0
+Appends w w' = (more : List TranscriptLine) × (w'.lines ≡ w.lines ++ more)
+
 -- the line was read, and what it says was applied
 abbrev pub Plays : List ℕ → World → World → Type 0
-Plays line w w' = (happenings : List Happening) → Reached happenings w → (h : Happening) × (happening_read line ≡ Some h) × Reached (happenings ++ h ∷ []) w'
+Plays line w w' =
+    Appends w w' × ((happenings : List Happening) → Reached happenings w → (h : Happening) × (happening_read line ≡ Some h) × Reached (happenings ++ h ∷ []) w')
 
 -- the line can't be read, or what it says isn't possible, and the world is as before; where memory was refused, nothing is said
 abbrev pub ScriptHalts : List ℕ → World → Stop → World → Type 0

@@ -1,4 +1,4 @@
-//! What a replay writes: its transcript, and how the script ended.
+//! What a replay writes: the lines of its transcript, and at last how the script ended.
 
 ghost use Rattle.std.specs.Prelude.{◌≡◌, ◌++◌, [], OnOk, OnErr, IfErr};
 ghost use Rattle.zt_text.specs.Transcripts.{line_text, transcript_text};
@@ -61,7 +61,23 @@ pub fn status_of(end: End, line: u64) -> Status
     }
 }
 
-/// Writes the transcript, and then how the script ended. `line` is the number of the next line, which was not applied.
+/// Writes lines, all of them before it returns.
+pub fn write_whole<O: Sink>(
+    alloc: Global,
+    lines: &[TranscriptLine],
+    out: &mut O,
+) -> Result<(), Unwritten>
+    ensures ok { OnOk result (Takes (transcript_text lines.now) (O.taken out.old) (O.taken out.new)) }
+    ensures front { IfErr result (λ e. TakesSome (transcript_text lines.now) (O.taken out.old) (O.taken out.new)) }
+    ensures unharmed { OnOk result (O.counts out.new ≡ O.counts out.old) }
+    ensures err { IfErr result (λ e. O.counts out.new ≡ counts_unwritten e (O.counts out.old)) }
+{
+    let mut text = Vec::new(alloc);
+    write_lines(lines, &mut text, out)?;
+    write_out(&mut text, out)
+}
+
+/// Writes lines, and then how the script ended. `line` is the number of the next line, which was not applied.
 pub fn report<O: Sink>(
     alloc: Global,
     lines: &[TranscriptLine],

@@ -1,11 +1,11 @@
 //! A script that is read piece by piece, and the world that its lines are applied to.
 
-ghost use Rattle.std.specs.Prelude.{◌≡◌, ◌+◌, ◌-◌, ◌^◌, ◌<◌, ◌≤◌, ◌++◌, ◌∷◌, [], ℕ, List, length, IfOk, OnOk, IfErr, MatchOption};
+ghost use Rattle.std.specs.Prelude.{◌≡◌, ◌≢◌, ◌+◌, ◌-◌, ◌^◌, ◌<◌, ◌≤◌, ◌++◌, ◌∷◌, [], ℕ, List, length, IfOk, OnOk, IfErr, MatchOption};
 ghost use Rattle.zt_text.specs.Scripts.{max_line, max_script};
 ghost use Rattle.zt_lines.specs.Words.{max_place};
 ghost use Rattle.zp_verdict_laws.specs.Written.{AreTyped};
 ghost use Rattle.zetcd_cmd.specs.Replayed.{IsOver};
-ghost use Rattle.zetcd_cmd.specs.Scripting.{HasNoLineFeed, IsFirstLine, Plays, ScriptHalts, HasRead, ScriptStands, IsApplied, ScriptEnds, EndsEarly, IsOverAt, IsKeptOut};
+ghost use Rattle.zetcd_cmd.specs.Scripting.{Appends, HasNoLineFeed, IsFirstLine, Plays, ScriptHalts, HasRead, ScriptStands, IsApplied, ScriptEnds, EndsEarly, IsOverAt, IsKeptOut};
 
 use std::alloc::Global;
 use zk_transcript::TranscriptLine;
@@ -59,13 +59,21 @@ impl Script {
     /// The transcript of the lines that were applied.
     pub fn transcript(&self) -> &[TranscriptLine]
         ensures lines { result.now ≡ self.now.world.lines }
-        // No list in memory is longer.
         ensures few { length result.now < 2 ^ 64 - 1 }
         ensures typed { AreTyped result.now }
     {
-        let lines = self.world.lines();
+        let lines = self.lines();
         lines_are_typed(lines);
         lines
+    }
+
+    /// The same, where nothing has to be said of the fields of its lines.
+    pub fn lines(&self) -> &[TranscriptLine]
+        ensures lines { result.now ≡ self.now.world.lines }
+        // No list in memory is longer.
+        ensures few { length result.now < 2 ^ 64 - 1 }
+    {
+        self.world.lines()
     }
 
     /// The number of the line that is applied next, from 1.
@@ -82,6 +90,9 @@ impl Script {
         ensures ok { OnOk result ((seen : List ℕ) → ScriptStands seen self.old → ScriptStands (seen ++ piece.now) self.new) }
         ensures err { IfErr result (λ stop. (seen : List ℕ) → ScriptStands seen self.old → EndsEarly (seen ++ piece.now) self.new stop) }
         ensures room { OnOk result (self.new.room + length piece.now ≡ self.old.room) }
+        // The transcript is only added to.
+        ensures grown { OnOk result (Appends self.old.world self.new.world) }
+        ensures kept { IfErr result (λ stop. stop ≢ Stop.Memory → Appends self.old.world self.new.world) }
     {
         if piece.len() > self.room {
             self.take_lines(&piece[..self.room])?;
@@ -98,6 +109,8 @@ impl Script {
         ensures err { IfErr result (λ stop. (seen rest : List ℕ) → HasRead seen self.old → length (seen ++ bytes.now) ≤ max_script → ScriptEnds ((seen ++ bytes.now) ++ rest) self.new stop) }
         ensures over { IfErr result (λ stop. (seen : List ℕ) → HasRead seen self.old → length (seen ++ bytes.now) ≤ max_script → IsOverAt (seen ++ bytes.now) self.new stop) }
         ensures room { self.new.room ≡ self.old.room }
+        ensures grown { OnOk result (Appends self.old.world self.new.world) }
+        ensures kept { IfErr result (λ stop. stop ≢ Stop.Memory → Appends self.old.world self.new.world) }
     {
         let mut rest = bytes;
         'lines: while let Some((line, later)) = first_line(rest) {
@@ -114,6 +127,8 @@ impl Script {
         ensures err { IfErr result (λ stop. (seen rest : List ℕ) → HasRead seen self.old → length (seen ++ bytes.now) < max_script → ScriptEnds (seen ++ (bytes.now ++ 10 ∷ rest)) self.new stop) }
         ensures over { IfErr result (λ stop. (seen rest : List ℕ) → HasRead seen self.old → length (seen ++ bytes.now) < max_script → IsOver (seen ++ (bytes.now ++ 10 ∷ rest)) self.new.line) }
         ensures room { self.new.room ≡ self.old.room }
+        ensures grown { OnOk result (Appends self.old.world self.new.world) }
+        ensures kept { IfErr result (λ stop. stop ≢ Stop.Memory → Appends self.old.world self.new.world) }
     {
         self.apply_with(bytes)?;
         self.line = self.line.saturating_add(1);
@@ -152,6 +167,8 @@ impl Script {
     pub fn finish(&mut self) -> Result<(), Stop>
         ensures ok { OnOk result ((seen : List ℕ) → ScriptStands seen self.old → IsApplied seen self.new) }
         ensures err { IfErr result (λ stop. (seen : List ℕ) → ScriptStands seen self.old → ScriptEnds seen self.new stop) }
+        ensures grown { OnOk result (Appends self.old.world self.new.world) }
+        ensures kept { IfErr result (λ stop. stop ≢ Stop.Memory → Appends self.old.world self.new.world) }
     {
         if self.pending.is_empty() {
             return Ok(());

@@ -20,3 +20,16 @@ returns-in_err-take_lines-2-clause-err c =
     let p = err_from_is_err_and c.from_residual-in_err-take_lines-2.result c.from_residual-in_err-take_lines-2.ensures.1 in
     rw (p.1, p.2) (λ seen st.
     EndsEarly-piece seen c.args.piece.now c.args.self.now c.take_lines-2.new.self c.in_err-take_lines-2.field-0.0 (omega arith) c.in_err-take_lines-2.ensures.err c.in_err-take_lines-2.ensures.over st)
+
+pub returns-in_err-take_lines-clause-kept : goal.returns-in_err-take_lines-clause-kept
+returns-in_err-take_lines-clause-kept c =
+    let p = err_from_is_err_and c.from_residual.result c.from_residual.ensures.1 in
+    rw (p.1, p.2) c.in_err-take_lines.ensures.kept
+
+pub returns-then-piece-self-clause-kept : goal.returns-then-piece-self-clause-kept
+returns-then-piece-self-clause-kept c = λ known. c.in_ok-take_lines.ensures.grown
+
+pub returns-in_err-take_lines-2-clause-kept : goal.returns-in_err-take_lines-2-clause-kept
+returns-in_err-take_lines-2-clause-kept c =
+    let p = err_from_is_err_and c.from_residual-in_err-take_lines-2.result c.from_residual-in_err-take_lines-2.ensures.1 in
+    rw (p.1, p.2) c.in_err-take_lines-2.ensures.kept
