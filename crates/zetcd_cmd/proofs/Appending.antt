@@ -1,5 +1,5 @@
 -- The transcript of a run is only added to.
-use Rattle.std.proofs.Common.{◌≡◌, ℕ, ◌+◌, ◌<◌, ◌≤◌, List, [], ◌++◌, length, take, drop, refl, sym, ap, ◌∙◌, subst, arith, append-nil, append_assoc, length-append}
+use Rattle.std.proofs.Common.{◌≡◌, ℕ, ◌+◌, ◌-◌, ◌<◌, ◌≤◌, List, [], ◌++◌, length, take, take_all, drop, length-drop, refl, sym, ap, ◌∙◌, subst, arith, append-nil, append_assoc, length-append}
 use Rattle.std.specs.Prelude.{Option}
 use Rattle.std.proofs.Math.Seq.{take-append_seam}
 use Rattle.std.proofs.lemmas.List.{take-append-drop}
@@ -106,6 +106,10 @@ pub record IsOut (count : ℕ) (lines : List TranscriptLine) (taken taken' : Opt
 
 pub IsOut-none : (lines : List TranscriptLine) (taken : Option (List ℕ)) → Takes [] taken taken → IsOut 0 lines taken taken
 IsOut-none lines taken takes = record { has = HasWritten-none lines taken takes; typed = All-nil IsTyped }
+
+-- a slice from a place on is all that stands there
+pub left : (count : ℕ) (lines : List TranscriptLine) → take (length lines - count) (drop count lines) ≡ drop count lines
+left count lines = take_all _ _ (omega (arith, length-drop count lines))
 
 -- the rest are of their types too
 pub IsOut-held : (count : ℕ) (lines : List TranscriptLine) (taken taken' : Option (List ℕ)) → IsOut count lines taken taken' → length lines < max_count → AreTyped (drop count lines) → AreHeld lines

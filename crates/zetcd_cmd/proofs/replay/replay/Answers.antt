@@ -7,7 +7,7 @@ use Rattle.zetcd_cmd.specs.declared.script.Stop.TheVariants as stop
 use Rattle.zetcd_cmd.specs.declared.status.Status.{Status}
 use Rattle.zetcd_cmd.specs.Outcomes.{Did, Replays, TakesSome}
 use Rattle.zetcd_cmd.specs.Reporting.{ending_text}
-use Rattle.zetcd_cmd.proofs.Appending.{HasWritten-all, HasWritten-front}
+use Rattle.zetcd_cmd.proofs.Appending.{HasWritten-all, HasWritten-front, left}
 use Rattle.zetcd_cmd.proofs.Headlines.{Did-all, Did-front, Did-memory, Did-refused, fault_from, no_read_fault, never_write_fault, once}
 use Rattle.zetcd_cmd.proofs.Reaching.{AreHeld}
 use Rattle.zetcd_cmd.proofs.replay.replay.Goals as goal
@@ -54,7 +54,7 @@ returns-in-Ok-report-clause-told g c =
     (g.I.Source.left c.read_script.new.input) (g.O.Sink.taken c.args.out.now) (g.O.Sink.taken c.report.new.out) held (c.line-line.ensures.line, c.line-line.ensures.place) known c.in-Ok-read_script.ensures.end
     (HasWritten-all count s.world.lines (ending_text how n) (g.O.Sink.taken c.args.out.now) (g.O.Sink.taken c.read_script.new.out) (g.O.Sink.taken c.report.new.out) (c.in-Ok-read_script.ensures.written known)
     (subst (λ (ls : List TranscriptLine). Takes (transcript_text (drop count ls) ++ ending_text how n) (g.O.Sink.taken c.read_script.new.out) (g.O.Sink.taken c.report.new.out)) c.transcript.ensures.lines
-    c.in-Ok-report.ensures.ok)))
+    (subst (λ (ls : List TranscriptLine). Takes (transcript_text ls ++ ending_text how n) (g.O.Sink.taken c.read_script.new.out) (g.O.Sink.taken c.report.new.out)) (left count c.transcript.result.now) c.in-Ok-report.ensures.ok))))
 
 -- ---- or a front of it
 
@@ -70,7 +70,7 @@ returns-in-Err-Sink-report-clause-told g c =
     (g.I.Source.left c.read_script.new.input) (g.O.Sink.taken c.args.out.now) (g.O.Sink.taken c.report.new.out) held (c.line-line.ensures.line, c.line-line.ensures.place) known c.in-Ok-read_script.ensures.end
     (HasWritten-front count s.world.lines (ending_text how n) (g.O.Sink.taken c.args.out.now) (g.O.Sink.taken c.read_script.new.out) (g.O.Sink.taken c.report.new.out) (c.in-Ok-read_script.ensures.written known)
     (subst (λ (ls : List TranscriptLine). TakesSome (transcript_text (drop count ls) ++ ending_text how n) (g.O.Sink.taken c.read_script.new.out) (g.O.Sink.taken c.report.new.out)) c.transcript.ensures.lines
-    c.in-Err-Sink-report.ensures.front)) in
+    (subst (λ (ls : List TranscriptLine). TakesSome (transcript_text ls ++ ending_text how n) (g.O.Sink.taken c.read_script.new.out) (g.O.Sink.taken c.report.new.out)) (left count c.transcript.result.now) c.in-Err-Sink-report.ensures.front))) in
     record { read = did.read; output = did.output; gives = did.gives; takes = did.takes; holds = did.holds }
 
 pub returns-clause-told : goal.returns-clause-told
@@ -87,4 +87,4 @@ returns-clause-told g c =
     (g.I.Source.left c.read_script.new.input) (g.O.Sink.taken c.args.out.now) (g.O.Sink.taken c.report.new.out) held (c.line-line.ensures.line, c.line-line.ensures.place) known c.in-Ok-read_script.ensures.end
     (HasWritten-front count s.world.lines (ending_text how n) (g.O.Sink.taken c.args.out.now) (g.O.Sink.taken c.read_script.new.out) (g.O.Sink.taken c.report.new.out) (c.in-Ok-read_script.ensures.written known)
     (subst (λ (ls : List TranscriptLine). TakesSome (transcript_text (drop count ls) ++ ending_text how n) (g.O.Sink.taken c.read_script.new.out) (g.O.Sink.taken c.report.new.out)) c.transcript.ensures.lines
-    c.in-Err-Memory-report.ensures.front)))
+    (subst (λ (ls : List TranscriptLine). TakesSome (transcript_text ls ++ ending_text how n) (g.O.Sink.taken c.read_script.new.out) (g.O.Sink.taken c.report.new.out)) (left count c.transcript.result.now) c.in-Err-Memory-report.ensures.front))))
