@@ -6,8 +6,9 @@ use denote.Ref.{Bor}
 use Rattle.zetcd_cmd.specs.Outcomes.{IsWord}
 use Rattle.zetcd_cmd.specs.Proxying.{IsServe}
 use Rattle.zetcd_cmd.specs.Serving.{IsEtcd, is_address, limit_in}
+use Rattle.zetcd_cmd.specs.Stressing.{IsStress, count_in, max_connections, max_steps, number_in}
 use Rattle.std.specs.Prelude.{true, Some}
-use Rattle.zetcd.specs.Arguments.{IsProxying, IsServeWords, arguments}
+use Rattle.zetcd.specs.Arguments.{IsProxying, IsServeWords, IsStressing, arguments}
 
 abbrev pub texts : List (Bor (List ℕ)) → List (List ℕ)
 texts words = map (λ (w : Bor (List ℕ)). w.now) words
@@ -76,3 +77,25 @@ serve-proxying (w ∷ v ∷ u ∷ t ∷ []) listen endpoint limit is = (
   is.5,
 )
 serve-proxying (w ∷ v ∷ u ∷ t ∷ s ∷ words) listen endpoint limit is = absurd is
+
+pub stressing-stress : (words : List (Bor (List ℕ))) (number connections steps : ℕ) → IsStressing (texts words) number connections steps → IsStress words number connections steps
+stressing-stress [] number connections steps is = absurd cc
+stressing-stress (w ∷ []) number connections steps is = absurd cc
+stressing-stress (w ∷ v ∷ []) number connections steps is = absurd cc
+stressing-stress (w ∷ v ∷ u ∷ []) number connections steps is = absurd cc
+stressing-stress (w ∷ v ∷ u ∷ t ∷ []) number connections steps is =
+    let same : w.now ∷ (v.now ∷ (u.now ∷ (t.now ∷ []))) ≡ codes "stress" ∷ (is.0 ∷ (is.1 ∷ (is.2 ∷ []))) = is.3 in
+    let second : v.now ≡ is.0 = cc in
+    let third : u.now ≡ is.1 = cc in
+    let fourth : t.now ≡ is.2 = cc in
+    (cc, ap number_in second ∙ is.4, ap (count_in max_connections) third ∙ is.5, ap (count_in max_steps) fourth ∙ is.6)
+stressing-stress (w ∷ v ∷ u ∷ t ∷ s ∷ words) number connections steps is = absurd cc
+
+pub stress-stressing : (words : List (Bor (List ℕ))) (number connections steps : ℕ) → IsStress words number connections steps → IsStressing (texts words) number connections steps
+stress-stressing [] number connections steps is = absurd is
+stress-stressing (w ∷ []) number connections steps is = absurd is
+stress-stressing (w ∷ v ∷ []) number connections steps is = absurd is
+stress-stressing (w ∷ v ∷ u ∷ []) number connections steps is = absurd is
+stress-stressing (w ∷ v ∷ u ∷ t ∷ []) number connections steps is =
+    (v.now, u.now, t.now, ap (λ (x : List ℕ). x ∷ (v.now ∷ (u.now ∷ (t.now ∷ [])))) is.0, is.1, is.2, is.3)
+stress-stressing (w ∷ v ∷ u ∷ t ∷ s ∷ words) number connections steps is = absurd is

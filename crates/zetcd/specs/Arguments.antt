@@ -2,6 +2,7 @@
 use Rattle.std.specs.Prelude.{◌≡◌, ℕ, List, [], ◌∷◌, map, drop, true, string_bytes, codes, Some}
 use Rattle.std.specs.declared.string.String.{String}
 use Rattle.zetcd_cmd.specs.Serving.{are_addresses, is_address, limit_in}
+use Rattle.zetcd_cmd.specs.Stressing.{count_in, max_connections, max_steps, number_in}
 
 -- the words after the program's name
 abbrev pub arguments : {Z : Type 0} → List (String Z) → List (List ℕ)
@@ -22,3 +23,12 @@ IsProxying words listen endpoint limit =
 
 abbrev pub IsNoProxying : List (List ℕ) → Type 0
 IsNoProxying words = (listen : List ℕ) (endpoint : List ℕ) (limit : ℕ) → ¬ IsProxying words listen endpoint limit
+
+-- the words after the program's name are `stress` and the texts of these three numbers
+abbrev pub IsStressing : List (List ℕ) → ℕ → ℕ → ℕ → Type 0
+IsStressing words number connections steps =
+    (first : List ℕ) × (second : List ℕ) × (third : List ℕ) × (words ≡ codes "stress" ∷ (first ∷ (second ∷ (third ∷ []))))
+    × (number_in first ≡ Some number) × (count_in max_connections second ≡ Some connections) × (count_in max_steps third ≡ Some steps)
+
+abbrev pub IsNoStressing : List (List ℕ) → Type 0
+IsNoStressing words = (number : ℕ) (connections : ℕ) (steps : ℕ) → ¬ IsStressing words number connections steps

@@ -1,4 +1,4 @@
-//! zetcd: ZooKeeper's protocol over etcd. The commands `serve`, `replay`, `show`, `judge` and `etcd` are built.
+//! zetcd: ZooKeeper's protocol over etcd. The commands are `serve`, `replay`, `show`, `judge`, `stress` and `etcd`.
 //!
 //! `main` hands the command line, standard input and output, and the system's sockets, threads, clock and random words to
 //! [`zetcd_cmd::zetcd`], says on standard error in words what ended a run that did not come to its end, and ends the process with the
@@ -9,10 +9,11 @@ ghost use Rattle.std.specs.Prelude.{◌≡◌, ◌≢◌, ◌⊎◌, length, Lis
 ghost use Rattle.ev_addresses.specs.Lists.{addresses_in};
 ghost use Rattle.std.specs.Process.{exit_status};
 ghost use Rattle.std.specs.Vec.Iter.{into_iter_items};
-ghost use Rattle.zetcd.specs.Arguments.{IsNoProxying, IsNoServing, IsProxying, IsServeWords, arguments};
+ghost use Rattle.zetcd.specs.Arguments.{IsNoProxying, IsNoServing, IsNoStressing, IsProxying, IsServeWords, IsStressing, arguments};
 ghost use Rattle.zetcd_cmd.specs.Outcomes.{status_number, Did, Failed, IsUnharmed, Judges, RefusesWords, Replays, Shows};
 ghost use Rattle.zetcd_cmd.specs.Proxying.{HasNetCause, Proxies, seen_so_far};
 ghost use Rattle.zetcd_cmd.specs.Serving.{EtcdServes};
+ghost use Rattle.zetcd_cmd.specs.Stressing.{Stresses};
 ghost use Rattle.zx_outside.specs.Counts.{one_more};
 ghost use Rattle.zx_outside.specs.Writing.{counts_after_write};
 ghost use Rattle.zx_outside.specs.declared.sink.Took.TheVariants.{Failed as TookFailed};
@@ -163,6 +164,7 @@ where
     ensures replay { IfOk result (λ s. arguments (into_iter_items args) ≡ codes "replay" ∷ [] → Did (Replays s (I.ended input.new) (I.left input.new)) (I.given input.old) (I.given input.new) (I.left input.old) (I.left input.new) (O.taken out.old) (O.taken out.new)) }
     ensures show { IfOk result (λ s. arguments (into_iter_items args) ≡ codes "show" ∷ [] → Did (Shows s (I.ended input.new) (I.left input.new)) (I.given input.old) (I.given input.new) (I.left input.old) (I.left input.new) (O.taken out.old) (O.taken out.new)) }
     ensures judge { IfOk result (λ s. arguments (into_iter_items args) ≡ codes "judge" ∷ [] → Did (Judges s (I.ended input.new) (I.left input.new)) (I.given input.old) (I.given input.new) (I.left input.old) (I.left input.new) (O.taken out.old) (O.taken out.new)) }
+    ensures stress { IfOk result (λ s. (number : ℕ) → (connections : ℕ) → (steps : ℕ) → IsStressing (arguments (into_iter_items args)) number connections steps → Stresses s number connections steps (O.taken out.old) (O.taken out.new)) }
     ensures etcd { IfOk result (λ s. (listen : List ℕ) → (limit : ℕ) → IsServeWords (arguments (into_iter_items args)) listen limit → EtcdServes s listen limit (N.counts net.old) (N.counts net.new) (O.taken out.old) (O.taken out.new)) }
     ensures serve { IfOk result (λ s. (listen : List ℕ) → (endpoint : List ℕ) → (limit : ℕ) → IsProxying (arguments (into_iter_items args)) listen endpoint limit →
         Proxies (length (addresses_in endpoint)) s listen limit (L.failures cluster.old) (L.failures cluster.new) (P.refusals spawner.old) (P.refusals spawner.new)
@@ -173,7 +175,7 @@ where
     ensures unless_net { IfOk result (λ s. s ≢ Status.Net → s ≢ Status.WriteFault → (N.counts net.new).door_faults ≡ (N.counts net.old).door_faults) }
     ensures offline { IfOk result (λ s. IsNoServing (arguments (into_iter_items args)) → IsNoProxying (arguments (into_iter_items args)) → net.new ≡ net.old) }
     ensures unasked { IfOk result (λ s. IsNoProxying (arguments (into_iter_items args)) → (cluster.new ≡ cluster.old) × (random.new ≡ random.old)) }
-    ensures usage { IfOk result (λ s. ¬ (arguments (into_iter_items args) ≡ codes "replay" ∷ []) → ¬ (arguments (into_iter_items args) ≡ codes "show" ∷ []) → ¬ (arguments (into_iter_items args) ≡ codes "judge" ∷ []) → IsNoServing (arguments (into_iter_items args)) → IsNoProxying (arguments (into_iter_items args)) → RefusesWords s (O.taken out.old) (O.taken out.new)) }
+    ensures usage { IfOk result (λ s. ¬ (arguments (into_iter_items args) ≡ codes "replay" ∷ []) → ¬ (arguments (into_iter_items args) ≡ codes "show" ∷ []) → ¬ (arguments (into_iter_items args) ≡ codes "judge" ∷ []) → IsNoStressing (arguments (into_iter_items args)) → IsNoServing (arguments (into_iter_items args)) → IsNoProxying (arguments (into_iter_items args)) → RefusesWords s (O.taken out.old) (O.taken out.new)) }
     ensures unread { IfOk result (λ s. ¬ (arguments (into_iter_items args) ≡ codes "replay" ∷ []) → ¬ (arguments (into_iter_items args) ≡ codes "show" ∷ []) → ¬ (arguments (into_iter_items args) ≡ codes "judge" ∷ []) → input.new ≡ input.old) }
     ensures read { IfOk result (λ s. s ≡ Status.ReadFault → Failed (I.counts input.old) (I.counts input.new)) }
     ensures unless_fault { IfOk result (λ s. s ≢ Status.ReadFault → s ≢ Status.WriteFault → s ≢ Status.Memory → IsUnharmed (I.counts input.old) (I.counts input.new)) }

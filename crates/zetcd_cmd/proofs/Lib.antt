@@ -11,4 +11,5 @@ pub mod Reports
 pub mod ScriptLaws
 pub mod Servings
 pub mod Showings
+pub mod Stressings
 pub mod Waits

@@ -12,3 +12,4 @@ pub mod Judged
 pub mod Judging
 pub mod Serving
 pub mod Proxying
+pub mod Stressing

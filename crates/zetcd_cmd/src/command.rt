@@ -1,19 +1,21 @@
 //! The commands that neither wait nor listen.
 
-ghost use Rattle.std.specs.Prelude.{◌≡◌, ◌≢◌, ◌⊎◌, IfSome, IsNone};
+ghost use Rattle.std.specs.Prelude.{◌≡◌, ◌≢◌, ◌⊎◌, ℕ, IfSome, IsNone};
 ghost use Rattle.zx_outside.specs.Writing.{counts_after_write};
 ghost use Rattle.zx_outside.specs.declared.sink.Took.TheVariants.{Failed as TookFailed};
 ghost use Rattle.zetcd_cmd.specs.Outcomes.{IsJudge, IsReplay, IsShow, Did, Judges, Replays, Shows, RefusesWords, Failed, IsUnharmed};
 ghost use Rattle.zetcd_cmd.specs.Commands.{IsCommand};
 ghost use Rattle.zetcd_cmd.specs.Proxying.{NamesServe};
 ghost use Rattle.zetcd_cmd.specs.Serving.{NamesEtcd};
+ghost use Rattle.zetcd_cmd.specs.Stressing.{IsStress, NamesStress, Stresses};
 
 use crate::judge::judge;
 use crate::replay::replay;
 use crate::show::show;
 use crate::status::Status;
 use crate::streams::write_all;
-use crate::words::{etcd_words, serve_words};
+use crate::stress::stress;
+use crate::words::{etcd_words, serve_words, stress_words};
 use std::alloc::Global;
 use zx_outside::{Sink, Source};
 
@@ -33,10 +35,26 @@ fn refuse<O: Sink>(out: &mut O) -> Status
     }
 }
 
+/// Runs `stress`. For words that are none of it the usage line is written.
+#[tactic(auto, using(crate::proofs::Stressings::told))]
+fn stress_or_refuse<O: Sink>(alloc: Global, words: &[&str], out: &mut O) -> Status
+    ensures stress { (number connections steps : ℕ) → IsStress words.now number connections steps → Stresses result number connections steps (O.taken out.old) (O.taken out.new) }
+    ensures usage { ¬ NamesStress words.now → RefusesWords result (O.taken out.old) (O.taken out.new) }
+    ensures never_net { result ≢ Status.Net }
+    ensures never_read { result ≢ Status.ReadFault }
+    ensures write { result ≡ Status.WriteFault → O.counts out.new ≡ counts_after_write TookFailed (O.counts out.old) }
+    ensures unless_write_fault { result ≢ Status.WriteFault → O.counts out.new ≡ O.counts out.old }
+{
+    match stress_words(words) {
+        Some(schedule) => stress(alloc, schedule, out),
+        None => refuse(out),
+    }
+}
+
 /// Runs the command that `words`, the command line without the program's name, are, if it is one that neither waits nor listens:
-/// `replay`, `show` or `judge`. It reads `input` and writes `out`. For words that are no command it writes the usage line. `None`
-/// for the words of a command that listens: nothing was read or written.
-#[tactic(auto, using(crate::proofs::Servings::one_word, crate::proofs::Proxyings::one_word))]
+/// `replay`, `show`, `judge` or `stress`. It reads `input` and writes `out`. For words that are no command it writes the usage line.
+/// `None` for the words of a command that listens: nothing was read or written.
+#[tactic(auto, using(crate::proofs::Servings::one_word, crate::proofs::Proxyings::one_word, crate::proofs::Stressings::one_word, crate::proofs::Stressings::not_etcd, crate::proofs::Stressings::not_serve))]
 pub fn plain<I: Source, O: Sink>(
     alloc: Global,
     words: &[&str],
@@ -51,6 +69,8 @@ pub fn plain<I: Source, O: Sink>(
     ensures show { IsShow words.now → IfSome result (λ s. Did (Shows s (I.ended input.new) (I.left input.new)) (I.given input.old) (I.given input.new) (I.left input.old) (I.left input.new) (O.taken out.old) (O.taken out.new)) }
     // Of `judge`, by the status: the verdict on the transcript that was read, or its first line that cannot be read.
     ensures judge { IsJudge words.now → IfSome result (λ s. Did (Judges s (I.ended input.new) (I.left input.new)) (I.given input.old) (I.given input.new) (I.left input.old) (I.left input.new) (O.taken out.old) (O.taken out.new)) }
+    // Of `stress`, by the status: the summary of the run of its schedule, which is one run of the service, and whose verdict is lawful.
+    ensures stress { (number connections steps : ℕ) → IsStress words.now number connections steps → IfSome result (λ s. Stresses s number connections steps (O.taken out.old) (O.taken out.new)) }
     // Of `etcd` and `serve`: no status, nothing was read, and nothing written.
     ensures none { IsNone result → NamesEtcd words.now ⊎ NamesServe words.now }
     ensures etcd { NamesEtcd words.now → IsNone result }
@@ -59,7 +79,7 @@ pub fn plain<I: Source, O: Sink>(
     // The status of `etcd` and `serve` for the net never comes.
     ensures never_net { IfSome result (λ s. s ≢ Status.Net) }
     // Of words that are in no row: the usage line was written, or a front of it where the output has a fault.
-    ensures usage { ¬ IsReplay words.now → ¬ IsShow words.now → ¬ IsJudge words.now → ¬ NamesEtcd words.now → ¬ NamesServe words.now → IfSome result (λ s. RefusesWords s (O.taken out.old) (O.taken out.new)) }
+    ensures usage { ¬ IsReplay words.now → ¬ IsShow words.now → ¬ IsJudge words.now → ¬ NamesStress words.now → ¬ NamesEtcd words.now → ¬ NamesServe words.now → IfSome result (λ s. RefusesWords s (O.taken out.old) (O.taken out.new)) }
     // Of words other than these three: nothing was read.
     ensures unread { ¬ IsReplay words.now → ¬ IsShow words.now → ¬ IsJudge words.now → input.new ≡ input.old }
     // Status 4 has its cause in the input: one fault, or 1,000 idle turns.
@@ -87,7 +107,7 @@ pub fn plain<I: Source, O: Sink>(
             if serve_words(words).is_some() {
                 return None;
             }
-            Some(refuse(out))
+            Some(stress_or_refuse(alloc, words, out))
         }
     }
 }

@@ -15,6 +15,7 @@ mod script;
 mod show;
 mod status;
 mod streams;
+mod stress;
 mod top;
 mod words;
 

@@ -8,6 +8,7 @@ ghost use Rattle.zx_outside.specs.declared.sink.Took.TheVariants.{Failed as Took
 ghost use Rattle.zetcd_cmd.specs.Outcomes.{IsJudge, IsReplay, IsShow, Did, Judges, Replays, Shows, RefusesWords, Failed, IsUnharmed};
 ghost use Rattle.zetcd_cmd.specs.Proxying.{HasNetCause, IsServe, NamesServe, Proxies, seen_so_far, serve_status as status_of_proxy};
 ghost use Rattle.zetcd_cmd.specs.Serving.{IsEtcd, NamesEtcd, EtcdServes, etcd_status};
+ghost use Rattle.zetcd_cmd.specs.Stressing.{IsStress, NamesStress, Stresses};
 
 use crate::command::plain;
 use crate::status::Status;
@@ -88,6 +89,8 @@ where
     ensures show { IsShow words.now → Did (Shows result (I.ended input.new) (I.left input.new)) (I.given input.old) (I.given input.new) (I.left input.old) (I.left input.new) (O.taken out.old) (O.taken out.new) }
     // Of `judge`, by the status: the verdict on the transcript that was read, or its first line that cannot be read.
     ensures judge { IsJudge words.now → Did (Judges result (I.ended input.new) (I.left input.new)) (I.given input.old) (I.given input.new) (I.left input.old) (I.left input.new) (O.taken out.old) (O.taken out.new) }
+    // Of `stress`, by the status: the summary of the run of its schedule, which is one run of the service, and whose verdict is lawful.
+    ensures stress { (number : ℕ) → (connections : ℕ) → (steps : ℕ) → IsStress words.now number connections steps → Stresses result number connections steps (O.taken out.old) (O.taken out.new) }
     // Of `etcd`, by the status: how many connections were accepted, and what was written.
     ensures etcd { (listen : List ℕ) → (limit : ℕ) → IsEtcd words.now listen limit → EtcdServes result listen limit (N.counts net.old) (N.counts net.new) (O.taken out.old) (O.taken out.new) }
     // Of `serve`, by the status: which clients were accepted, what was written about each, and how it ended.
@@ -106,7 +109,7 @@ where
     // Of all words but those of `serve`: no other etcd was asked, and no random word taken.
     ensures unasked { ¬ NamesServe words.now → (cluster.new ≡ cluster.old) × (random.new ≡ random.old) }
     // Of words that are in no row: the usage line was written, or a front of it where the output has a fault.
-    ensures usage { ¬ IsReplay words.now → ¬ IsShow words.now → ¬ IsJudge words.now → ¬ NamesEtcd words.now → ¬ NamesServe words.now → RefusesWords result (O.taken out.old) (O.taken out.new) }
+    ensures usage { ¬ IsReplay words.now → ¬ IsShow words.now → ¬ IsJudge words.now → ¬ NamesStress words.now → ¬ NamesEtcd words.now → ¬ NamesServe words.now → RefusesWords result (O.taken out.old) (O.taken out.new) }
     // Of words other than these three: nothing was read.
     ensures unread { ¬ IsReplay words.now → ¬ IsShow words.now → ¬ IsJudge words.now → input.new ≡ input.old }
     // Status 4 has its cause in the input: one fault, or 1,000 idle turns.

@@ -1,10 +1,12 @@
-//! The words of the commands that listen: `etcd LISTEN LIMIT` and `serve LISTEN ENDPOINT LIMIT`.
+//! The words of the commands that have more than one: `etcd LISTEN LIMIT`, `serve LISTEN ENDPOINT LIMIT` and
+//! `stress NUMBER CONNECTIONS STEPS`.
 
-ghost use Rattle.std.specs.Prelude.{◌≡◌, ◌==◌, IfSome, IsNone, length, nat_le};
+ghost use Rattle.std.specs.Prelude.{◌≡◌, ◌==◌, ◌≤◌, IfSome, IsNone, length, nat_le};
 ghost use Rattle.std.specs.List.{list_all, slice_split};
 ghost use Rattle.ev_addresses.specs.Lists.{is_part};
 ghost use Rattle.zetcd_cmd.specs.Proxying.{IsServe, NamesServe};
 ghost use Rattle.zetcd_cmd.specs.Serving.{are_addresses as are_addresses_of, are_plain as are_plain_of, IsEtcd, NamesEtcd, digits_number, is_address as is_address_of, is_visible, limit_in};
+ghost use Rattle.zetcd_cmd.specs.Stressing.{IsStress, NamesStress, count_in, number_in};
 
 use zt_text::decimal_digit;
 
@@ -138,4 +140,67 @@ pub fn serve_words<'a>(words: &[&'a str]) -> Option<Proxy<'a>>
         }),
         None => None,
     }
+}
+
+/// The most connections and the most steps of a schedule.
+const MOST_CONNECTIONS: u64 = 256;
+
+const MOST_STEPS: u64 = 200_000;
+
+/// What `stress` is to run.
+#[derive(Clone, Copy)]
+pub struct Schedule {
+    /// The number that makes the schedule, up to 4294967295.
+    pub number: u64,
+    /// From 1 to 256.
+    pub connections: u32,
+    /// From 1 to 200000.
+    pub steps: u32,
+}
+
+/// A number from 0 to 4294967295 in one to ten digits, without a sign.
+fn number_of(text: &[u8]) -> Option<u64>
+    ensures { result ≡ number_in text.now }
+{
+    if text.is_empty() || text.len() > MAX_DIGITS {
+        return None;
+    }
+    digits(text)
+}
+
+/// A number from 1 to `most`, which is below 2^32, so written.
+fn count_of(text: &[u8], most: u64) -> Option<u32>
+    requires { most ≤ 4294967295 }
+    ensures is { result ≡ count_in most text.now }
+    ensures most { IfSome result (λ count. count ≤ most) }
+    ensures least { IfSome result (λ count. 1 ≤ count) }
+{
+    let count = limit_of(text)?;
+    if count > most {
+        return None;
+    }
+    Some(count as u32)
+}
+
+/// What these words have `stress` run; `None` where they are not those of `stress`.
+pub fn stress_words(words: &[&str]) -> Option<Schedule>
+    ensures some { IfSome result (λ s. IsStress words.now s.number s.connections s.steps) }
+    ensures least { IfSome result (λ s. 1 ≤ s.connections) }
+    ensures most { IfSome result (λ s. s.connections ≤ 256) }
+    ensures none { IsNone result → ¬ NamesStress words.now }
+{
+    let [word, first, second, third] = words else {
+        return None;
+    };
+    if word.as_bytes() != b"stress".as_slice() {
+        return None;
+    }
+    let number = number_of(first.as_bytes())?;
+    let connections = count_of(second.as_bytes(), MOST_CONNECTIONS)?;
+    let steps = count_of(third.as_bytes(), MOST_STEPS)?;
+    Some(Schedule {
+        number,
+        connections,
+        steps,
+    })
 }

@@ -2,8 +2,9 @@ use Rattle.std.proofs.Common.{◌≡◌, List, ℕ, ◌∙◌, sym, ap, subst, a
 use Rattle.std.specs.Vec.Iter.{into_iter_items}
 use Rattle.zetcd_cmd.specs.Proxying.{NamesServe}
 use Rattle.zetcd_cmd.specs.Serving.{NamesEtcd}
-use Rattle.zetcd.specs.Arguments.{IsNoProxying, IsNoServing, IsProxying, IsServeWords, arguments}
-use Rattle.zetcd.proofs.Arguments.{texts, is_word-texts, texts-is_word, arguments-after, serving-etcd, etcd-serving, proxying-serve, serve-proxying}
+use Rattle.zetcd_cmd.specs.Stressing.{NamesStress}
+use Rattle.zetcd.specs.Arguments.{IsNoProxying, IsNoServing, IsNoStressing, IsProxying, IsServeWords, IsStressing, arguments}
+use Rattle.zetcd.proofs.Arguments.{texts, is_word-texts, texts-is_word, arguments-after, serving-etcd, etcd-serving, proxying-serve, serve-proxying, stressing-stress, stress-stressing}
 use Rattle.zetcd.proofs.with_words.Given.{Over}
 use Rattle.zetcd.proofs.with_words.Goals as goal
 
@@ -32,10 +33,20 @@ not_serve : (g : Over) (c : goal.After-drop-words-3 g) → IsNoProxying (argumen
 not_serve g c none names =
     none names.0 names.1 names.2 (subst (λ (ws : List (List ℕ)). IsProxying ws names.0 names.1 names.2) (handed g c) (serve-proxying _ _ _ _ names.3))
 
+-- and so for `stress`
+not_stress : (g : Over) (c : goal.After-drop-words-3 g) → IsNoStressing (arguments (into_iter_items c.args.args)) → NamesStress c.as_slice-2.result.now → ⊥
+not_stress g c none names =
+    none names.0 names.1 names.2 (subst (λ (ws : List (List ℕ)). IsStressing ws names.0 names.1 names.2) (handed g c) (stress-stressing _ _ _ _ names.3))
+
 pub returns-clause-usage : goal.returns-clause-usage
-returns-clause-usage g c = λ h k l m n.
+returns-clause-usage g c = λ h k l o m n.
     c.zetcd-status.ensures.usage (λ r. h (sym (handed g c) ∙ texts-is_word _ _ r)) (λ s. k (sym (handed g c) ∙ texts-is_word _ _ s)) (λ j. l (sym (handed g c) ∙ texts-is_word _ _ j))
-    (not_etcd g c m) (not_serve g c n)
+    (not_stress g c o) (not_etcd g c m) (not_serve g c n)
+
+pub returns-clause-stress : goal.returns-clause-stress
+returns-clause-stress g c = λ number connections steps is.
+    c.zetcd-status.ensures.stress number connections steps
+    (stressing-stress _ number connections steps (subst (λ (ws : List (List ℕ)). IsStressing ws number connections steps) (sym (handed g c)) is))
 
 pub returns-clause-offline : goal.returns-clause-offline
 returns-clause-offline g c = λ m n. c.zetcd-status.ensures.offline (not_etcd g c m) (not_serve g c n)
