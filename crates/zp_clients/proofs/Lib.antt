@@ -1,3 +1,4 @@
 pub mod Drawing
 pub mod Sizes
 pub mod Spelling
+pub mod Telling

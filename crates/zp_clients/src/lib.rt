@@ -19,12 +19,14 @@
 
 mod connect;
 mod draw;
+mod laws;
 mod sent;
 mod summary;
 mod wish;
 
 pub use connect::connect_packet;
 pub use draw::{Draw, drawn, seeded};
+pub use laws::packets_are_told_apart;
 pub use sent::awaits_reply;
 pub use summary::{Summary, push_summary, summary_of};
 pub use wish::{Wish, last_after, packet_of, wish_of};
