@@ -1,14 +1,14 @@
 -- Looks at a client that waits.
-use Rattle.std.proofs.Common.{◌≡◌, ℕ, ◌+◌, Bool, true, false, List, refl, add-one}
+use Rattle.std.proofs.Common.{◌≡◌, ℕ, ◌+◌, ◌≤◌, Bool, true, false, List, length, refl, add-one}
 use Rattle.zx_outside.specs.Reading.{EndsForGood, Reads, counts_after_read}
 use Rattle.zx_outside.specs.declared.source.Got.{Got}
 use Rattle.ev_http.specs.Taking.{Told}
 use Rattle.ev_gateway.specs.Looking.{Looks, Waits, is_quiet}
 
-pub looked : (found : Got) (buffer : List ℕ) (quiet : Bool) (s s' : Told) → quiet ≡ is_quiet found → Reads found buffer s.given s'.given s.left s'.left
+pub looked : (found : Got) (buffer : List ℕ) (quiet : Bool) (s s' : Told) → length buffer ≤ 1 → quiet ≡ is_quiet found → Reads found buffer s.given s'.given s.left s'.left
     → s'.counts ≡ counts_after_read found s.counts → EndsForGood found s.ended s'.ended → s'.name ≡ s.name → Looks quiet s s'
-looked found buffer quiet s s' finds reads counts ends named =
-    record { found = found; buffer = buffer; finds = finds; reads = reads; counts = counts; ends = ends; named = named }
+looked found buffer quiet s s' one finds reads counts ends named =
+    record { found = found; buffer = buffer; one = one; finds = finds; reads = reads; counts = counts; ends = ends; named = named }
 
 pub no_look : (s : Told) → Waits s s
 no_look s = (0, refl)

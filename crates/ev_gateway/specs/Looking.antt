@@ -1,5 +1,5 @@
 -- How a gateway looks, while a watch waits, whether its client is still there.
-use Rattle.std.specs.Prelude.{◌≡◌, ℕ, zero, suc, Bool, true, false, List}
+use Rattle.std.specs.Prelude.{◌≡◌, ◌≤◌, ℕ, zero, suc, Bool, true, false, List, length}
 use Rattle.zx_outside.specs.Counts.{InputCounts, one_more}
 use Rattle.zx_outside.specs.Reading.{EndsForGood, Reads, counts_after_read}
 use Rattle.zx_outside.specs.declared.source.Got.{Got}
@@ -18,6 +18,7 @@ is_quiet got.End = false
 pub record Looks (quiet : Bool) (source source' : Told) : Type 0 where
   pub found : Got
   pub buffer : List ℕ
+  pub one : length buffer ≤ 1
   pub finds : quiet ≡ is_quiet found
   pub reads : Reads found buffer source.given source'.given source.left source'.left
   pub counts : source'.counts ≡ counts_after_read found source.counts
