@@ -1,5 +1,5 @@
 -- How long a peer may say nothing.
-use Rattle.std.specs.Prelude.{◌≡◌, ℕ, ◌+◌, ◌-◌, ◌*◌, ◌<◌, zero, suc, Option, Some, None}
+use Rattle.std.specs.Prelude.{◌≡◌, ℕ, ◌+◌, ◌-◌, ◌*◌, ◌<◌, zero, suc, Option, Some, None, IfSome}
 use Rattle.zx_outside.specs.declared.source.Got.{Got}
 use Rattle.zx_outside.specs.declared.source.Got.TheVariants as got
 use Rattle.std.specs.declared.time.Duration.{Duration}
@@ -32,10 +32,14 @@ after_bytes patience count = record {
   wanted = patience.wanted - count;
 }
 
--- Of a source's patience, after so many bytes came. Where the system tells no time any more, there is none.
+-- the limits are those of before, and so many bytes fewer are wanted
+abbrev pub IsLimitedAs : Patience → ℕ → Patience → Type 0
+IsLimitedAs before count next = (next.first ≡ before.first) × (next.later ≡ before.later) × (next.wanted ≡ before.wanted - count)
+
+-- Of a source's patience, after so many bytes came: its limits stay. Where the system tells no time any more, there is none.
 abbrev pub IsPatience : ℕ → Option Patience → Option Patience → Type 0
 IsPatience count None after = after ≡ None
-IsPatience count (Some before) after = count < before.wanted → after ≡ Some (after_bytes before count)
+IsPatience count (Some before) after = (count < before.wanted → after ≡ Some (after_bytes before count)) × IfSome after (IsLimitedAs before count)
 
 -- Of a source's patience, after the system was asked for bytes: only bytes change it.
 abbrev pub IsPatienceOf : Got → Option Patience → Option Patience → Type 0

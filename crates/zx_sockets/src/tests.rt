@@ -353,6 +353,31 @@ fn a_peer_has_to_send_as_much_as_a_connect(rt: HostRuntime) -> Result<(), Fail> 
     Ok(())
 }
 
+#[test]
+fn a_peer_has_to_go_on_after_its_connect(rt: HostRuntime) -> Result<(), Fail> {
+    let listener = TcpListener::bind(&rt, "127.0.0.1:0")?;
+    let near = TcpStream::connect(&rt, listener.local_addr()?)?;
+    let (far, _) = listener.accept()?;
+    let (first, later) = (Duration::from_secs(3600), Duration::from_millis(0));
+    let patience = Patience::new(&rt, first, later);
+    let Some((mut source, _sink)) = ends_of(rt, rt.alloc(), far, 7, patience) else {
+        return Err(Fail::from("ends"));
+    };
+    let mut to_far: &TcpStream = &near;
+    assert!(rt; to_far.write(&[b'x'; 31])? == 31);
+    assert!(rt; comes_late(&mut source));
+    assert!(rt; drained(&mut source) == Got::Nothing);
+    // With as many bytes as the least connect has, the first limit is over, and the silence after them is too long.
+    assert!(rt; to_far.write(b"x")? == 1);
+    assert!(rt; comes_late(&mut source));
+    for _ in 0..TURNS {
+        if turn(&mut source) == Got::Failed {
+            return Ok(());
+        }
+    }
+    Err(Fail::from("silence"))
+}
+
 /// Whether these bytes break a silence that is too long. A machine that is too slow to look within the limit is asked again.
 fn breaks_the_silence<S: Source>(
     rt: HostRuntime,
