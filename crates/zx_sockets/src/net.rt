@@ -1,6 +1,6 @@
 //! The system's sockets as a net.
 
-ghost use Rattle.std.specs.Prelude.{◌≡◌, false, IfSome};
+ghost use Rattle.std.specs.Prelude.{◌≡◌, false, None, IfSome};
 ghost use Rattle.zx_sockets.specs.Nets.{is_passing};
 ghost use Rattle.zx_sockets.specs.Silence.{IsAccepted};
 
@@ -169,6 +169,22 @@ pub fn connect<R: SystemNet<Stream = TcpStream>>(rt: &R, address: &str) -> Optio
     None
 }
 
+/// Both ends of a stream to a host, whose peer may say nothing for ever; `None` where there is none.
+fn dialled_ends<R: SystemNet<Stream = TcpStream> + SystemClock + Copy>(
+    rt: R,
+    alloc: Global,
+    address: &str,
+) -> Option<(SocketSource<R>, SocketSink)>
+    ensures patience { IfSome result (λ ends. ends.0.patience ≡ None) }
+    ensures source { IfSome result (λ ends. (ends.0.ended ≡ false) × (ends.0.faults ≡ 0) × (ends.0.idles ≡ 0) × (ends.0.name ≡ 0)) }
+    ensures sink { IfSome result (λ ends. (ends.1.faults ≡ 0) × (ends.1.name ≡ 0)) }
+{
+    match connect(&rt, address) {
+        Some(stream) => ends_of(rt, alloc, stream, 0, None),
+        None => None,
+    }
+}
+
 impl<
     R: SystemNet<Listener = TcpListener, Stream = TcpStream> + SystemClock + Copy + Send + 'static,
 > Net for StdNet<R> {
@@ -212,11 +228,7 @@ impl<
         if let Some(pauses) = &mut self.pauses {
             pauses.wait(&self.rt);
         }
-        let dialled = match connect(&self.rt, address) {
-            Some(stream) => ends_of(self.rt, self.alloc, stream, 0, None),
-            None => None,
-        };
-        match dialled {
+        match dialled_ends(self.rt, self.alloc, address) {
             Some(ends) => Ok(ends),
             None => {
                 self.dial_faults = self.dial_faults.saturating_add(1);
