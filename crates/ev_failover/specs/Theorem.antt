@@ -32,7 +32,7 @@ FailsOnly q size tries =
 
 -- ---- endpoints of one store that nobody else changes
 
--- an answer is what the store gives; a call that was not sent, failed, or wanted memory changed nothing
+-- an answer is what the store gives; a call that was not sent, failed, or ran out of memory changed nothing
 abbrev pub CarriesEnd : Store → Ask → Result Answer EndFault → Store → Type 0
 CarriesEnd s q (Ok a) t = carry s q ≡ Some (t, a)
 CarriesEnd s q (Err e) t = t ≡ s

@@ -326,7 +326,7 @@ LastsTo (framing.Counted n) rest = ⊤
 LastsTo framing.Chunked rest = ⊤
 
 -- The reading of a whole body within its limit: it is read, and the bytes after it are left in the source; or there is a fault of
--- the source or out of memory.
+-- the source, or memory ran out.
 abbrev pub ReadsBody : Result (Vec ℕ) HttpFault → List ℕ → List ℕ → Option (List ℕ) → Type 0
 ReadsBody (Ok v) body rest left = (v.items ≡ body) × (left ≡ Some rest)
 ReadsBody (Err fault.Idle) body rest left = ⊤

@@ -172,7 +172,7 @@ pub record HoldsStatus (status : ℕ) (body rest bytes : List ℕ) : Type 0 wher
   pub bytes_are : bytes ≡ head ++ (body ++ rest)
 
 -- The reading of a whole request whose body is within its limit: it is read, and the bytes after it are left in the source; or
--- there is a fault of the source or out of memory.
+-- there is a fault of the source, or memory ran out.
 abbrev pub ReadsRequestBody : Result (Route × Vec ℕ) HttpFault → Route → List ℕ → List ℕ → Option (List ℕ) → Type 0
 ReadsRequestBody (Ok r) goes body rest left = (r.0 ≡ goes) × (r.1.items ≡ body) × (left ≡ Some rest)
 ReadsRequestBody (Err why) goes body rest left = ReadsBody (Err why) body rest left

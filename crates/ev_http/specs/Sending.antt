@@ -52,7 +52,7 @@ Wrote (Err (fault.Ended n)) bytes taken taken' counts counts' name name' = ⊥
 Wrote (Err fault.Idle) bytes taken taken' counts counts' name name' = ⊥
 Wrote (Err fault.ReadFault) bytes taken taken' counts counts' name name' = ⊥
 
--- The bytes were written, or a front of them up to a fault of the sink, or nothing, as memory ran out.
+-- The bytes were written, or a front of them up to a fault of the sink, or nothing, where memory ran out.
 abbrev pub Sends : Result (Unit {0}) HttpFault → List ℕ → Option (List ℕ) → Option (List ℕ) → OutputCounts → OutputCounts → ℕ → ℕ → Type 0
 Sends (Err fault.Memory) bytes taken taken' counts counts' name name' = (taken' ≡ taken) × (counts' ≡ counts) × (name' ≡ name)
 Sends result bytes taken taken' counts counts' name name' = Wrote result bytes taken taken' counts counts' name name'

@@ -89,7 +89,7 @@ abbrev pub LineAnswer : {S : Type 0} → Result (List ℕ) HttpFault → Lines S
 LineAnswer result lines source taken given = AnswersLine result lines.state lines.line.items lines.kept.items lines.scanned lines.tally source taken given
 
 -- The reading of a line of a whole response of which these bytes of the body were given before: the line is the next of the body;
--- or no whole line is left; or the next is too long; or there is a fault of the source or out of memory.
+-- or no whole line is left; or the next is too long; or there is a fault of the source, or memory ran out.
 abbrev pub ReadsLine : Result (List ℕ) HttpFault → List ℕ → List ℕ → Type 0
 ReadsLine (Ok text) given body = (more : List ℕ) × (body ≡ given ++ (text ++ (10 ∷ more)))
 ReadsLine (Err (fault.Ended n)) given body = (more : List ℕ) × (body ≡ given ++ more) × HasNoFeed more

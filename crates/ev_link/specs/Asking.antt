@@ -33,8 +33,8 @@ pub record SinkTold : Type 0 where
 abbrev pub sink_told : {K : Type 0} → (K → Option (List ℕ)) → (K → OutputCounts) → (K → ℕ) → K → SinkTold
 sink_told taken counts name sink = record { taken = taken sink; counts = counts sink; name = name sink }
 
--- The text of the ask was sent as the body of one request, or a front of that request up to a fault of the sink, or nothing for
--- out of memory.
+-- The text of the ask was sent as the body of one request, or a front of that request up to a fault of the sink, or nothing, as
+-- memory ran out.
 abbrev pub SendsAsk : Result (Unit {0}) HttpFault → List ℕ → Ask → SinkTold → SinkTold → Type 0
 SendsAsk result host q sink sink' =
     Sends result (request_head host (route_of q) (length (ask_text q)) ++ ask_text q) sink.taken sink'.taken sink.counts sink'.counts sink.name sink'.name

@@ -3,7 +3,7 @@
 use ev_http::HttpFault;
 use ev_json::JsonFault;
 
-/// Why an ask over HTTP has no answer. A link that keeps one does not keep that memory ran out.
+/// Why an ask over HTTP has no answer. A link keeps one, but not that memory ran out.
 #[derive(Clone, Copy)]
 pub enum LinkFailure {
     /// The request could not be sent, or the response not be read.

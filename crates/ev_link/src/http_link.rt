@@ -32,7 +32,7 @@ enum State {
 }
 
 /// A link over one HTTP connection: one request and one response a call. After a failure each call fails for the same reason, and
-/// once out of memory each is out of memory; neither sends anything, since the next response may be that of an earlier ask.
+/// once memory ran out, each answers so; neither sends anything, since the next response may be that of an earlier ask.
 #[derive(Drop)]
 pub struct HttpLink<S, K> {
     source: S,
@@ -162,7 +162,7 @@ impl<S: Source + Drop, K: Sink + Drop> HttpLink<S, K> {
         self.host.as_str()
     }
 
-    /// Why the link failed; `None` where it did not, or only wanted memory.
+    /// Why the link failed; `None` where it did not, or only ran out of memory.
     pub fn last_failure(&self) -> Option<&LinkFailure>
         ensures { option_copied result ≡ failure_in self.now.state }
     {

@@ -23,7 +23,7 @@ use std::marker::Model;
 use zx_base::{Bytes, Memory, Seq};
 
 /// The changes of each revision, and an index: each key's versions, and the keys that were put with each lease. The index may lag
-/// after the revisions where memory ran out: look-ups then read the revisions that it lacks one by one, and the next revision
+/// behind the revisions where memory ran out: look-ups then read the revisions that it lacks one by one, and the next revision
 /// goes on with them.
 #[derive(Drop)]
 pub struct History {

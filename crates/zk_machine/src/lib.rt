@@ -1,7 +1,7 @@
 //! The service's machine as a program: what a request makes of the tree is planned on it, and then carried out in place.
 //!
-//! Each function's contract is the definition of `zk_model` that it computes. The judge of transcripts stands on all of it. The
-//! service keeps its tree as keys of etcd, and takes only the load of a multi and its row of codes from here.
+//! Each function's contract is the definition of `zk_model` that it computes. The judge of transcripts stands on this crate; the
+//! service, which keeps its tree as keys of etcd, does not.
 #![tactic(auto)]
 
 mod alone;

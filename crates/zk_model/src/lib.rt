@@ -5,7 +5,7 @@
 //! sees. Contracts see them as they are declared, with [`zx_base::Seq`] fields as lists.
 //!
 //! The definitions, in reading order: `Limits`, `Codes`, `Access`, `Paths`, `PathFaults`, `Znodes`, `Single`, `Multi`,
-//! `Watches`. They are the machine: what each request does to a tree of znodes, and what watches see of it.
+//! `Loads`, `Watches`. They are the machine: what each request does to a tree of znodes, and what watches see of it.
 #![tactic(auto)]
 
 pub mod code;

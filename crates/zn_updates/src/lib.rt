@@ -8,7 +8,7 @@
 //! Each request is decided in two steps. What the view saw is read as records (`seen`), without a node's data. Then a pure
 //! function of these records (`specs/Choices`) chooses a refusal or the changes of an update; [`choose_create`],
 //! [`choose_delete`] and [`choose_set_data`] compute it. `proofs/` shows that wherever keys have what was seen, the choice is
-//! what the request comes to (`IsRight`), and its changes of keys are those of the tree (`Fits`).
+//! what the request comes to (`IsRight`), and its changes of keys are those of the tree (`ChangesFit`).
 //!
 //! A zxid of 0 in a record is that of the update itself. So the parts of a multi can be chosen one after the other:
 //! [`choose_part`] chooses a part on a view over which the keys are laid that the earlier parts wrote.

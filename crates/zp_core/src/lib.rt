@@ -29,7 +29,7 @@
 //! each refusal is by a view that was read after its frame was taken up.
 //!
 //! What a request lacks is worked out once for each of its rounds, but once for all rounds of a setWatches, whose reads no answer
-//! changes: what is after the keys that are out is kept with them (`round`). So a setWatches takes time in proportion to the number
+//! changes: the keys after those that are out are kept with them (`round`). So a setWatches takes time in proportion to the number
 //! of its paths, times the logarithm of that number.
 //!
 //! A frame is copied once, where it is handed in, and the transaction of a plan once, where it is asked: what the update leaves of

@@ -5,7 +5,7 @@
 //! In `specs/`, in reading order:
 //!
 //! - `Worlds`: what a world is made of;
-//! - `Kinds`: which update an ask is;
+//! - `Kinds`: which update the ask of a connection or of a reaper is;
 //! - `Entries`: what a connection is told of each update, and when it lags;
 //! - `Faults`: the first test of a line that fails (`fault`);
 //! - `StepOutcomes`, `Handing`: what a step leaves, and handing something to a connection or a reaper;

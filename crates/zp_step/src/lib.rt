@@ -21,6 +21,8 @@
 //! - `Plans`: what follows the answer to a plan's transaction;
 //! - `Connects`: how the connection gets its session;
 //! - `Entries`: how an update is told;
+//! - `Kept`: the views that a connection keeps of the paths that it used;
+//! - `Kinds`: which update a connection's transaction is;
 //! - `Steps`: a whole step (`Steps`), and which inputs may be handed in (`MayTake`);
 //! - `Laws`: what the functions of `laws` say.
 //!

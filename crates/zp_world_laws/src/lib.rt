@@ -12,7 +12,7 @@
 //! - `Serving`: a store serves a transcript, and what a transaction makes of that (`Commits`);
 //! - `Bounds`: what an ask is bound to (`IsBoundAsk`): a request's plan, a reaper's, a session's transaction;
 //! - `Holding`: what may still be carried out (`air`), conversations (`Talks`), and what holds of a world (`Holds`);
-//! - `Connections`: a connection with a session (`IsServing`), and all of them (`Whole`);
+//! - `Connections`: a connection with a session (`IsServingConn`), and all of them (`Whole`);
 //! - `Naming`, `Counting`: the lines that name a connection; the frames of an open one (`HasFrames`);
 //! - `Connecting`: a connection without a session (`IsConnecting`); `Reaping`: a reaper (`IsReapFlight`);
 //! - `Knowing`: each number (`Known`); `Entering`: the entries of a world (`AreEntries`);

@@ -32,8 +32,8 @@ pub fn pause_of(word: u64) -> u64
 
 /// Ends sessions that have lapsed, turn by turn, with this pause in milliseconds before each, until the word to stop is set. It reads
 /// the word before each pause. Of turns in a row that fail, the operator is told of the first. A link over which a call failed or
-/// wanted memory is dropped, and the next turn dials anew: the addresses in `endpoint`, one or more bytes of visible ASCII, in turn from
-/// the first on, until one dial succeeds.
+/// ran out of memory is dropped, and the next turn dials anew: the addresses in `endpoint`, one or more bytes of visible ASCII, in turn
+/// from the first on, until one dial succeeds.
 #[tactic(auto, using(crate::proofs::Keeping::dials_first, crate::proofs::Keeping::dials_more))]
 pub fn reap<R: Wait + SystemClock + Eprint, N: Net, Q: StopWord>(
     rt: &R,

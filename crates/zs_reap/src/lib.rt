@@ -9,7 +9,7 @@
 //!
 //! A step does no IO and reads no clock: the caller has the ask carried out, and makes the next step with the answer.
 //!
-//! In `specs/`: `Steps` (what is asked in each phase, and what a step does). What a view decides, and what a plan is worth,
+//! In `specs/`: `Steps` (what is asked in each phase, and what a step does: `ReaperSteps`). What a view decides, and what a plan is worth,
 //! are `zs_close`'s definitions.
 //!
 //! A step takes memory for its ask, and copies what a look shows once. It keeps no view between two steps: the second look

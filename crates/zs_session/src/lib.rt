@@ -9,7 +9,7 @@
 //! A step does no IO and reads no clock: the caller has the ask carried out, and makes the next step with the answer.
 //!
 //! In `specs/`, in reading order: `Sessions` (what is asked for a session), `Answering` (which answers an ask may have),
-//! `Connecting` (`asked_in`: what is asked in each phase; `Steps`: what a step does), `Alive`, `Laws`. The laws are the
+//! `Connecting` (`asked_in_phase`: what is asked in each phase; `ConnectSteps`: what a step does), `Alive`, `Laws`. The laws are the
 //! functions of `laws`: what keys stand for after the transactions, and what their answers show.
 //!
 //! A step takes memory for its ask, and copies what a look shows once; it keeps no view between two steps.

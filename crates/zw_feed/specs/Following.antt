@@ -71,7 +71,7 @@ after s (Ok entries) = record { number = s.number +ℤ pos (length entries.items
 after s (Err fault.Memory) = s
 after s (Err f) = record s { fault = Some f }
 
--- One call. A follower that has a fault answers it again, or is out of memory for its copy, and stays as it is.
+-- One call. A follower that has a fault answers it again, or has no memory for its copy, and stays as it is.
 abbrev pub TakesIn : Option FeedFault → FollowerState → Line → Result (Vec Entry) FeedFault → FollowerState → Type 0
 TakesIn None s l r s' = Gives s.number l r × (s' ≡ after s r)
 TakesIn (Some f) s l r s' = ((r ≡ Err f) ⊎ (r ≡ Err fault.Memory)) × (s' ≡ s)

@@ -124,7 +124,7 @@ abbrev pub at_after : List ℕ → ℕ → List Dial → ℕ
 at_after text at [] = at
 at_after text at (d ∷ ds) = at_after text (host_after text at) ds
 
--- Dials in a row, of the addresses of a text in turn, each of which asks from after the last entry that was published before it.
+-- Dials in a row, of the addresses of a text in turn, each of which asks for what comes after the last entry that was published before it.
 abbrev pub AreDials : {In Out : Type 0} → Telling In Out → List ℕ → ℕ → NetTold → ℤ → List Dial → NetTold → Type 0
 AreDials tells text at net zxid [] net' = net' ≡ net
 AreDials tells text at net zxid (d ∷ ds) net' =

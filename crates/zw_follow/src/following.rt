@@ -22,7 +22,7 @@ use zx_words::StopWord;
 /// How many dials in a row may give no line.
 const MAX_BARREN: u32 = 10;
 
-/// Follows the head from after this revision on, at which the last update has this number, and publishes an entry for each later one
+/// Follows the head after this revision, at which the last update has this number, and publishes an entry for each later one
 /// (etcd API reference, "Watch"). `endpoint` names JSON gateways: the first five addresses in it that are not empty, with commas between
 /// them, each `HOST:PORT`; `localhost` where there is none. They are dialled in turn, one more for each stream that is over. Both numbers
 /// are from 0 to 2^62 - 1; `number` is that of the hub's last entry, and the hub is open.

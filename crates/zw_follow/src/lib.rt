@@ -2,7 +2,7 @@
 //!
 //! [`follow`] dials etcd's JSON gateway and asks for a watch of the head, from a known revision on. It takes the stream's lines, one
 //! after the other, and publishes their entries ([`zw_feed`] says which these are). Where the stream is over it dials the next address,
-//! and asks from after the last entry. So each update is published once, in order, over however many streams. [`follow_and_ring`]
+//! and asks for what comes after the last entry. So each update is published once, in order, over however many streams. [`follow_and_ring`]
 //! rings besides, after each line, for those who wait for entries.
 //!
 //! # The end

@@ -32,7 +32,7 @@ pub enum Fed {
     Lagged { cursor: i64, floor: i64 },
     /// No entry is above the cursor, and none will come.
     Closed(Arc<FeedEnd, Global>),
-    /// Memory was refused, or the feed was closed since memory ran out and the cursor is at its end.
+    /// Memory was refused, or the feed was closed because memory ran out, and the cursor is at its end.
     Memory,
 }
 
