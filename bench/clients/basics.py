@@ -168,7 +168,7 @@ def the_java_client_elects_a_leader(program, work):
         runs("java", "Clients", "elect", proxies[0].address, proxies[1].address)
 
 
-def the_c_client_reads_writes_watches_and_elects(program, work):
+def the_c_client_reads_writes_watches_locks_and_elects(program, work):
     with two_proxies(program, work) as (_etcd, proxies):
         runs(f"{work}/clients", proxies[0].address, proxies[1].address)
 
@@ -199,6 +199,45 @@ quit
             assert wanted in text, f"no {wanted!r} in {text[-1500:]}"
         with kazoos(proxies[1].address) as (a,):
             assert a.get_children("/") == []
+
+
+@contextmanager
+def zkcli(address, work):
+    """A zkCli, as what takes a line and whether its output has this by now."""
+    path = f"{work}/zkcli-{time.time_ns()}"
+    cli = subprocess.Popen(["java", "org.apache.zookeeper.ZooKeeperMain", "-server", address], stdin=subprocess.PIPE,
+                           stdout=open(path, "wb"), stderr=subprocess.STDOUT, text=True, bufsize=1)
+    try:
+        yield lambda line: cli.stdin.write(line + "\n"), lambda text: until(lambda: text in open(path, errors="replace").read(), 20)
+    finally:
+        cli.kill()
+        cli.wait()
+
+
+def zkclis_elect_and_lock(program, work):
+    # Who makes the node leads, or holds the lock; who comes late is told when it goes, by its owner or with the owner's session.
+    with two_proxies(program, work) as (_etcd, proxies), zkcli(proxies[0].address, work) as (ask, shows), \
+            zkcli(proxies[1].address, work) as (other_asks, other_shows):
+        ask("create -e /cli-lock a")
+        assert shows("Created /cli-lock"), "no lock"
+        other_asks("create -e /cli-lock b")
+        assert other_shows("already exists: /cli-lock"), "two own it"
+        other_asks("stat -w /cli-lock")
+        assert other_shows("ephemeralOwner")
+        ask("delete /cli-lock")
+        assert other_shows("type:NodeDeleted path:/cli-lock"), "nobody is told"
+        other_asks("create -e /cli-lock b")
+        assert other_shows("Created /cli-lock"), "the lock did not pass on"
+        other_asks("create -e /cli-leader b")
+        assert other_shows("Created /cli-leader"), "nobody leads"
+        ask("create -e /cli-leader a")
+        assert shows("already exists: /cli-leader"), "two lead"
+        ask("stat -w /cli-leader")
+        assert shows("ephemeralOwner")
+        other_asks("quit")
+        assert shows("type:NodeDeleted path:/cli-leader"), "nobody is told"
+        ask("create -e /cli-leader a")
+        assert shows("Created /cli-leader"), "the other does not lead"
 
 
 def large_nodes_and_long_listings(program, work):
@@ -265,5 +304,5 @@ def connections_that_end_are_told(program, work):
 
 checks = [kazoo_reads_writes_and_watches, kazoo_holds_a_lock, kazoo_elects_a_leader, kazoo_has_its_other_recipes,
           the_java_client_reads_writes_and_watches, the_java_client_holds_a_lock, the_java_client_elects_a_leader,
-          the_c_client_reads_writes_watches_and_elects, zkcli_reads_writes_and_watches, large_nodes_and_long_listings,
-          many_requests_at_once, an_etcd_in_memory_does_as_well, connections_that_end_are_told]
+          the_c_client_reads_writes_watches_locks_and_elects, zkcli_reads_writes_and_watches, zkclis_elect_and_lock,
+          large_nodes_and_long_listings, many_requests_at_once, an_etcd_in_memory_does_as_well, connections_that_end_are_told]

@@ -39,13 +39,39 @@ static int is_least(const char *name, const struct String_vector *names) {
   return 1;
 }
 
-/* The one whose node is the least leads, and holds the lock. */
-static int leads(zhandle_t *zh, const char *node) {
+/* The one whose node is the least leads, or holds the lock. */
+static int is_first(zhandle_t *zh, const char *root, const char *node, watcher_fn told) {
   struct String_vector names;
-  check("candidates", zoo_wget_children(zh, "/c-leader", watched, 0, &names) == ZOK);
+  check("candidates", zoo_wget_children(zh, root, told, 0, &names) == ZOK);
   int least = is_least(strrchr(node, '/') + 1, &names);
   deallocate_String_vector(&names);
   return least;
+}
+
+static int leads(zhandle_t *zh, const char *node) { return is_first(zh, "/c-leader", node, watched); }
+
+static int holds(zhandle_t *zh, const char *node) { return is_first(zh, "/c-lock", node, NULL); }
+
+/* Each waits for the node before its own to go, and the lock passes on when its owner gives it back. */
+static void lock(zhandle_t *a, zhandle_t *b) {
+  char mine[256], theirs[256], again[256];
+  struct Stat stat;
+  int flags = ZOO_EPHEMERAL | ZOO_SEQUENCE;
+  check("root", zoo_create(a, "/c-lock", "", 0, &ZOO_OPEN_ACL_UNSAFE, 0, mine, sizeof mine) == ZOK);
+  check("mine", zoo_create(a, "/c-lock/l-", "", 0, &ZOO_OPEN_ACL_UNSAFE, flags, mine, sizeof mine) == ZOK);
+  check("theirs", zoo_create(b, "/c-lock/l-", "", 0, &ZOO_OPEN_ACL_UNSAFE, flags, theirs, sizeof theirs) == ZOK);
+  check("lock", holds(a, mine));
+  check("one owner", !holds(b, theirs));
+  last_type = 0;
+  check("waits", zoo_wexists(b, mine, watched, 0, &stat) == ZOK);
+  check("unlock", zoo_delete(a, mine, -1) == ZOK);
+  check("passed on", comes(ZOO_DELETED_EVENT));
+  check("owner", holds(b, theirs));
+  check("again", zoo_create(a, "/c-lock/l-", "", 0, &ZOO_OPEN_ACL_UNSAFE, flags, again, sizeof again) == ZOK);
+  check("one owner", !holds(a, again));
+  check("unlock", zoo_delete(b, theirs, -1) == ZOK);
+  check("owner", holds(a, again));
+  check("unlock", zoo_delete(a, again, -1) == ZOK);
 }
 
 static volatile int told[5];
@@ -115,6 +141,7 @@ int main(int count, char **words) {
   zoo_create_op_init(&parts[2], "/c/m", "", 0, &ZOO_OPEN_ACL_UNSAFE, 0, path, sizeof path);
   check("multi", zoo_multi(b, 3, parts, results) == ZOK);
 
+  lock(a, b);
   check("root", zoo_create(a, "/c-leader", "", 0, &ZOO_OPEN_ACL_UNSAFE, 0, path, sizeof path) == ZOK);
   int flags = ZOO_EPHEMERAL | ZOO_SEQUENCE;
   check("first", zoo_create(a, "/c-leader/n-", "", 0, &ZOO_OPEN_ACL_UNSAFE, flags, path, sizeof path) == ZOK);

@@ -268,8 +268,33 @@ static long post(worker *w, const char *body) {
   return atol(revision + 12);
 }
 
+#define RANGE(k) "{\"request_range\":{\"key\":\"%s\"}}"
+#define PUT "{\"request_put\":{\"key\":\"%s\",\"value\":\"%s\"}}"
+#define COMPARE "{\"key\":\"%s\",\"mod_revision\":\"%ld\",\"result\":\"EQUAL\",\"target\":\"MOD\"}"
+#define BODY 4096
+
+/* A setData, by its guards. */
+static long update(worker *w, char *body, const char *life, const char *data, const char *counts, const char *head, const char *value) {
+  snprintf(body, BODY,
+           "{\"compare\":[" COMPARE "," COMPARE "," COMPARE "],\"failure\":[" RANGE(0) "," RANGE(0) "," RANGE(0) "," RANGE(0) "],"
+           "\"success\":[" PUT "," PUT "," RANGE(0) "]}",
+           life, 0L, data, w->revision, counts, 0L, life, data, counts, head, data, value, head, "AQAAAAEDAAAAAy9iMQ==", head);
+  return post(w, body);
+}
+
+/* A create, by its guards. */
+static long make(worker *w, char *body, const char *life, const char *data, const char *counts, const char *x, const char *xc, const char *head,
+                 const char *value) {
+  snprintf(body, BODY,
+           "{\"compare\":[" COMPARE "," COMPARE "," COMPARE "," COMPARE "],\"failure\":[" RANGE(0) "," RANGE(0) "," RANGE(0) "," RANGE(0) "," RANGE(0) "],"
+           "\"success\":[" PUT "," PUT "," PUT "," PUT "," RANGE(0) "]}",
+           life, 0L, data, 0L, counts, w->revision, x, 0L, life, data, counts, x, head, x, value, xc, "AQAAAAAAAAAA", counts,
+           "AQAAAAEAAAAB", head, "AQAAAAIBAAAABS9iMS94BAAAAAMvYjE=", head);
+  return post(w, body);
+}
+
 static void etcd_turn(worker *w) {
-  char body[4096], name[128], data[160], counts[160], life[160], x[160], xc[160], head[40], value[256];
+  char body[BODY], name[128], data[160], counts[160], life[160], x[160], xc[160], head[40], value[256];
   char hundred[160];
   memset(hundred, 'x', sizeof hundred);
   base64(hundred, 146, value);
@@ -284,31 +309,37 @@ static void etcd_turn(worker *w) {
   snprintf(name, sizeof name, "zk/c/0002%s/x", w->key);
   base64(name, strlen(name), xc);
   base64("zk/head", 7, head);
-#define RANGE(k) "{\"request_range\":{\"key\":\"%s\"}}"
-#define PUT "{\"request_put\":{\"key\":\"%s\",\"value\":\"%s\"}}"
-#define COMPARE "{\"key\":\"%s\",\"mod_revision\":\"%ld\",\"result\":\"EQUAL\",\"target\":\"MOD\"}"
   if (!strcmp(what, "get")) {
     snprintf(body, sizeof body, "{\"success\":[" RANGE(0) "," RANGE(0) "," RANGE(0) "," RANGE(0) "]}", head, life, data, counts);
     post(w, body);
   }
   if (!strcmp(what, "set")) {
-    snprintf(body, sizeof body,
-             "{\"compare\":[" COMPARE "," COMPARE "," COMPARE "],\"failure\":[" RANGE(0) "," RANGE(0) "," RANGE(0) "," RANGE(0) "],"
-             "\"success\":[" PUT "," PUT "," RANGE(0) "]}",
-             life, 0L, data, w->revision, counts, 0L, life, data, counts, head, data, value, head, "AQAAAAEDAAAAAy9iMQ==", head);
-    w->revision = post(w, body);
+    w->revision = update(w, body, life, data, counts, head, value);
+  }
+  if (!strcmp(what, "multi")) {
+    /* A check and a setData: what both read, and then one update. */
+    snprintf(body, sizeof body, "{\"success\":[" RANGE(0) "," RANGE(0) "," RANGE(0) "," RANGE(0) "]}", head, life, data, counts);
+    post(w, body);
+    w->revision = update(w, body, life, data, counts, head, value);
+  }
+  if (!strcmp(what, "sequence")) {
+    /* The number, then whether the node is there, and then the update. */
+    snprintf(name, sizeof name, "zk/d/0002%s/x%010d", w->key, w->count);
+    base64(name, strlen(name), x);
+    snprintf(name, sizeof name, "zk/c/0002%s/x%010d", w->key, w->count);
+    base64(name, strlen(name), xc);
+    snprintf(body, sizeof body, "{\"success\":[" RANGE(0) "," RANGE(0) "," RANGE(0) "," RANGE(0) "]}", head, life, data, counts);
+    long seen = post(w, body);
+    snprintf(body, sizeof body, "{\"success\":[{\"request_range\":{\"key\":\"%s\",\"revision\":\"%ld\"}}]}", x, seen);
+    post(w, body);
+    w->revision = make(w, body, life, data, counts, x, xc, head, value);
   }
   if (!strcmp(what, "create")) {
     w->is_first = !w->is_first;
     if (w->is_first) {
       snprintf(body, sizeof body, "{\"success\":[" RANGE(0) "," RANGE(0) "," RANGE(0) "," RANGE(0) "," RANGE(0) "]}", head, life, data, counts, x);
       post(w, body);
-      snprintf(body, sizeof body,
-               "{\"compare\":[" COMPARE "," COMPARE "," COMPARE "," COMPARE "],\"failure\":[" RANGE(0) "," RANGE(0) "," RANGE(0) "," RANGE(0) "," RANGE(0) "],"
-               "\"success\":[" PUT "," PUT "," PUT "," PUT "," RANGE(0) "]}",
-               life, 0L, data, 0L, counts, w->revision, x, 0L, life, data, counts, x, head, x, value, xc, "AQAAAAAAAAAA", counts,
-               "AQAAAAEAAAAB", head, "AQAAAAIBAAAABS9iMS94BAAAAAMvYjE=", head);
-      w->revision = post(w, body);
+      w->revision = make(w, body, life, data, counts, x, xc, head, value);
     } else {
       snprintf(body, sizeof body,
                "{\"compare\":[" COMPARE "," COMPARE "," COMPARE "," COMPARE "],\"failure\":[" RANGE(0) "," RANGE(0) "," RANGE(0) "," RANGE(0) "," RANGE(0) "],"

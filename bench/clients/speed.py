@@ -9,7 +9,6 @@ import time
 from cluster import Etcd, Proxy, answers, free_port, until
 
 WHAT = ["get", "set", "create", "sequence", "multi"]
-OF_ETCD = ["get", "set", "create"]
 CONNECTIONS = [1, 16, 128]
 
 
@@ -91,7 +90,7 @@ def main():
                 before = [processor(it.process.pid) for it in (proxy, etcd)]
                 ours = load(work, proxy.port, "zk", what, connections, seconds)
                 used = costs(ours, before, [processor(it.process.pid) for it in (proxy, etcd)], seconds)
-                theirs = load(work, etcd.port, "etcd", what, connections, seconds) if what in OF_ETCD else None
+                theirs = load(work, etcd.port, "etcd", what, connections, seconds)
                 real = load(work, zookeeper.port, "zk", what, connections, seconds) if zookeeper.is_up else None
                 ratio = f"{ours[0] / theirs[0]:5.2f}" if ours and theirs else "    -"
                 print(f"{what:10s} {connections:11d}   {told(ours)}   {told(theirs)}   {ratio}   {told(real)}   {used}", flush=True)
