@@ -12,7 +12,7 @@ from kazoo.client import KazooState
 from kazoo.retry import KazooRetry
 
 from basics import kazoos
-from cluster import Members, Proxy, until
+from cluster import Members, Proxy, free_port, until
 from faults import counting, hosts_of, longest_pause
 
 
@@ -128,4 +128,83 @@ def no_link_is_told_where_no_member_answers(program, work):
             assert until(lambda: "closed 1 no link" in proxies[0].lines(), 10), proxies[0].lines()
 
 
-checks = [a_killed_member_loses_no_session, a_proxy_begins_where_one_member_is_down, no_link_is_told_where_no_member_answers]
+HEAD = base64.b64encode(b"zk/head").decode()
+CONNECT = bytes.fromhex("0000002d" + "00000000" + "00" * 8 + "00007530" + "00" * 8 + "00000010" + "00" * 16 + "00")
+
+
+class Told:
+    """A member that answers what is read with a head at revision 5 and nothing else, and what is written as if a guard had failed. It
+    closes each stream that asks for a watch or a lease. `asked` has what each of the members was asked: its number, the route, the body."""
+
+    def __init__(self, number, asked):
+        self.number, self.asked = number, asked
+        self.listener = socket.create_server(("127.0.0.1", free_port()))
+        self.address = f"127.0.0.1:{self.listener.getsockname()[1]}"
+        threading.Thread(target=self.accept, daemon=True).start()
+
+    def accept(self):
+        while True:
+            try:
+                stream = self.listener.accept()[0]
+            except OSError:
+                return
+            threading.Thread(target=self.serve, args=(stream,), daemon=True).start()
+
+    def serve(self, stream):
+        with stream, stream.makefile("rb") as lines:
+            while True:
+                words, length = lines.readline().split(), 0
+                if not words:
+                    return
+                for line in iter(lines.readline, b"\r\n"):
+                    if line.lower().startswith(b"content-length:"):
+                        length = int(line[15:])
+                route, body = words[1].decode(), json.loads(lines.read(length))
+                self.asked.append((self.number, route, body))
+                if route != "/v3/kv/txn":
+                    return
+                text = json.dumps(self.answer(body)).encode()
+                stream.sendall(b"HTTP/1.1 200 OK\r\nContent-Length: %d\r\n\r\n" % len(text) + text)
+
+    def answer(self, body):
+        is_read = not body.get("compare")
+        parts = []
+        for part in body.get("success" if is_read else "failure", []):
+            is_head = part["request_range"]["key"] == HEAD
+            head = {"key": HEAD, "create_revision": "2", "mod_revision": "5", "version": "4", "value": "AQAAAAA="}
+            parts.append({"response_range": {"kvs": [head], "count": "1"} if is_head else {}})
+        return {"header": {"revision": "5"}, "succeeded": is_read, "responses": parts}
+
+    def end(self):
+        try:
+            self.listener.shutdown(socket.SHUT_RDWR)
+        except OSError:
+            pass
+        self.listener.close()
+
+
+def the_endpoints_are_dialled_in_turn(program, work):
+    asked = []
+    members = [Told(number, asked) for number in range(3)]
+    proxy = Proxy(program, ",".join(it.address for it in members), work)
+    try:
+        assert [it[0] for it in asked if it[2].get("compare")] == [0], "the first ask"
+        watches = lambda: [number for number, route, _body in list(asked) if route == "/v3/watch"]
+        assert until(lambda: len(watches()) >= 7, 30), watches()
+        assert watches()[:7] == [0, 1, 2, 0, 1, 2, 0], watches()
+        # A client's link is to the first member that can be dialled.
+        connects = lambda: [it[0] for it in list(asked) if it[2] == {"success": [{"request_range": {"key": HEAD}}]}]
+        for first in (0, 1, 2):
+            with socket.create_connection(("127.0.0.1", proxy.port), 5) as client:
+                client.sendall(CONNECT)
+                assert until(lambda: len(connects()) > first, 10), connects()
+            members[first].end()
+        assert connects() == [0, 1, 2], connects()
+    finally:
+        proxy.end()
+        for it in members:
+            it.end()
+
+
+checks = [a_killed_member_loses_no_session, a_proxy_begins_where_one_member_is_down, no_link_is_told_where_no_member_answers,
+          the_endpoints_are_dialled_in_turn]
