@@ -5,6 +5,8 @@
 //! - `replay/NAME.script` with `NAME.transcript`, `show/NAME.stream` with `NAME.lines`, and `judge/NAME.transcript` with
 //!   `NAME.verdict`: an input and all that is written of it, with `NAME.status` where the status is not 0. The input is handed over
 //!   whole and in pieces of several sizes.
+//! - `stories/NAME.script` with `NAME.transcript`, as in `replay`, and both in words ([`zt_story`]): `NAME.transcript.words`, and
+//!   `NAME.script.words`, from which the same script is made.
 //! - `runs/NAME.run`: a run of its own, with other words, faults, idle turns, or an input that is too long for a file and is made by
 //!   a rule ([`Run`](crate::run::Run) has its lines).
 //!
@@ -19,10 +21,12 @@ mod compare;
 mod files;
 mod made;
 mod run;
+mod stories;
 
 use crate::compare::first_difference;
-use crate::files::{bytes_of, exists, names_in, number_of};
+use crate::files::{bytes_beside, bytes_of, exists, names_in, number_of};
 use crate::run::Run;
+use crate::stories::{script_problem, words_problem};
 use anyhow::{Result, bail};
 use ev_shared::StoreLink;
 use ev_store::Store;
@@ -84,10 +88,16 @@ fn main(rt: HostRuntime) -> Result<ExitCode> {
         passed: 0,
         failed: 0,
     };
-    files_of(&rt, root, "replay", "script", "transcript", &mut tally)?;
-    judged(&rt, root, &mut tally)?;
-    files_of(&rt, root, "show", "stream", "lines", &mut tally)?;
-    files_of(&rt, root, "judge", "transcript", "verdict", &mut tally)?;
+    for folder in ["replay", "stories"] {
+        let replay = ("replay", "script", "transcript");
+        files_of(&rt, root, folder, replay, &mut tally)?;
+        judged(&rt, root, folder, &mut tally)?;
+    }
+    told(&rt, root, &mut tally)?;
+    let show = ("show", "stream", "lines");
+    files_of(&rt, root, "show", show, &mut tally)?;
+    let judge = ("judge", "transcript", "verdict");
+    files_of(&rt, root, "judge", judge, &mut tally)?;
     runs_of(&rt, root, &mut tally)?;
     let wanted = number_of(&rt, format!(in rt.alloc(); "{root}/count")?.as_str())?;
     let (passed, failed) = (tally.passed, tally.failed);
@@ -99,20 +109,20 @@ fn main(rt: HostRuntime) -> Result<ExitCode> {
     })
 }
 
-/// Runs a command on each input of its folder.
+/// Runs a command on each input of a folder: its word, and the endings of its inputs and of what is written of them.
 fn files_of(
     rt: &HostRuntime,
     root: &str,
-    word: &str,
-    from: &str,
-    to: &str,
+    folder: &str,
+    command: (&str, &str, &str),
     tally: &mut Tally,
 ) -> Result<()> {
-    let folder = format!(in rt.alloc(); "{root}/{word}")?;
-    for name in &names_in(rt, folder.as_str())? {
-        let path = format!(in rt.alloc(); "{folder}/{name}")?;
+    let (word, from, to) = command;
+    let all = format!(in rt.alloc(); "{root}/{folder}")?;
+    for name in &names_in(rt, all.as_str())? {
+        let path = format!(in rt.alloc(); "{all}/{name}")?;
         let problem = problem_of(rt, word, path.as_str(), from, to);
-        tally.add(rt, word, name.as_str(), "differs", problem)?;
+        tally.add(rt, folder, name.as_str(), "differs", problem)?;
     }
     Ok(())
 }
@@ -135,12 +145,6 @@ fn problem_of<R: Files + AllocGlobal>(
         wanted.as_slice(),
         status,
     )
-}
-
-/// The bytes of the file that has this ending.
-fn bytes_beside<R: Files + AllocGlobal>(rt: &R, path: &str, ending: &str) -> Result<Vec<u8>> {
-    let file = format!(in rt.alloc(); "{path}.{ending}")?;
-    bytes_of(rt, file.as_str())
 }
 
 /// The status that is wanted: 0 where no file says it.
@@ -224,13 +228,47 @@ fn other_status(alloc: Global, status: u64, wanted: u64) -> Result<Option<String
     Ok(Some(problem))
 }
 
-/// Judges the transcript of each script.
-fn judged(rt: &HostRuntime, root: &str, tally: &mut Tally) -> Result<()> {
-    let folder = format!(in rt.alloc(); "{root}/replay")?;
-    for name in &names_in(rt, folder.as_str())? {
-        let path = format!(in rt.alloc(); "{folder}/{name}.transcript")?;
+/// Judges the transcript of each script of a folder.
+fn judged(rt: &HostRuntime, root: &str, folder: &str, tally: &mut Tally) -> Result<()> {
+    let all = format!(in rt.alloc(); "{root}/{folder}")?;
+    for name in &names_in(rt, all.as_str())? {
+        let path = format!(in rt.alloc(); "{all}/{name}.transcript")?;
         let verdict = verdict_in(rt, path.as_str());
-        tally.add(rt, "replay", name.as_str(), "is judged", verdict)?;
+        tally.add(rt, folder, name.as_str(), "is judged", verdict)?;
+    }
+    Ok(())
+}
+
+/// Puts each story's script and transcript into words, and makes the script from its words.
+fn told(rt: &HostRuntime, root: &str, tally: &mut Tally) -> Result<()> {
+    let all = format!(in rt.alloc(); "{root}/stories")?;
+    for name in &names_in(rt, all.as_str())? {
+        let script = format!(in rt.alloc(); "{all}/{name}.script")?;
+        let transcript = format!(in rt.alloc(); "{all}/{name}.transcript")?;
+        let problem = words_problem(rt, script.as_str());
+        tally.add(
+            rt,
+            "stories",
+            name.as_str(),
+            "script in words differs",
+            problem,
+        )?;
+        let problem = script_problem(rt, script.as_str());
+        tally.add(
+            rt,
+            "stories",
+            name.as_str(),
+            "script from words differs",
+            problem,
+        )?;
+        let problem = words_problem(rt, transcript.as_str());
+        tally.add(
+            rt,
+            "stories",
+            name.as_str(),
+            "transcript in words differs",
+            problem,
+        )?;
     }
     Ok(())
 }
