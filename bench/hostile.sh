@@ -5,7 +5,7 @@
 # within a bound, that another client is served meanwhile, and that the connection ends for the cause that docs/OPERATIONS.md names.
 # Prints a line for each check, with what was measured, and ends with status 0 where all hold. Installs what it needs from Debian (as
 # root), and ends what it started. Takes about twenty minutes and some 3 GB; with words, only the parts (clients floods etcds watches
-# memory) and the checks that they name. The part `unmet` has what is wanted and not so yet: its checks fail.
+# memory) and the checks that they name.
 #
 #     bench/hostile.sh [PART | CHECK]..          ZETCD=PROGRAM: another program than the one that `./run` builds
 set -eu

@@ -1,16 +1,16 @@
 #!/usr/bin/env bash
 # Refuses each allocation of a run in turn, one in each run, and says how the runs end. Of `replay`, `show` and `judge`, on each worked
-# example: with status 7, after a front of what is written otherwise, or as if nothing had been refused, where the memory was not
-# needed. Of one connection over streams in memory, and of a hub: as memory ran out. Of `zetcd etcd`, with seven asks, and `zetcd serve`,
-# with two ZooKeeper clients over a `zetcd etcd` that lacks none: the connection is closed or the server ends, every answer that came is
-# right, the store has all of each transaction or nothing of it, and it has each one that was answered. Status 6 stands for a door, a dial
-# or a thread that the system did not give, since it found no memory itself. Of a server's threads, which allocation has a number differs
-# from run to run.
+# example, and of a small `stress`: with status 7, after a front of what is written otherwise, or as if nothing had been refused, where
+# the memory was not needed. Of one connection over streams in memory, and of a hub: as memory ran out. Of `zetcd etcd`, with seven
+# asks, and `zetcd serve`, with two ZooKeeper clients over a `zetcd etcd` that lacks none: the connection is closed or the server ends,
+# every answer that came is right, the store has all of each transaction or nothing of it, and it has each one that was answered. Status
+# 6 stands for a door, a dial or a thread that the system did not give, since it found no memory itself. Of a server's threads, which
+# allocation has a number differs from run to run.
 #
 # Prints a line for each sweep, with the number of runs that ended in each way, names each run that ended otherwise, and ends with status 0
 # where there is none. Needs gcc and python3. Takes about ten minutes on four processors.
 #
-#     bench/memory.sh [PART | NAME]..    of the parts examples, rows, etcd and serve, and of the sweeps of these names (`replay/empty`)
+#     bench/memory.sh [PART | NAME]..    the parts examples, rows, load, etcd and serve, and sweeps by name (`replay/empty`)
 #
 # ZETCD, CONN_ROWS and HUB_ROWS name other programs than those that are built in crates/; the rows are passed over where they are not.
 # JOBS: how many runs at once. EVERY=N: each Nth allocation alone.

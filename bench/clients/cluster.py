@@ -57,7 +57,7 @@ class Etcd:
                  "--listen-peer-urls", f"http://127.0.0.1:{self.peer}", "--unsafe-no-fsync", *self.flags]
         log = open(self.folder + ".log", "ab")
         self.process = subprocess.Popen(words, stdout=log, stderr=log)
-        if is_awaited and not until(self.is_healthy, 20):
+        if is_awaited and not until(self.is_healthy, 60):
             raise RuntimeError("etcd does not come up")
 
     def is_healthy(self):
@@ -103,7 +103,7 @@ class Members:
         self.members = [Etcd(work, "--name", f"m{n}", "--initial-advertise-peer-urls", urls[n], "--initial-cluster", all_of_them,
                              peer=peers[n], is_awaited=False) for n in range(size)]
         self.address = ",".join(it.address for it in self.members)
-        if not until(lambda: all(it.is_healthy() for it in self.members), 20):
+        if not until(lambda: all(it.is_healthy() for it in self.members), 60):
             raise RuntimeError("the members do not come up")
 
     def leader(self):
@@ -122,7 +122,7 @@ class MemoryEtcd:
         self.address = f"127.0.0.1:{self.port}"
         self.process = subprocess.Popen([program, "etcd", self.address, "4294967295"],
                                         stdout=open(os.path.join(work, f"memory-{self.port}.out"), "wb"))
-        if not until(lambda: answers(self.port), 20):
+        if not until(lambda: answers(self.port), 60):
             raise RuntimeError("the etcd in memory does not come up")
 
     def end(self):
@@ -138,7 +138,7 @@ class Proxy:
         self.err = os.path.join(work, f"proxy-{self.port}-{time.time_ns()}.err")
         self.process = subprocess.Popen([program, "serve", self.address, endpoint, str(limit)],
                                         stdout=open(self.out, "wb"), stderr=open(self.err, "wb"))
-        if is_awaited and not until(lambda: self.lines() and self.lines()[0] == f"listening {self.address}", 10):
+        if is_awaited and not until(lambda: self.lines() and self.lines()[0] == f"listening {self.address}", 60):
             raise RuntimeError(f"the proxy does not listen: {self.lines()} {self.faults()}")
 
     def lines(self):

@@ -184,6 +184,35 @@ def frames_of_1_MB_on_all_connections(program, work):
                        f"{held:.0f} MB while they are idle, {it.meter.now():.0f} MB after they left")
 
 
+def frames_of_1_MB_that_spell_nothing(program, work):
+    """255 clients send four frames of 1 MB each at once, which spell no request, and read that they do not. Of etcd they want a session
+    and keepalives alone; where it has no time for these, their links end."""
+    with staged(program, work) as it:
+        frame = create(b"/none", b"x" * (MOST - 9 - len(create(b"/none")))) + b"x"
+        assert len(frame) + 8 == MOST
+
+        def harm(client):
+            for _ in range(4):
+                error, _ = client.ask(CREATE, frame)
+                assert error == -5, error
+
+        clients = [Client(it.port, timeout=40_000, seconds=240) for _ in range(255)]
+        since = time.time()
+        found = crowd(255, lambda number: harm(clients[number]))
+        took = time.time() - since
+        failed = [fault for fault in found if fault is not None]
+        assert all(isinstance(fault, (Closed, ConnectionError)) for fault in failed), failed
+        held = it.meter.now()
+        for client in clients:
+            client.end()
+        assert until(lambda: numbers(it.proxy.process.pid)[2] <= 6, 60), "threads stay"
+        kinds = {cause.split()[0] for number, cause in it.closed().items() if 2 <= number <= 256}
+        assert kinds <= {"client", "read", "link"}, kinds
+        it.bounds(255 * 4)
+        return it.told(f"in {took:.0f} s, the links of {len(failed)} ended", f"{held:.0f} MB while they are idle",
+                       f"{it.meter.now():.0f} MB after they left")
+
+
 def frames_that_are_none(program, work):
     """Lengths out of range, random bytes, half a frame and then an end: before a session and in one."""
     with staged(program, work) as it:
@@ -279,26 +308,30 @@ def nodes_with_many_children(program, work):
 
 
 def updates_with_the_longest_entries(program, work):
-    """4,400 multis of 12 creates and 12 deletes of paths of 1,020 bytes: the hub keeps the last 4,096 of their entries."""
+    """4,400 multis of 12 creates and 12 deletes of paths of 1,020 bytes: the hub keeps the last 4,096 of their entries. An etcd without
+    the processor time for that carries out as many as it can within four minutes."""
     with staged(program, work) as it:
+        counts, since = [0] * 16, time.time()
+
         def harm(number):
             client = Client(it.port, seconds=240)
             parent = b"/" + b"p" * 998 + b"%02d" % number
             client.does(CREATE, create(parent))
             paths = [parent + b"/" + b"c" * 16 + b"%02d" % one for one in range(12)]
             frame = multi(*[(CREATE, create(path)) for path in paths], *[(DELETE, delete(path)) for path in paths])
-            for _ in range(275):
+            while counts[number] < 275 and time.time() < since + 240:
                 client.does(MULTI, frame)
+                counts[number] += 1
             client.end()
 
-        since = time.time()
-        crowd(16, harm)
-        took = time.time() - since
-        held = it.meter.now()
-        it.bounds(350)
-        return it.told(f"4,400 updates in {took:.0f} s", f"{held:.0f} MB after them")
+        found = crowd(16, harm)
+        took, count, held = time.time() - since, sum(counts), it.meter.now()
+        assert found == [None] * 16, (found, counts)
+        # 80 KB an entry, and 1 MB and more for each of the clients.
+        it.bounds(20 + 330 * min(count, 4096) / 4096)
+        return it.told(f"{count} updates in {took:.0f} s", f"{held:.0f} MB after them")
 
 
 checks = [clients_that_read_nothing, a_client_that_lags, clients_that_connect_a_byte_a_second,
-          clients_that_send_a_byte_a_second, frames_of_1_MB_on_all_connections,
+          clients_that_send_a_byte_a_second, frames_of_1_MB_on_all_connections, frames_of_1_MB_that_spell_nothing,
           frames_that_are_none, requests_that_are_none, nodes_with_many_children, updates_with_the_longest_entries]

@@ -295,14 +295,29 @@ def left_by_16(it):
     return before, it.meter.cores(since)
 
 
-def silent(port):
-    """A relay whose watch gives nothing after its first line."""
-    return Relay(port, line_rule=lambda line, out: b'"created":true' not in line)
+class Silence:
+    """A rule for a watch's lines that keeps all of them after the first, until it is over."""
+
+    def __init__(self):
+        self.lock, self.kept, self.is_over = threading.Lock(), [], False
+
+    def rule(self, line, out):
+        with self.lock:
+            if self.is_over or b'"created":true' in line:
+                return False
+            self.kept.append((line, out))
+            return True
+
+    def end(self):
+        with self.lock:
+            self.is_over = True
+            for line, out in self.kept:
+                out.sendall(chunk(line))
 
 
 def a_watch_that_falls_silent(program, work):
     """Those who wait for it, and those who left, cost next to nothing."""
-    with staged(program, work, silent) as it:
+    with staged(program, work, lambda port: Relay(port, line_rule=Silence().rule)) as it:
         before, after = left_by_16(it)
         it.bounds(20)
         text = it.told(f"{before:.2f} processors while 16 wait, {after:.2f} after they left")
@@ -311,12 +326,18 @@ def a_watch_that_falls_silent(program, work):
 
 
 def clients_that_leave_a_silent_watch(program, work):
-    """Each gives up its place soon after it left."""
-    with staged(program, work, silent) as it:
+    """Their replies wait for the watch, and so do their ends: once it goes on, each gives up its place."""
+    silence = Silence()
+    with staged(program, work, lambda port: Relay(port, line_rule=silence.rule)) as it:
         left_by_16(it)
-        causes = it.causes(range(2, 18), 2)
+        kept = [cause for cause in it.causes(range(2, 18), 2) if cause is None]
+        since = time.time()
+        silence.end()
+        causes = it.causes(range(2, 18))
+        took = time.time() - since
         assert all(cause and cause.startswith("client") for cause in causes), causes
-        return it.told()
+        it.bounds(20)
+        return it.told(f"{len(kept)} keep their places until the watch goes on, and none {took:.1f} s later")
 
 
 def a_watch_whose_peer_is_gone(program, work):
@@ -404,6 +425,5 @@ def an_etcd_whose_door_is_full(program, work):
 checks = [answers_that_come_slowly, answers_that_never_come, answers_of_8_MB, answers_that_are_too_long, answers_of_another,
           an_answer_that_shows_nothing,
           a_watch_with_a_line_of_8_MB_and_a_byte, a_watch_with_a_line_of_garbage_a_second, a_watch_with_a_byte_a_second,
-          a_watch_that_falls_silent, a_watch_whose_peer_is_gone, a_watch_that_never_stops, an_etcd_that_says_nothing_at_first,
-          an_etcd_whose_door_is_full]
-unmet = [clients_that_leave_a_silent_watch]
+          a_watch_that_falls_silent, clients_that_leave_a_silent_watch, a_watch_whose_peer_is_gone, a_watch_that_never_stops,
+          an_etcd_that_says_nothing_at_first, an_etcd_whose_door_is_full]

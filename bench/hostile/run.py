@@ -12,8 +12,6 @@ import memory
 import watches
 
 PARTS = {"clients": clients.checks, "floods": floods.checks, "etcds": etcds.checks, "watches": watches.checks, "memory": memory.checks}
-# What is demanded and not met yet: only where it is named.
-UNMET = {"unmet": etcds.unmet}
 
 
 def main():
@@ -25,7 +23,7 @@ def main():
     for it in (signal.SIGTERM, signal.SIGHUP):
         signal.signal(it, lambda *_: sys.exit(130))
     program, work, parts = sys.argv[1], sys.argv[2], sys.argv[3:] or list(PARTS)
-    chosen = [it for part in parts for name, checks in {**PARTS, **UNMET}.items() for it in checks if part in (name, it.__name__)]
+    chosen = [it for part in parts for name, checks in PARTS.items() for it in checks if part in (name, it.__name__)]
     passed, failed = 0, 0
     for check in chosen:
         name, since = check.__name__.replace("_", " "), time.time()

@@ -1,6 +1,7 @@
 """A server under attack, with another client, and what it takes meanwhile."""
 import os
 import random
+import sys
 import threading
 import time
 from contextlib import contextmanager
@@ -131,6 +132,11 @@ def staged(program, work, relay=None):
         proxy = Proxy(program, between.address if between else etcd.address, work)
         stage = Stage(proxy, etcd, between)
         yield stage
+    except Exception:
+        if proxy:
+            told = proxy.lines()
+            print(f"The proxy wrote {told[:3]} .. {told[-20:]} and said {proxy.faults()[-20:]}", file=sys.stderr, flush=True)
+        raise
     finally:
         if stage:
             stage.other.is_over.set()

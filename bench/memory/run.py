@@ -8,8 +8,9 @@ from concurrent.futures import ThreadPoolExecutor
 import servers
 import sweeps
 
-# The parts; the first two run side by side, a server's runs do.
-PARTS = {"examples": sweeps.examples, "rows": sweeps.rows, "etcd": servers.etcd, "serve": servers.serve}
+# The parts. The sweeps of the first three run side by side; of a server the runs do.
+PARTS = {"examples": sweeps.examples, "rows": sweeps.rows, "load": sweeps.load, "etcd": servers.etcd, "serve": servers.serve}
+SIDE_BY_SIDE = ("examples", "rows", "load")
 
 
 class Run:
@@ -45,7 +46,7 @@ def main():
             continue
         jobs, since = list(jobs(run)), time.time()
         # A server's runs use the pool themselves.
-        found = run.each(lambda job: job(), jobs) if part in ("examples", "rows") else (job() for job in jobs)
+        found = run.each(lambda job: job(), jobs) if part in SIDE_BY_SIDE else (job() for job in jobs)
         for ends in found:
             tell(ends, time.time() - since)
             total, wrong = total + sum(ends.kinds.values()), wrong + len(ends.wrong)

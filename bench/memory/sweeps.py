@@ -9,6 +9,8 @@ COMMANDS = {"replay": (".script", ".transcript"), "show": (".stream", ".lines"),
 # The entries of a hub, of which the oldest is gone.
 HUB = "hub 0\npublish 4097\nnext 0\nnext 1\nnext 4097\n"
 READ = "0: lagged 0 1\n1: entry 2 zxid 4\n4097: none\n"
+# The numbers of a `stress`: what its schedule is drawn from, its connections and its steps.
+LOAD = ("7", "2", "40")
 
 
 def text_of(path):
@@ -83,6 +85,12 @@ def ending_of(command):
 
 def written_of(command):
     return COMMANDS[command][1]
+
+
+def load(run):
+    """A small load, which reads nothing."""
+    if run.is_wanted("stress"):
+        yield lambda: sweep(run, "stress", [run.program, "stress", *LOAD], os.devnull, out_of_memory)
 
 
 def first_row(path, beginning):
