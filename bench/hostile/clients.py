@@ -185,8 +185,8 @@ def frames_of_1_MB_on_all_connections(program, work):
 
 
 def frames_of_1_MB_that_spell_nothing(program, work):
-    """255 clients send four frames of 1 MB each at once, which spell no request, and read that they do not. Of etcd they want a session
-    and keepalives alone; where it has no time for these, their links end."""
+    """255 clients, or as many as get a session within two minutes, send four frames of 1 MB each at once, which spell no request, and read
+    that they do not. Of etcd they want a session and keepalives alone; where it has no time for these, their links or sessions end."""
     with staged(program, work) as it:
         frame = create(b"/none", b"x" * (MOST - 9 - len(create(b"/none")))) + b"x"
         assert len(frame) + 8 == MOST
@@ -194,11 +194,15 @@ def frames_of_1_MB_that_spell_nothing(program, work):
         def harm(client):
             for _ in range(4):
                 error, _ = client.ask(CREATE, frame)
-                assert error == -5, error
+                assert error in (-5, -112), error
+                if error == -112:
+                    raise Closed()
 
-        clients = [Client(it.port, timeout=40_000, seconds=240) for _ in range(255)]
-        since = time.time()
-        found = crowd(255, lambda number: harm(clients[number]))
+        clients, since = [], time.time()
+        while len(clients) < 255 and time.time() < since + 120:
+            clients.append(Client(it.port, timeout=40_000, seconds=240))
+        count, since = len(clients), time.time()
+        found = crowd(count, lambda number: harm(clients[number]))
         took = time.time() - since
         failed = [fault for fault in found if fault is not None]
         assert all(isinstance(fault, (Closed, ConnectionError)) for fault in failed), failed
@@ -206,11 +210,11 @@ def frames_of_1_MB_that_spell_nothing(program, work):
         for client in clients:
             client.end()
         assert until(lambda: numbers(it.proxy.process.pid)[2] <= 6, 60), "threads stay"
-        kinds = {cause.split()[0] for number, cause in it.closed().items() if 2 <= number <= 256}
-        assert kinds <= {"client", "read", "link"}, kinds
-        it.bounds(255 * 4)
-        return it.told(f"in {took:.0f} s, the links of {len(failed)} ended", f"{held:.0f} MB while they are idle",
-                       f"{it.meter.now():.0f} MB after they left")
+        kinds = {cause.split()[0] for number, cause in it.closed().items() if 2 <= number <= count + 1}
+        assert kinds <= {"client", "read", "link", "expired"}, kinds
+        it.bounds(20 + count * 4)
+        return it.told(f"{count} clients in {took:.0f} s, the links or sessions of {len(failed)} ended",
+                       f"{held:.0f} MB while they are idle, {it.meter.now():.0f} MB after they left")
 
 
 def frames_that_are_none(program, work):
@@ -309,27 +313,38 @@ def nodes_with_many_children(program, work):
 
 def updates_with_the_longest_entries(program, work):
     """4,400 multis of 12 creates and 12 deletes of paths of 1,020 bytes: the hub keeps the last 4,096 of their entries. An etcd without
-    the processor time for that carries out as many as it can within four minutes."""
+    the processor time for that carries out as many as it can within four minutes. Where it takes longer for one than a session's timeout
+    or a link's patience, its client begins another session."""
     with staged(program, work) as it:
-        counts, since = [0] * 16, time.time()
+        counts, ends, since = [0] * 16, [0] * 16, time.time()
 
         def harm(number):
-            client = Client(it.port, seconds=240)
             parent = b"/" + b"p" * 998 + b"%02d" % number
-            client.does(CREATE, create(parent))
             paths = [parent + b"/" + b"c" * 16 + b"%02d" % one for one in range(12)]
             frame = multi(*[(CREATE, create(path)) for path in paths], *[(DELETE, delete(path)) for path in paths])
             while counts[number] < 275 and time.time() < since + 240:
-                client.does(MULTI, frame)
-                counts[number] += 1
-            client.end()
+                try:
+                    client = Client(it.port, timeout=40_000, seconds=240)
+                    error, _ = client.ask(CREATE, create(parent))
+                    assert error in (0, -110, -112), error
+                    while counts[number] < 275 and time.time() < since + 240:
+                        client.does(MULTI, frame)
+                        counts[number] += 1
+                    client.end()
+                except (Closed, ConnectionError):
+                    ends[number] += 1
+                except Refused as refused:
+                    assert refused.args == (-112,), refused
+                    ends[number] += 1
 
         found = crowd(16, harm)
         took, count, held = time.time() - since, sum(counts), it.meter.now()
         assert found == [None] * 16, (found, counts)
+        kinds = {cause.split()[0] for cause in it.closed().values()}
+        assert kinds <= {"client", "link", "expired"}, kinds
         # 80 KB an entry, and 1 MB and more for each of the clients.
         it.bounds(20 + 330 * min(count, 4096) / 4096)
-        return it.told(f"{count} updates in {took:.0f} s", f"{held:.0f} MB after them")
+        return it.told(f"{count} updates in {took:.0f} s, and {sum(ends)} sessions or links ended", f"{held:.0f} MB after them")
 
 
 checks = [clients_that_read_nothing, a_client_that_lags, clients_that_connect_a_byte_a_second,

@@ -133,9 +133,11 @@ def staged(program, work, relay=None):
         stage = Stage(proxy, etcd, between)
         yield stage
     except Exception:
-        if proxy:
-            told = proxy.lines()
-            print(f"The proxy wrote {told[:3]} .. {told[-20:]} and said {proxy.faults()[-20:]}", file=sys.stderr, flush=True)
+        if stage:
+            # A dial has the proxy write the causes.
+            stage.closed()
+            time.sleep(1)
+            print(f"The proxy wrote {proxy.lines()[-20:]} and said {proxy.faults()[-20:]}", file=sys.stderr, flush=True)
         raise
     finally:
         if stage:

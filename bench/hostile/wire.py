@@ -1,4 +1,5 @@
 """ZooKeeper's packets, and a plain client that sends them one by one or in any other way."""
+import select
 import socket
 import struct
 import threading
@@ -95,6 +96,13 @@ def is_cut(stream, seconds=1.0):
             return True
 
 
+def is_readable(stream, seconds):
+    """Whether something comes, or the end, within so many seconds."""
+    it = select.poll()
+    it.register(stream, select.POLLIN)
+    return bool(it.poll(1000 * seconds))
+
+
 class Client:
     """A session over a connection. `room` is as for `dial`."""
 
@@ -131,10 +139,26 @@ class Client:
         self.xid += 1
         self.stream.sendall(request(self.xid if xid is None else xid, kind, body))
 
+    def notice(self):
+        """The next notification."""
+        while not self.notices:
+            frame = self.receive()
+            if frame[:4] == integer(-1):
+                self.notices.append(frame[16:])
+        return self.notices.pop(0)
+
     def ask(self, kind, body=b""):
-        """The error and the body of the reply."""
+        """The error and the body of the reply. It pings meanwhile, as ZooKeeper's clients do."""
         self.send(kind, body)
-        return self.reply()[1:]
+        end = time.time() + self.stream.gettimeout()
+        while True:
+            while not is_readable(self.stream, 5.0):
+                if time.time() > end:
+                    raise socket.timeout("no reply")
+                self.stream.sendall(request(-2, PING))
+            xid, error, answer = self.reply()
+            if xid != -2 or error != 0:
+                return error, answer
 
     def does(self, kind, body=b""):
         error, answer = self.ask(kind, body)
