@@ -1,6 +1,7 @@
 -- Watches (Programmer's Guide, "ZooKeeper Watches"). A connection has data watches and child watches, each a set of paths.
 -- A watch fires once. Notices are the record WatcherEvent of zookeeper.jute.
 use Rattle.std.specs.Prelude.{ℕ, ℤ, pos, Bool, true, false, ◌||◌, ◌&&◌, ◌==◌, List, [], ◌∷◌, ◌++◌, Option, Some, None, if◌then◌else◌, int_lt}
+use Rattle.std.specs.Ordering.{int_eq}
 use Rattle.zk_model.specs.declared.node.Node.{Node}
 use Rattle.zk_model.specs.declared.reply.Notice.{Notice}
 use Rattle.zk_model.specs.declared.node.Trigger.{Trigger}
@@ -108,3 +109,26 @@ set_watches t since datas exists children w =
     let first = see_all (λ s p. see_data since s p (valid_at p t)) (record { watches = w; notices = [] }) datas in
     let second = see_all (λ s p. see_exist (is_path p) s p (valid_at p t)) first exists in
     see_all (λ s p. see_children since s p (valid_at p t)) second children
+
+-- ---- checkWatches and removeWatches: they name watches of a path by a type (`Watcher.WatcherType`), 1 its child watch, 2 its data
+-- ---- watch, 3 both
+
+abbrev pub is_watcher_type : ℤ → Bool
+is_watcher_type kind = int_eq kind (pos 1) || int_eq kind (pos 2) || int_eq kind (pos 3)
+
+abbrev pub names_children : ℤ → Bool
+names_children kind = int_eq kind (pos 1) || int_eq kind (pos 3)
+
+abbrev pub names_data : ℤ → Bool
+names_data kind = int_eq kind (pos 2) || int_eq kind (pos 3)
+
+-- one of the watches that the type names is armed
+abbrev pub is_watched : Watches → Bytes → ℤ → Bool
+is_watched w p kind = (names_children kind && contains_key w.on_children p) || (names_data kind && contains_key w.on_data p)
+
+-- the watches without those that the type names
+abbrev pub unwatched : Watches → Bytes → ℤ → Watches
+unwatched w p kind = record {
+  on_data = if names_data kind then remove w.on_data p else w.on_data;
+  on_children = if names_children kind then remove w.on_children p else w.on_children;
+}

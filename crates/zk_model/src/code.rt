@@ -1,4 +1,4 @@
-//! Error codes of replies (`KeeperException.Code`, release 3.4).
+//! Error codes of replies (`KeeperException.Code`, release 3.5).
 
 /// No error. In the reply to a refused multi: a part before the one that was refused.
 pub const OK: i32 = 0;
@@ -16,8 +16,8 @@ pub const MARSHALLING_ERROR: i32 = -5;
 /// No request that is served has this type.
 pub const UNIMPLEMENTED: i32 = -6;
 
-/// The path is not valid, the flags are not 0 to 3, a delete names the root, or a multi has too many parts or too great a
-/// load.
+/// The path is not valid, the flags are not 0 to 3, the type of a watch is not 1 to 3, a delete names the root, or a multi has
+/// too many parts or too great a load.
 pub const BAD_ARGUMENTS: i32 = -8;
 
 /// The node is not there, or for a create its parent.
@@ -46,3 +46,6 @@ pub const AUTH_FAILED: i32 = -115;
 
 /// The session is attached to another connection since. This one is closed then.
 pub const SESSION_MOVED: i32 = -118;
+
+/// No watch that a checkWatches or removeWatches names is armed.
+pub const NO_WATCHER: i32 = -121;

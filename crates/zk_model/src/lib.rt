@@ -16,6 +16,7 @@ mod node;
 mod path;
 mod reply;
 mod request;
+pub mod watcher;
 
 pub use connect::{ConnectRequest, ConnectResponse};
 pub use node::{Node, Stat, Trigger};

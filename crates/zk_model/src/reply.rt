@@ -21,7 +21,7 @@ pub enum PartResult {
 /// What comes after the header of a reply that is no error.
 #[derive(Drop)]
 pub enum Body {
-    /// To a delete, a check, a ping, an auth, a setWatches and a close.
+    /// To a delete, a check, a ping, an auth, a setWatches, a close, a checkWatches and a removeWatches.
     Empty,
     /// To a create, the path of the new node; to a sync, the path that it named.
     Path(Text),
@@ -37,6 +37,8 @@ pub enum Body {
     OpenAcl(Stat),
     /// To a multi, in the order of its parts.
     Parts(Seq<PartResult>),
+    /// To a create2, the path of the new node and its Stat.
+    PathStat(Text, Stat),
 }
 
 /// The answer to a request, without the xid and the zxid of its header.

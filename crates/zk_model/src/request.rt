@@ -106,4 +106,22 @@ pub enum Request {
     },
     /// `closeSession`: the session ends, with its ephemeral nodes.
     Close,
+    /// As `Create`, and the reply has the new node's Stat too.
+    Create2 {
+        path: Text,
+        content: Bytes,
+        acl: Seq<Acl>,
+        flags: i32,
+    },
+    /// Whether this connection has a watch of this type armed on the path. The types are those of `Watcher.WatcherType`: 1
+    /// child watches, 2 data watches, 3 both.
+    CheckWatches {
+        path: Text,
+        kind: i32,
+    },
+    /// Takes the watches of this type away that this connection has armed on the path.
+    RemoveWatches {
+        path: Text,
+        kind: i32,
+    },
 }
