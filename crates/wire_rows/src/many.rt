@@ -53,7 +53,7 @@ fn paths_of(alloc: Global, frames: &[Bytes]) -> u64 {
 /// How many bytes the path of a create has; 0 of another request.
 fn path_length(request: &Request) -> u64 {
     match request {
-        Request::Create { path, .. } => path.len() as u64,
+        Request::Create { path, .. } | Request::Create2 { path, .. } => path.len() as u64,
         _ => 0,
     }
 }

@@ -97,6 +97,10 @@ fn push_body(alloc: Global, all: &mut String, body: &Body) -> Result<(), Memory>
             push_stat(alloc, all, stat)
         }
         Body::Parts(results) => push_results(alloc, all, results.as_slice()),
+        Body::PathStat(path, stat) => {
+            push_named(all, "path", word_of(path.as_slice()))?;
+            push_stat(alloc, all, stat)
+        }
     }
 }
 

@@ -121,7 +121,29 @@ fn said_of(alloc: Global, request: &Request) -> Result<String, Memory> {
             content,
             acl,
             flags,
-        } => made(alloc, path, content.as_slice(), acl.as_slice(), *flags),
+        } => made(
+            alloc,
+            "create path ",
+            path,
+            content.as_slice(),
+            acl.as_slice(),
+            *flags,
+        ),
+        Request::Create2 {
+            path,
+            content,
+            acl,
+            flags,
+        } => made(
+            alloc,
+            "create2 path ",
+            path,
+            content.as_slice(),
+            acl.as_slice(),
+            *flags,
+        ),
+        Request::CheckWatches { path, kind } => typed(alloc, "checkWatches path ", path, *kind),
+        Request::RemoveWatches { path, kind } => typed(alloc, "removeWatches path ", path, *kind),
         Request::Delete { path, version } => versioned(alloc, "delete path ", path, *version),
         Request::Exists { path, watch } => watched(alloc, "exists path ", path, *watch),
         Request::GetData { path, watch } => watched(alloc, "getData path ", path, *watch),
@@ -205,8 +227,19 @@ fn versioned<'a>(
     joined(alloc, &pieces)
 }
 
+fn typed<'a>(alloc: Global, name: &'a str, path: &'a Text, kind: i32) -> Result<String, Memory> {
+    let pieces = [
+        Piece::Text(name),
+        Piece::Text(word_of(path.as_slice())),
+        Piece::Text(" type "),
+        Piece::Number(i64::from(kind)),
+    ];
+    joined(alloc, &pieces)
+}
+
 fn made(
     alloc: Global,
+    name: &str,
     path: &Text,
     content: &[u8],
     entries: &[Acl],
@@ -216,6 +249,7 @@ fn made(
     let acl = acls_of(alloc, entries)?;
     made_text(
         alloc,
+        name,
         word_of(path.as_slice()),
         digits.as_str(),
         acl.as_str(),
@@ -225,13 +259,14 @@ fn made(
 
 fn made_text<'a>(
     alloc: Global,
+    name: &'a str,
     path: &'a str,
     digits: &'a str,
     acl: &'a str,
     flags: i32,
 ) -> Result<String, Memory> {
     let pieces = [
-        Piece::Text("create path "),
+        Piece::Text(name),
         Piece::Text(path),
         Piece::Text(" data "),
         Piece::Text(digits),
@@ -319,7 +354,14 @@ fn part_of(alloc: Global, part: &Part) -> Result<String, Memory> {
             content,
             acl,
             flags,
-        } => made(alloc, path, content.as_slice(), acl.as_slice(), *flags),
+        } => made(
+            alloc,
+            "create path ",
+            path,
+            content.as_slice(),
+            acl.as_slice(),
+            *flags,
+        ),
         Part::Delete { path, version } => versioned(alloc, "delete path ", path, *version),
         Part::SetData {
             path,

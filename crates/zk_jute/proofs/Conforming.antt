@@ -64,6 +64,9 @@ request_kinds (requests.Multi ps) = refl
 request_kinds (requests.Auth kind scheme auth) = refl
 request_kinds (requests.SetWatches relative exists datas children) = refl
 request_kinds requests.Close = refl
+request_kinds (requests.Create2 path content acl flags) = refl
+request_kinds (requests.CheckWatches path kind) = refl
+request_kinds (requests.RemoveWatches path kind) = refl
 
 pub request_back : (r : Request) → (opcode_of r ≡ opcodes.Multi → ⊥) → request_from (opcode_of r) (values_of r) ≡ r
 request_back (requests.Create path content acl flags) plain = refl
@@ -81,6 +84,9 @@ request_back (requests.Multi ps) plain = absurd (plain refl)
 request_back (requests.Auth kind scheme auth) plain = refl
 request_back (requests.SetWatches relative exists datas children) plain = refl
 request_back requests.Close plain = refl
+request_back (requests.Create2 path content acl flags) plain = refl
+request_back (requests.CheckWatches path kind) plain = refl
+request_back (requests.RemoveWatches path kind) plain = refl
 
 pub request_with-opcode : (code : Opcode) (v : ℕ → Value) → opcode_of (request_with code v) ≡ code
 request_with-opcode opcodes.Create v = refl
@@ -98,6 +104,9 @@ request_with-opcode opcodes.Multi v = refl
 request_with-opcode opcodes.Auth v = refl
 request_with-opcode opcodes.SetWatches v = refl
 request_with-opcode opcodes.Close v = refl
+request_with-opcode opcodes.Create2 v = refl
+request_with-opcode opcodes.CheckWatches v = refl
+request_with-opcode opcodes.RemoveWatches v = refl
 
 -- what spells values of the kinds of a body spells the request made of them
 pub request_with-asked : (code : Opcode) (v : ℕ → Value) (bytes : List ℕ) → (code ≡ opcodes.Multi → ⊥) → Spelled Spells (normals (fields_of code) v) bytes → IsAsked (request_with code v) bytes
@@ -116,6 +125,9 @@ request_with-asked opcodes.Multi v bytes plain is = absurd (plain refl)
 request_with-asked opcodes.Auth v bytes plain is = is
 request_with-asked opcodes.SetWatches v bytes plain is = is
 request_with-asked opcodes.Close v bytes plain is = is
+request_with-asked opcodes.Create2 v bytes plain is = is
+request_with-asked opcodes.CheckWatches v bytes plain is = is
+request_with-asked opcodes.RemoveWatches v bytes plain is = is
 
 -- ---- the parts of a multi
 

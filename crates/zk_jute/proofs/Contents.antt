@@ -58,6 +58,7 @@ asked_within : (r : Request) (bytes : List ℕ) → IsAsked r bytes → Within (
 asked_within (requests.Create path content acl flags) bytes is = (second_within (ustring path) (buffer content) (acls acl ∷ int flags ∷ []) bytes is, tt)
 asked_within (requests.SetData path content version) bytes is = (second_within (ustring path) (buffer content) (int version ∷ []) bytes is, tt)
 asked_within (requests.Multi ps) bytes is = wider (flat_map part_contents ps) (length is.0) (length bytes) (omega (arith, ap length is.4, length-append is.0 is.1)) (parts_within ps is.0 is.2)
+asked_within (requests.Create2 path content acl flags) bytes is = (second_within (ustring path) (buffer content) (acls acl ∷ int flags ∷ []) bytes is, tt)
 asked_within r bytes is = tt
 
 pub contents_within : (frame : List ℕ) (xid : ℤ) (r : Request) → read_request frame ≡ Asks xid r → All (λ content. length content ≤ length frame) (contents_of r)

@@ -26,12 +26,13 @@ chain_is {K = K} number (x ∷ xs) n k all e =
 opcodes_by_number : List (ℕ × Opcode)
 opcodes_by_number =
     (1, opcodes.Create) ∷ (2, opcodes.Delete) ∷ (3, opcodes.Exists) ∷ (4, opcodes.GetData) ∷ (5, opcodes.SetData) ∷ (6, opcodes.GetAcl) ∷ (8, opcodes.GetChildren) ∷ (9, opcodes.Sync)
-    ∷ (11, opcodes.Ping) ∷ (12, opcodes.GetChildren2) ∷ (13, opcodes.Check) ∷ (14, opcodes.Multi) ∷ (100, opcodes.Auth) ∷ (101, opcodes.SetWatches) ∷ []
+    ∷ (11, opcodes.Ping) ∷ (12, opcodes.GetChildren2) ∷ (13, opcodes.Check) ∷ (14, opcodes.Multi)
+    ∷ (15, opcodes.Create2) ∷ (17, opcodes.CheckWatches) ∷ (18, opcodes.RemoveWatches) ∷ (100, opcodes.Auth) ∷ (101, opcodes.SetWatches) ∷ []
 
 unsigned_is : (n : ℕ) (code : Opcode) → unsigned_opcode n ≡ Some code → pos n ≡ opcode_number code
 unfolding chain opcodes_by_number
 unsigned_is n code e =
-    chain_is opcode_number opcodes_by_number n code (refl, (refl, (refl, (refl, (refl, (refl, (refl, (refl, (refl, (refl, (refl, (refl, (refl, (refl, tt)))))))))))))) e
+    chain_is opcode_number opcodes_by_number n code (refl, (refl, (refl, (refl, (refl, (refl, (refl, (refl, (refl, (refl, (refl, (refl, (refl, (refl, (refl, (refl, (refl, tt))))))))))))))))) e
 
 pub opcode_numbered-is : (n : ℤ) (code : Opcode) → opcode_numbered n ≡ Some code → n ≡ opcode_number code
 opcode_numbered-is (pos n) code e = unsigned_is n code e
@@ -54,6 +55,9 @@ opcode_numbered-number_of opcodes.Multi = refl
 opcode_numbered-number_of opcodes.Auth = refl
 opcode_numbered-number_of opcodes.SetWatches = refl
 opcode_numbered-number_of opcodes.Close = refl
+opcode_numbered-number_of opcodes.Create2 = refl
+opcode_numbered-number_of opcodes.CheckWatches = refl
+opcode_numbered-number_of opcodes.RemoveWatches = refl
 
 parts_by_number : List (ℕ × PartKind)
 parts_by_number = (1, kinds.Create) ∷ (2, kinds.Delete) ∷ (5, kinds.SetData) ∷ (13, kinds.Check) ∷ []

@@ -13,7 +13,7 @@ use Rattle.zk_model.specs.declared.reply.Body.TheVariants as bodies
 use Rattle.zk_model.specs.declared.reply.PartResult.{PartResult}
 use Rattle.zk_model.specs.declared.reply.Reply.{Reply}
 use Rattle.zk_model.specs.declared.reply.Reply.TheVariants as replies
-use Rattle.zk_jute.specs.JuteValues.{Value, buffer, ustrings, open_acl, Kind, a_long, a_buffer, a_ustring, some_ustrings, the_open_acl, kind_of, Spelled, Spells}
+use Rattle.zk_jute.specs.JuteValues.{Value, buffer, ustring, ustrings, open_acl, Kind, a_long, a_buffer, a_ustring, some_ustrings, the_open_acl, kind_of, Spelled, Spells}
 use Rattle.zk_jute.specs.JuteReading.{Read, ◌>>=◌, front_int, front_long, buffer_at, vector_at, ustring_at, value_at, values_at, all_until_last, ended}
 use Rattle.zk_jute.specs.FromValues.{value_in, texts_in, bytes_in, later, stat_with, body_with, body_from}
 use Rattle.zk_jute.specs.Grammar.{IsListed, Suits, IsReply}
@@ -65,6 +65,11 @@ pub names_then_stat : (bytes : List ℕ) (names : List (List ℕ)) (after : List
 unfolding values_at
 names_then_stat bytes names after s rest first then = rw (first, then) (ap (λ (x : Stat). Ok (bodies.NamesStat names x, rest)) (stat_back s))
 
+pub path_then_stat : (bytes path after : List ℕ) (s : Stat) (rest : List ℕ) → ustring_at bytes ≡ Ok (path, after) → values_at stat_fields after ≡ Ok (stat_values s, rest)
+    → reply_body_at opcodes.Create2 bytes ≡ Ok (bodies.PathStat path s, rest)
+unfolding values_at
+path_then_stat bytes path after s rest first then = rw (first, then) (ap (λ (x : Stat). Ok (bodies.PathStat path x, rest)) (stat_back s))
+
 pub acl_then_stat : (bytes after : List ℕ) (s : Stat) (rest : List ℕ) → value_at the_open_acl bytes ≡ Ok (open_acl, after) → values_at stat_fields after ≡ Ok (stat_values s, rest)
     → reply_body_at opcodes.GetAcl bytes ≡ Ok (bodies.OpenAcl s, rest)
 unfolding values_at
@@ -88,6 +93,9 @@ body_with-values opcodes.Multi v plain = absurd (plain refl)
 body_with-values opcodes.Auth v plain = refl
 body_with-values opcodes.SetWatches v plain = refl
 body_with-values opcodes.Close v plain = refl
+body_with-values opcodes.Create2 v plain = ap (λ (vs : List Value). ustring (bytes_in (v 0)) ∷ vs) (stat_normals (later v))
+body_with-values opcodes.CheckWatches v plain = refl
+body_with-values opcodes.RemoveWatches v plain = refl
 
 body_with-shape : (code : Opcode) (v : ℕ → Value) → shape_of (body_with code v) ≡ shape_for code
 body_with-shape opcodes.Create v = refl
@@ -105,10 +113,14 @@ body_with-shape opcodes.Multi v = refl
 body_with-shape opcodes.Auth v = refl
 body_with-shape opcodes.SetWatches v = refl
 body_with-shape opcodes.Close v = refl
+body_with-shape opcodes.Create2 v = ap (λ (ks : List Kind). fields (a_ustring ∷ ks)) (stat_kinds (stat_with (later v)))
+body_with-shape opcodes.CheckWatches v = refl
+body_with-shape opcodes.RemoveWatches v = refl
 
 -- the body that is made is determined by the kinds of its fields
 made : List Kind → (ℕ → Value) → Body
-made (a_ustring ∷ ks) v = bodies.Path (bytes_in (v 0))
+made (a_ustring ∷ []) v = bodies.Path (bytes_in (v 0))
+made (a_ustring ∷ k ∷ ks) v = bodies.PathStat (bytes_in (v 0)) (stat_with (later v))
 made (a_long ∷ ks) v = bodies.Stat (stat_with v)
 made (a_buffer ∷ ks) v = bodies.Content (bytes_in (v 0)) (stat_with (later v))
 made (the_open_acl ∷ ks) v = bodies.OpenAcl (stat_with (later v))
@@ -133,6 +145,9 @@ made_from opcodes.Multi v plain = absurd (plain refl)
 made_from opcodes.Auth v plain = refl
 made_from opcodes.SetWatches v plain = refl
 made_from opcodes.Close v plain = refl
+made_from opcodes.Create2 v plain = refl
+made_from opcodes.CheckWatches v plain = refl
+made_from opcodes.RemoveWatches v plain = refl
 
 made_back : (b : Body) → (shape_of b ≡ results → ⊥) → made (map kind_of (body_values b)) (value_in (body_values b)) ≡ b
 unfolding made stat_values stat_with
@@ -144,6 +159,7 @@ made_back (bodies.Names names) plain = refl
 made_back (bodies.NamesStat names stat) plain = refl
 made_back (bodies.OpenAcl stat) plain = refl
 made_back (bodies.Parts rs) plain = absurd (plain refl)
+made_back (bodies.PathStat path stat) plain = refl
 
 plain_takes : (code : Opcode) → (code ≡ opcodes.Multi → ⊥) → (bytes : List ℕ) (b : Body) (rest : List ℕ) → plain_body_at code bytes ≡ Ok (b, rest) → Takes (λ x. Spelled Spells (body_values x)) bytes b rest × (shape_of b ≡ shape_for code)
 plain_takes code plain bytes b rest e =

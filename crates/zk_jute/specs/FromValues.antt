@@ -64,6 +64,9 @@ request_with opcodes.Multi v = requests.Multi []
 request_with opcodes.Auth v = requests.Auth (number_in (v 0)) (bytes_in (v 1)) (bytes_in (v 2))
 request_with opcodes.SetWatches v = requests.SetWatches (number_in (v 0)) (texts_in (v 2)) (texts_in (v 1)) (texts_in (v 3))
 request_with opcodes.Close v = requests.Close
+request_with opcodes.Create2 v = requests.Create2 (bytes_in (v 0)) (bytes_in (v 1)) (acls_in (v 2)) (number_in (v 3))
+request_with opcodes.CheckWatches v = requests.CheckWatches (bytes_in (v 0)) (number_in (v 1))
+request_with opcodes.RemoveWatches v = requests.RemoveWatches (bytes_in (v 0)) (number_in (v 1))
 
 -- the request of this kind with these values; of a multi, the one without parts
 abbrev pub request_from : Opcode → List Value → Request
@@ -111,6 +114,7 @@ body_with opcodes.GetChildren v = bodies.Names (texts_in (v 0))
 body_with opcodes.Sync v = bodies.Path (bytes_in (v 0))
 body_with opcodes.GetChildren2 v = bodies.NamesStat (texts_in (v 0)) (stat_with (later v))
 body_with opcodes.Multi v = bodies.Parts []
+body_with opcodes.Create2 v = bodies.PathStat (bytes_in (v 0)) (stat_with (later v))
 body_with _ v = bodies.Empty
 
 -- the body of a reply to this kind with these values; of a multi, the one without results

@@ -1,4 +1,4 @@
--- The kinds of requests and of the parts of a multi, and their numbers (`ZooDefs.OpCode`, release 3.4).
+-- The kinds of requests and of the parts of a multi, and their numbers (`ZooDefs.OpCode`, release 3.5).
 use Rattle.std.specs.Prelude.{ℕ, ◌==◌, ℤ, pos, negsuc, Option, Some, None, if◌then◌else◌}
 use Rattle.zk_model.specs.Codes.{minus}
 use Rattle.zk_jute.specs.declared.opcode.Opcode.{Opcode}
@@ -27,6 +27,9 @@ opcode_of (requests.Multi ps) = opcodes.Multi
 opcode_of (requests.Auth kind scheme auth) = opcodes.Auth
 opcode_of (requests.SetWatches relative exists datas children) = opcodes.SetWatches
 opcode_of requests.Close = opcodes.Close
+opcode_of (requests.Create2 path content acl flags) = opcodes.Create2
+opcode_of (requests.CheckWatches path kind) = opcodes.CheckWatches
+opcode_of (requests.RemoveWatches path kind) = opcodes.RemoveWatches
 
 -- a part's kind
 abbrev pub part_kind : Part → PartKind
@@ -52,6 +55,9 @@ opcode_number opcodes.Multi = pos 14
 opcode_number opcodes.Auth = pos 100
 opcode_number opcodes.SetWatches = pos 101
 opcode_number opcodes.Close = minus 11
+opcode_number opcodes.Create2 = pos 15
+opcode_number opcodes.CheckWatches = pos 17
+opcode_number opcodes.RemoveWatches = pos 18
 
 abbrev pub unsigned_opcode : ℕ → Option Opcode
 unsigned_opcode n =
@@ -67,9 +73,12 @@ unsigned_opcode n =
     else (if n == 12 then Some opcodes.GetChildren2
     else (if n == 13 then Some opcodes.Check
     else (if n == 14 then Some opcodes.Multi
+    else (if n == 15 then Some opcodes.Create2
+    else (if n == 17 then Some opcodes.CheckWatches
+    else (if n == 18 then Some opcodes.RemoveWatches
     else (if n == 100 then Some opcodes.Auth
     else (if n == 101 then Some opcodes.SetWatches
-    else None)))))))))))))
+    else None))))))))))))))))
 
 -- the kind of request that has this type, if there is one
 abbrev pub opcode_numbered : ℤ → Option Opcode

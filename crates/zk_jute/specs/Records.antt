@@ -1,4 +1,4 @@
--- The records of zookeeper.jute (release 3.4) that requests and replies are made of. Each has two rows: the kinds of its
+-- The records of zookeeper.jute (release 3.5) that requests and replies are made of. Each has two rows: the kinds of its
 -- fields, and what a record says, field by field.
 use Rattle.std.specs.Prelude.{ℕ, ℤ, List, [], ◌∷◌}
 use Rattle.std.specs.List.{flat_map}
@@ -44,6 +44,13 @@ check_fields = a_ustring ∷ an_int ∷ []
 abbrev pub check_values : List ℕ → ℤ → List Value
 check_values path version = ustring path ∷ int version ∷ []
 
+-- CheckWatchesRequest and RemoveWatchesRequest
+abbrev pub watcher_fields : List Kind
+watcher_fields = a_ustring ∷ an_int ∷ []
+
+abbrev pub watcher_values : List ℕ → ℤ → List Value
+watcher_values path kind = ustring path ∷ int kind ∷ []
+
 -- Stat
 unfoldable pub stat_fields : List Kind
 stat_fields = a_long ∷ a_long ∷ a_long ∷ a_long ∷ an_int ∷ an_int ∷ an_int ∷ a_long ∷ an_int ∷ an_int ∷ a_long ∷ []
@@ -71,6 +78,9 @@ fields_of opcodes.Multi = []
 fields_of opcodes.Auth = an_int ∷ a_ustring ∷ a_buffer ∷ []
 fields_of opcodes.SetWatches = a_long ∷ some_ustrings ∷ some_ustrings ∷ some_ustrings ∷ []
 fields_of opcodes.Close = []
+fields_of opcodes.Create2 = create_fields
+fields_of opcodes.CheckWatches = watcher_fields
+fields_of opcodes.RemoveWatches = watcher_fields
 
 abbrev pub values_of : Request → List Value
 values_of (requests.Create path content acl flags) = create_values path content acl flags
@@ -88,6 +98,9 @@ values_of (requests.Multi ps) = []
 values_of (requests.Auth kind scheme auth) = int kind ∷ ustring scheme ∷ buffer auth ∷ []
 values_of (requests.SetWatches relative exists datas children) = long relative ∷ ustrings datas ∷ ustrings exists ∷ ustrings children ∷ []
 values_of requests.Close = []
+values_of (requests.Create2 path content acl flags) = create_values path content acl flags
+values_of (requests.CheckWatches path kind) = watcher_values path kind
+values_of (requests.RemoveWatches path kind) = watcher_values path kind
 
 -- ---- the parts of a multi
 
@@ -114,5 +127,6 @@ part_contents (parts.Check path version) = []
 abbrev pub contents_of : Request → List (List ℕ)
 contents_of (requests.Create path content acl flags) = content ∷ []
 contents_of (requests.SetData path content version) = content ∷ []
+contents_of (requests.Create2 path content acl flags) = content ∷ []
 contents_of (requests.Multi ps) = flat_map part_contents ps
 contents_of _ = []

@@ -19,6 +19,7 @@ reply_fields opcodes.GetAcl = the_open_acl ∷ stat_fields
 reply_fields opcodes.GetChildren = some_ustrings ∷ []
 reply_fields opcodes.Sync = a_ustring ∷ []
 reply_fields opcodes.GetChildren2 = some_ustrings ∷ stat_fields
+reply_fields opcodes.Create2 = a_ustring ∷ stat_fields
 reply_fields _ = []
 
 -- what a body says, field by field; of a multi, its results and the last header
@@ -31,6 +32,7 @@ body_values (bodies.Names names) = ustrings names ∷ []
 body_values (bodies.NamesStat names stat) = ustrings names ∷ stat_values stat
 body_values (bodies.OpenAcl stat) = open_acl ∷ stat_values stat
 body_values (bodies.Parts results) = flat_map result_values results ++ last_result
+body_values (bodies.PathStat path stat) = ustring path ∷ stat_values stat
 
 -- ---- which body answers which kind
 

@@ -1,9 +1,10 @@
-//! Kinds of requests, and their numbers on the wire (`ZooDefs.OpCode`, release 3.4).
+//! Kinds of requests, and their numbers on the wire (`ZooDefs.OpCode`, release 3.5).
 
 ghost use Rattle.std.specs.Prelude.{◌≡◌};
 ghost use Rattle.zk_jute.specs.Numbers.{opcode_number, opcode_numbered, part_number, part_numbered};
 
-/// The kinds of requests that are read. Other types of release 3.4, such as `setACL` (7) and `sasl` (102), are not listed.
+/// The kinds of requests that are read. Other types of release 3.5, such as `setACL` (7), `reconfig` (16) and `sasl` (102),
+/// are not listed.
 #[derive(Clone, Copy, PartialEq, Eq)]
 pub enum Opcode {
     Create,
@@ -23,6 +24,10 @@ pub enum Opcode {
     SetWatches,
     /// `closeSession`.
     Close,
+    /// A create whose reply has the new node's Stat too.
+    Create2,
+    CheckWatches,
+    RemoveWatches,
 }
 
 impl Opcode {
@@ -43,6 +48,9 @@ impl Opcode {
             12 => Some(Opcode::GetChildren2),
             13 => Some(Opcode::Check),
             14 => Some(Opcode::Multi),
+            15 => Some(Opcode::Create2),
+            17 => Some(Opcode::CheckWatches),
+            18 => Some(Opcode::RemoveWatches),
             100 => Some(Opcode::Auth),
             101 => Some(Opcode::SetWatches),
             -11 => Some(Opcode::Close),
@@ -70,6 +78,9 @@ impl Opcode {
             Opcode::Auth => 100,
             Opcode::SetWatches => 101,
             Opcode::Close => -11,
+            Opcode::Create2 => 15,
+            Opcode::CheckWatches => 17,
+            Opcode::RemoveWatches => 18,
         }
     }
 }

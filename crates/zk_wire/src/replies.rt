@@ -75,13 +75,19 @@ fn body(reader: &mut Reader, code: Opcode) -> Result<Body, Fault>
             let names = reader.vector()?;
             Ok(Body::NamesStat(names, stat(reader)?))
         }
+        Opcode::Create2 => {
+            let path = reader.ustring()?;
+            Ok(Body::PathStat(path, stat(reader)?))
+        }
         Opcode::Multi => Ok(Body::Parts(reader.until_last()?)),
         Opcode::Delete
         | Opcode::Ping
         | Opcode::Check
         | Opcode::Auth
         | Opcode::SetWatches
-        | Opcode::Close => Ok(Body::Empty),
+        | Opcode::Close
+        | Opcode::CheckWatches
+        | Opcode::RemoveWatches => Ok(Body::Empty),
     }
 }
 

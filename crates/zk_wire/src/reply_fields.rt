@@ -90,6 +90,10 @@ fn put_body<S: FieldSink>(sink: &mut S, body: &Body) -> Result<(), S::Fault>
             sink.stat(stat)
         }
         Body::Parts(results) => put_results(sink, results.as_slice()),
+        Body::PathStat(path, stat) => {
+            sink.ustring(path.as_slice())?;
+            sink.stat(stat)
+        }
     }
 }
 

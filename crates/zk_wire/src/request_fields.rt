@@ -32,6 +32,12 @@ pub fn put_body<S: FieldSink>(sink: &mut S, request: &Request) -> Result<(), S::
             content,
             acl,
             flags,
+        }
+        | Request::Create2 {
+            path,
+            content,
+            acl,
+            flags,
         } => {
             sink.ustring(path.as_slice())?;
             sink.buffer(content.as_slice())?;
@@ -41,6 +47,10 @@ pub fn put_body<S: FieldSink>(sink: &mut S, request: &Request) -> Result<(), S::
         Request::Delete { path, version } | Request::Check { path, version } => {
             sink.ustring(path.as_slice())?;
             sink.int(*version)
+        }
+        Request::CheckWatches { path, kind } | Request::RemoveWatches { path, kind } => {
+            sink.ustring(path.as_slice())?;
+            sink.int(*kind)
         }
         Request::Exists { path, watch }
         | Request::GetData { path, watch }
@@ -159,6 +169,9 @@ fn opcode(request: &Request) -> Opcode
         Request::Auth { .. } => Opcode::Auth,
         Request::SetWatches { .. } => Opcode::SetWatches,
         Request::Close => Opcode::Close,
+        Request::Create2 { .. } => Opcode::Create2,
+        Request::CheckWatches { .. } => Opcode::CheckWatches,
+        Request::RemoveWatches { .. } => Opcode::RemoveWatches,
     }
 }
 

@@ -33,6 +33,21 @@ fn create(reader: &mut Reader) -> Result<Request, Fault>
     })
 }
 
+fn create2(reader: &mut Reader) -> Result<Request, Fault>
+    ensures { Gives (λ x. x) result reader.new (plain_at opcodes.Create2 reader.old) }
+{
+    let path = reader.ustring()?;
+    let content = reader.buffer()?;
+    let acl = reader.vector()?;
+    let flags = reader.int()?;
+    Ok(Request::Create2 {
+        path,
+        content,
+        acl,
+        flags,
+    })
+}
+
 fn delete(reader: &mut Reader) -> Result<Request, Fault>
     ensures { Gives (λ x. x) result reader.new (plain_at opcodes.Delete reader.old) }
 {
@@ -132,6 +147,22 @@ fn set_watches(reader: &mut Reader) -> Result<Request, Fault>
     })
 }
 
+fn check_watches(reader: &mut Reader) -> Result<Request, Fault>
+    ensures { Gives (λ x. x) result reader.new (plain_at opcodes.CheckWatches reader.old) }
+{
+    let path = reader.ustring()?;
+    let kind = reader.int()?;
+    Ok(Request::CheckWatches { path, kind })
+}
+
+fn remove_watches(reader: &mut Reader) -> Result<Request, Fault>
+    ensures { Gives (λ x. x) result reader.new (plain_at opcodes.RemoveWatches reader.old) }
+{
+    let path = reader.ustring()?;
+    let kind = reader.int()?;
+    Ok(Request::RemoveWatches { path, kind })
+}
+
 /// A body of this kind.
 fn body(reader: &mut Reader, code: Opcode) -> Result<Request, Fault>
     ensures { Gives (λ x. x) result reader.new (body_at code reader.old) }
@@ -154,6 +185,9 @@ fn body(reader: &mut Reader, code: Opcode) -> Result<Request, Fault>
         Opcode::Auth => auth(reader),
         Opcode::SetWatches => set_watches(reader),
         Opcode::Close => Ok(Request::Close),
+        Opcode::Create2 => create2(reader),
+        Opcode::CheckWatches => check_watches(reader),
+        Opcode::RemoveWatches => remove_watches(reader),
     }
 }
 
