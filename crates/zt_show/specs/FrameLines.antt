@@ -35,6 +35,9 @@ request_name opcodes.Multi = codes "multi"
 request_name opcodes.Auth = codes "auth"
 request_name opcodes.SetWatches = codes "setWatches"
 request_name opcodes.Close = codes "closeSession"
+request_name opcodes.Create2 = codes "create2"
+request_name opcodes.CheckWatches = codes "checkWatches"
+request_name opcodes.RemoveWatches = codes "removeWatches"
 
 -- the name of each kind of part of a multi
 abbrev pub part_name : PartKind → List ℕ

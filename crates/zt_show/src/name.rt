@@ -1,4 +1,4 @@
-//! The names of requests (ZooKeeper's API; `ZooDefs.OpCode`, release 3.4).
+//! The names of requests (ZooKeeper's API; `ZooDefs.OpCode`, release 3.5).
 
 ghost use Rattle.std.specs.Prelude.{◌≡◌};
 ghost use Rattle.zk_jute.specs.Numbers.{opcode_of, part_kind};
@@ -26,6 +26,9 @@ pub(crate) fn request_name(request: &Request) -> &'static [u8]
         Request::Auth { .. } => b"auth",
         Request::SetWatches { .. } => b"setWatches",
         Request::Close => b"closeSession",
+        Request::Create2 { .. } => b"create2",
+        Request::CheckWatches { .. } => b"checkWatches",
+        Request::RemoveWatches { .. } => b"removeWatches",
     }
 }
 
