@@ -23,3 +23,4 @@ pub mod Attachments
 pub mod Requests
 pub mod Conditions
 pub mod ReplySizes
+pub mod PlainReplies

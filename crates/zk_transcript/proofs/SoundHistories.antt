@@ -15,6 +15,7 @@ use Rattle.zx_base.proofs.Options.{some_is, some_none}
 use Rattle.zk_model.specs.Limits.{max_frame, max_long, max_timeout, min_timeout}
 use Rattle.zk_model.specs.declared.connect.ConnectRequest.{ConnectRequest}
 use Rattle.zk_model.specs.declared.node.Node.{Node}
+use Rattle.zk_model.specs.declared.node.Stat.{Stat}
 use Rattle.zk_model.specs.declared.node.Trigger.{Trigger}
 use Rattle.zk_model.specs.declared.request.Request.{Request}
 use Rattle.zk_model.specs.declared.request.Request.TheVariants as req
@@ -30,7 +31,7 @@ use Rattle.zk_jute.specs.Requests.{Frame, NoHeader, Unreadable, Unknown, Asks, r
 use Rattle.zk_model.specs.Znodes.{Tree, num_children, owned, new_node, root_alone}
 use Rattle.zk_model.specs.Single.{Outcome, Refused, Done}
 use Rattle.zk_model.specs.Multi.{Several, Denied, Codes, All as AllDone}
-use Rattle.zk_transcript.specs.History.{State, Session, Sessions, Commit, IsSoundTree, IsSound, IsPast, IsBoundedNode, IsBoundedSession, IsBounded, IsCounted, HasParent, limit_of, session_at, attached_session, frame, request, asked_in, commit, commit_single, commit_several, asked_commit, committed, advanced, new_session, opening, connect, with_session, attached_anew, session_ended, removed_all, updated, lapsed_in, change, after, nothing_yet, first_shown, update_in, granted_timeout, or_nothing}
+use Rattle.zk_transcript.specs.History.{State, Session, Sessions, Commit, IsSoundTree, IsSound, IsPast, IsBoundedNode, IsBoundedSession, IsBounded, IsCounted, HasParent, limit_of, session_at, attached_session, frame, request, asked_in, commit, commit_single, commit_with_stat, commit_several, asked_commit, committed, advanced, new_session, opening, connect, with_session, attached_anew, session_ended, removed_all, updated, lapsed_in, change, after, nothing_yet, first_shown, update_in, granted_timeout, or_nothing}
 use Rattle.zk_transcript.specs.Legal.{may_update, is_id, is_next_zxid, is_legal_line, is_legal, is_small_frame, is_within_parts, is_live_as, is_close, is_lapsed, offers, asks_anew, may_attach}
 use Rattle.zk_model.proofs.Paths.{parent-root}
 use Rattle.zk_model.proofs.ValidPaths.{root-valid}
@@ -272,6 +273,10 @@ of_single : (P : Tree → Type 0) (o : Outcome) → Leads P o → CommitLeads P 
 of_single P (Refused code) lead = tt
 of_single P (Done r u g) lead = lead
 
+of_single_with_stat : (P : Tree → Type 0) (x : Stat) (o : Outcome) → Leads P o → CommitLeads P (commit_with_stat x o)
+of_single_with_stat P x (Refused code) lead = tt
+of_single_with_stat P x (Done r u g) lead = lead
+
 module _ (opened : Sessions) (limit : ℕ) (session first z : ℤ) (now : ℕ) (begun : first ≤ℤ z) (acts : Acts opened limit session) (t : Tree) (st : Stands opened first z t) where
   of_several : (o : Several) → SeveralLead opened limit session first z now begun acts o → CommitLeads (Stands opened first z) (commit_several o)
   of_several (Denied code) lead = tt
@@ -281,6 +286,7 @@ module _ (opened : Sessions) (limit : ℕ) (session first z : ℤ) (now : ℕ) (
   commit-leads : (r : Request) → AllByRecursion IsShort (contents_of r) → CommitLeads (Stands opened first z) (commit t limit session r z now)
   unfolding commit
   commit-leads (req.Create p d a f) small = of_single (Stands opened first z) _ (single-leads opened limit session first z now begun acts t (part.Create p d a f) st small)
+  commit-leads (req.Create2 p d a f) small = of_single_with_stat (Stands opened first z) _ _ (single-leads opened limit session first z now begun acts t (part.Create p d a f) st small)
   commit-leads (req.Delete p v) small = of_single (Stands opened first z) _ (single-leads opened limit session first z now begun acts t (part.Delete p v) st tt)
   commit-leads (req.SetData p d v) small = of_single (Stands opened first z) _ (single-leads opened limit session first z now begun acts t (part.SetData p d v) st small)
   commit-leads (req.Multi parts) small = of_several _ (several-lead opened limit session first z now begun acts t parts st small)

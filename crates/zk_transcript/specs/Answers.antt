@@ -1,5 +1,5 @@
 -- What the service answers to a frame (ZooKeeper API; Programmer's Guide, "ZooKeeper Watches", "ZooKeeper Sessions").
-use Rattle.std.specs.Prelude.{ℕ, ℤ, pos, Bool, not, List, [], length, nat_lt, ◌==◌, if◌then◌else◌, Option, Some, None, bytes_eq, codes}
+use Rattle.std.specs.Prelude.{ℕ, ℤ, pos, Bool, true, false, not, ◌&&◌, List, [], length, nat_lt, ◌==◌, if◌then◌else◌, Option, Some, None, bytes_eq, codes}
 use Rattle.zk_model.specs.declared.node.Node.{Node}
 use Rattle.zk_model.specs.declared.reply.Body.{Body}
 use Rattle.zk_model.specs.declared.reply.Body.TheVariants as body
@@ -9,7 +9,7 @@ use Rattle.zk_model.specs.declared.reply.Reply.TheVariants as reply
 use Rattle.zk_model.specs.declared.request.Request.{Request}
 use Rattle.zk_model.specs.declared.request.Request.TheVariants as req
 use Rattle.zk_model.specs.declared.reply.Notice.{Notice}
-use Rattle.zk_model.specs.Codes.{marshalling_error, unimplemented, bad_arguments, no_node, session_expired, session_moved, auth_failed, system_error}
+use Rattle.zk_model.specs.Codes.{marshalling_error, unimplemented, bad_arguments, no_node, session_expired, session_moved, auth_failed, system_error, no_watcher}
 use Rattle.zk_jute.specs.Requests.{Frame, NoHeader, Unreadable, Unknown, Asks}
 use Rattle.zk_jute.specs.Packets.{reply_bytes}
 use Rattle.std.specs.FinMap.{get}
@@ -17,7 +17,7 @@ use Rattle.zk_model.specs.Paths.{is_path}
 use Rattle.zk_model.specs.Znodes.{Tree, stat_of, child_names}
 use Rattle.zk_model.specs.Single.{Outcome, Refused, Done, single, form_refusal}
 use Rattle.zk_model.specs.Multi.{Several, Denied, Codes, All as AllDone, several}
-use Rattle.zk_model.specs.Watches.{Watches, Seen, arm_data, arm_children, set_watches}
+use Rattle.zk_model.specs.Watches.{Watches, Seen, arm_data, arm_children, set_watches, is_watcher_type, is_watched, unwatched}
 use Rattle.zk_transcript.specs.History.{Session, limit_of}
 use Rattle.zk_model.specs.Limits.{max_parts}
 
@@ -45,6 +45,21 @@ told_refusal w (Some code) = told w (reply.Refused code)
 abbrev pub told_of_path : Watches → List ℕ → Option Told
 told_of_path w p = if is_path p then None else told w (reply.Refused bad_arguments)
 
+-- The answer to a checkWatches or removeWatches. It is refused where its path or its type is not valid, and where no watch that it
+-- names is armed; otherwise `rest` are the watches after it.
+abbrev pub told_of_watcher : Watches → Watches → Bool → Bool → Told
+told_of_watcher w rest false armed = only w (reply.Refused bad_arguments)
+told_of_watcher w rest true false = only w (reply.Refused no_watcher)
+told_of_watcher w rest true true = only rest (reply.Good body.Empty)
+
+-- a checkWatches or removeWatches with this path and type is not refused for its form
+abbrev pub names_watches : List ℕ → ℤ → Bool
+names_watches p kind = is_path p && is_watcher_type kind
+
+-- the answer to a checkWatches, or where `removes` to a removeWatches, with this path and type
+abbrev pub told_of_watches : Watches → List ℕ → ℤ → Bool → Told
+told_of_watches w p kind removes = told_of_watcher w (if removes then unwatched w p kind else w) (names_watches p kind) (is_watched w p kind)
+
 -- the answer to a request where the tree does not decide it
 unfoldable pub plain_request : Watches → Request → Option Told
 plain_request w req.Ping = told w (reply.Good body.Empty)
@@ -62,6 +77,15 @@ plain_request w (req.GetChildren2 p watch) = told_of_path w p
 plain_request w (req.Sync p) = told_of_path w p
 plain_request w (req.SetWatches r e d c) = None
 plain_request w req.Close = None
+plain_request w (req.Create2 p d a f) = told_refusal w (form_refusal (part.Create p d a f))
+plain_request w (req.CheckWatches p kind) = Some (told_of_watches w p kind false)
+plain_request w (req.RemoveWatches p kind) = Some (told_of_watches w p kind true)
+
+-- the frame is a checkWatches or a removeWatches, whose answer depends on what is armed
+abbrev pub asks_of_watches : Frame → Bool
+asks_of_watches (Asks xid (req.CheckWatches p kind)) = true
+asks_of_watches (Asks xid (req.RemoveWatches p kind)) = true
+asks_of_watches _ = false
 
 -- the answer to a frame where the tree does not decide it
 abbrev pub plain_reply : Watches → Frame → Option Told
@@ -147,3 +171,6 @@ tree_reply t limit session w (req.Multi parts) = refusal_of_several w (several t
 tree_reply t limit session w req.Ping = None
 tree_reply t limit session w (req.Auth kind scheme auth) = None
 tree_reply t limit session w req.Close = None
+tree_reply t limit session w (req.Create2 p d a f) = refusal_of w (single t limit session (part.Create p d a f) (pos 0) 0)
+tree_reply t limit session w (req.CheckWatches p kind) = None
+tree_reply t limit session w (req.RemoveWatches p kind) = None

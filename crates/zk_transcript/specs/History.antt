@@ -6,6 +6,7 @@ use Rattle.std.specs.List.{filter_map}
 use Rattle.std.specs.Int.{int_max, int_min}
 use Rattle.std.specs.Ordering.{int_cmp}
 use Rattle.zk_model.specs.declared.node.Node.{Node}
+use Rattle.zk_model.specs.declared.node.Stat.{Stat}
 use Rattle.zk_model.specs.declared.reply.Body.{Body}
 use Rattle.zk_model.specs.declared.reply.Body.TheVariants as body
 use Rattle.zk_model.specs.declared.reply.PartResult.{PartResult}
@@ -25,8 +26,8 @@ use Rattle.zk_jute.specs.Connects.{read_connect}
 use Rattle.std.specs.FinMap.{FinMap, get, insert, remove, empty, entries}
 use Rattle.zx_base.specs.Maps.{Bytes}
 use Rattle.zk_model.specs.Paths.{root, parent, is_path}
-use Rattle.zk_model.specs.Znodes.{Tree, owned, num_children, root_alone}
-use Rattle.zk_model.specs.Single.{single, Outcome, Refused, Done, removed, removal}
+use Rattle.zk_model.specs.Znodes.{Tree, owned, num_children, new_node, root_alone, stat}
+use Rattle.zk_model.specs.Single.{single, Outcome, Refused, Done, is_ephemeral, removed, removal}
 use Rattle.zk_model.specs.Multi.{several, Several, Denied, Codes, All as AllDone}
 use Rattle.zk_model.specs.Limits.{max_creates, max_frame, max_long, max_owned, max_timeout, max_version, min_timeout}
 
@@ -134,14 +135,29 @@ abbrev pub commit_single : Outcome → Option Commit
 commit_single (Refused code) = None
 commit_single (Done r t g) = Some (record { response = response_of r; tree = t; triggers = g })
 
+-- the Stat of the node that a create makes, which has no children
+abbrev pub made_stat : ℤ → List ℕ → ℤ → ℤ → ℕ → Stat
+made_stat flags content session zxid now = stat (new_node content (if is_ephemeral flags then session else pos 0) zxid now) 0
+
+-- a path with a Stat beside it
+abbrev pub body_with_stat : Stat → Body → Body
+body_with_stat s (body.Path p) = body.PathStat p s
+body_with_stat s b = b
+
+-- a create2 is answered the path and the Stat of the new node
+abbrev pub commit_with_stat : Stat → Outcome → Option Commit
+commit_with_stat s (Refused code) = None
+commit_with_stat s (Done r t g) = Some (record { response = body_with_stat s (response_of r); tree = t; triggers = g })
+
 abbrev pub commit_several : Several → Option Commit
 commit_several (Denied code) = None
 commit_several (Codes row) = None
 commit_several (AllDone rs t g) = Some (record { response = body.Parts rs; tree = t; triggers = g })
 
--- what a create, delete, setData or multi does where it is not refused; any other request does nothing
+-- what a create, create2, delete, setData or multi does where it is not refused; any other request does nothing
 unfoldable pub commit : Tree → ℕ → ℤ → Request → ℤ → ℕ → Option Commit
 commit t limit session (req.Create p d a f) zxid now = commit_single (single t limit session (part.Create p d a f) zxid now)
+commit t limit session (req.Create2 p d a f) zxid now = commit_with_stat (made_stat f d session zxid now) (single t limit session (part.Create p d a f) zxid now)
 commit t limit session (req.Delete p v) zxid now = commit_single (single t limit session (part.Delete p v) zxid now)
 commit t limit session (req.SetData p d v) zxid now = commit_single (single t limit session (part.SetData p d v) zxid now)
 commit t limit session (req.Multi parts) zxid now = commit_several (several t limit session parts zxid now)

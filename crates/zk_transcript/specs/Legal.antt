@@ -202,6 +202,6 @@ IsClockBetween ticks first last now = (k : ℕ) × (t : Tick) × (slice_get tick
 abbrev pub frame_place : ℕ → ℕ → List TranscriptLine → Option ℕ
 frame_place c i lines = option_map (λ (x : ℕ × List ℕ). x.0) (first_place (frame_shown c i) 0 lines)
 
--- the time of each create, delete, setData or multi that was carried out is the clock's between its frame's line and its own
+-- the time of each create, create2, delete, setData or multi that was carried out is the clock's between its frame's line and its own
 abbrev pub IsPunctual : List Tick → List TranscriptLine → Type 0
 IsPunctual ticks lines = (place first c i now : ℕ) (zxid : ℤ) → slice_get lines place ≡ Some (Update (record { zxid = zxid; kind = Asked c i now })) → frame_place c i lines ≡ Some first → IsClockBetween ticks first place now
