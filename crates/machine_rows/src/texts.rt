@@ -31,6 +31,11 @@ fn push_body(alloc: Global, text: &mut String, body: &Body) -> Result<(), Memory
             push_stat(alloc, text, stat)
         }
         Body::Parts(results) => push_results(alloc, text, results.as_slice()),
+        Body::PathStat(path, stat) => {
+            push(text, word_of(path.as_slice()))?;
+            push(text, " stat ")?;
+            push_stat(alloc, text, stat)
+        }
     }
 }
 

@@ -3,6 +3,7 @@
 use row_files::{Steps, Words, said};
 use row_words::{notice_texts, read_path, trigger_of};
 use std::alloc::Global;
+use zk_model::watcher::is_watcher_type;
 use zw_watch::{Armed, SeenPath, WatchList};
 use zx_base::{Memory, Text};
 
@@ -30,6 +31,7 @@ fn taken(alloc: Global, armed: &mut Armed, step: &str) -> Result<Option<String>,
         "data" => arm(alloc, armed, rest, false),
         "child" => arm(alloc, armed, rest, true),
         "set" => set(alloc, armed, rest),
+        "has" | "remove" => named(alloc, armed, word, rest),
         _ => fire(alloc, armed, word, rest),
     }
 }
@@ -45,6 +47,31 @@ fn arm(
     };
     armed.arm(&path, child)?;
     said(alloc, "armed")
+}
+
+/// `PATH TYPE`: whether the path has a watch of this type, which `remove` takes away.
+fn named(
+    alloc: Global,
+    armed: &mut Armed,
+    word: &str,
+    rest: &str,
+) -> Result<Option<String>, Memory> {
+    let mut words = Words::new(rest);
+    let (Some(text), Some(kind)) = (words.word(), words.int()) else {
+        return Ok(None);
+    };
+    let Some(path) = read_path(alloc, text)? else {
+        return Ok(None);
+    };
+    if !is_watcher_type(kind) {
+        return Ok(None);
+    }
+    let found = if word == "has" {
+        armed.has(&path, kind)
+    } else {
+        armed.remove(&path, kind)
+    };
+    said(alloc, if found { "yes" } else { "no" })
 }
 
 fn fire(

@@ -24,6 +24,8 @@ pub fn request(alloc: Global, words: &mut Words) -> Result<Option<Request>, Memo
         "watches" => set_watches(alloc, words),
         "multi" => multi(alloc, words),
         "acl" | "sync" | "exists" | "get" | "children" | "children2" => read(alloc, kind, words),
+        "create2" => create2(alloc, words),
+        "check_watches" | "remove_watches" => watchers(alloc, kind, words),
         _ => update(alloc, kind, words),
     }
 }
@@ -90,6 +92,38 @@ fn watched(kind: &str, path: Text, words: &mut Words) -> Option<Request> {
         "get" => Some(Request::GetData { path, watch }),
         "children" => Some(Request::GetChildren { path, watch }),
         _ => Some(Request::GetChildren2 { path, watch }),
+    }
+}
+
+/// `PATH TYPE`, the type as a number
+fn watchers(alloc: Global, kind: &str, words: &mut Words) -> Result<Option<Request>, Memory> {
+    let (Some(path), Some(number)) = (words.word(), words.int()) else {
+        return Ok(None);
+    };
+    let path = text(alloc, path)?;
+    Ok(Some(match kind {
+        "check_watches" => Request::CheckWatches { path, kind: number },
+        _ => Request::RemoveWatches { path, kind: number },
+    }))
+}
+
+/// As a create.
+fn create2(alloc: Global, words: &mut Words) -> Result<Option<Request>, Memory> {
+    match create(alloc, ALL, words)? {
+        Some(
+            Part::Create {
+                path,
+                content,
+                acl,
+                flags,
+            },
+        ) => Ok(Some(Request::Create2 {
+            path,
+            content,
+            acl,
+            flags,
+        })),
+        _ => Ok(None),
     }
 }
 

@@ -13,7 +13,7 @@ mod told;
 mod updates;
 mod watches;
 
-pub use plain::plain_request;
+pub use plain::{plain_request, watcher_answer};
 pub use rearm::set_watches;
 pub use told::Told;
 pub use updates::tree_reply;

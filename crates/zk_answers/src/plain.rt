@@ -4,7 +4,7 @@ ghost use Rattle.std.specs.Prelude.{◌≡◌, ◌&&◌, not, Some, None, if◌t
 ghost use Rattle.zx_base.specs.Maps.{same};
 ghost use Rattle.zk_model.specs.declared.reply.Body.TheVariants as body;
 ghost use Rattle.zk_model.specs.declared.reply.Reply.TheVariants as reply;
-ghost use Rattle.zk_transcript.specs.Answers.{plain_request, told, told_of_path, told_refusal};
+ghost use Rattle.zk_transcript.specs.Answers.{names_watches, plain_request, told, told_of_path, told_of_watches, told_refusal};
 ghost use Rattle.zk_model.specs.Codes.{bad_arguments, invalid_acl};
 ghost use Rattle.zk_model.specs.Paths.{is_path, is_sequence_prefix, root};
 ghost use Rattle.zk_model.specs.Single.{or_else, path_refusal, is_create_mode, is_sequential};
@@ -15,8 +15,9 @@ use crate::told::{Told, good, refused};
 use crate::watches::Watches;
 use std::alloc::Global;
 use zk_machine::{is_create_mode, is_open_acl, is_sequential, read_path};
-use zk_model::code::{AUTH_FAILED, BAD_ARGUMENTS, INVALID_ACL};
+use zk_model::code::{AUTH_FAILED, BAD_ARGUMENTS, INVALID_ACL, NO_WATCHER};
 use zk_model::limit::MAX_PARTS;
+use zk_model::watcher::is_watcher_type;
 use zk_model::{Acl, Body, Request};
 use zx_base::Memory;
 
@@ -81,7 +82,50 @@ fn told_done(alloc: Global, watches: &Watches) -> Result<Option<Told>, Memory>
     Ok(Some(good(alloc, watches.copy()?, Body::Empty)))
 }
 
-/// The answer to a request where the tree does not decide it: to a ping, to an auth, and to a request whose form is not valid.
+fn names_watches(alloc: Global, text: &[u8], kind: i32) -> Result<bool, Memory>
+    ensures { IfOk result (λ b. b ≡ names_watches text.now kind) }
+{
+    Ok(read_path(alloc, text, false)?.is_some() && is_watcher_type(kind))
+}
+
+/// The answer to a checkWatches, or where `removes` to a removeWatches, after which those watches are no longer armed.
+pub fn watcher_answer(
+    alloc: Global,
+    watches: Watches,
+    text: &[u8],
+    kind: i32,
+    removes: bool,
+) -> Result<Told, Memory>
+    ensures { IfOk result (λ t. told_of t ≡ told_of_watches watches text.now kind removes) }
+{
+    if !names_watches(alloc, text, kind)? {
+        return Ok(refused(alloc, watches, BAD_ARGUMENTS));
+    }
+    if !watches.has(text, kind) {
+        return Ok(refused(alloc, watches, NO_WATCHER));
+    }
+    if removes {
+        Ok(good(alloc, watches.without(text, kind), Body::Empty))
+    } else {
+        Ok(good(alloc, watches, Body::Empty))
+    }
+}
+
+fn told_of_watches(
+    alloc: Global,
+    watches: &Watches,
+    text: &[u8],
+    kind: i32,
+    removes: bool,
+) -> Result<Option<Told>, Memory>
+    ensures { IfOk result (λ o. option_map told_of o ≡ Some (told_of_watches watches.now text.now kind removes)) }
+{
+    let watches = watches.copy()?;
+    Ok(Some(watcher_answer(alloc, watches, text, kind, removes)?))
+}
+
+/// The answer to a request where the tree does not decide it: to a ping, to an auth, to a request about watches, and
+/// to a request whose form is not valid.
 #[tactic(auto, unfolding(zk_transcript::specs::Answers::plain_request, zk_model::specs::Single::form_refusal))]
 pub fn plain_request(
     alloc: Global,
@@ -104,6 +148,12 @@ pub fn plain_request(
             acl,
             flags,
             ..
+        }
+        | Request::Create2 {
+            path,
+            acl,
+            flags,
+            ..
         } => {
             let code = create_refusal(alloc, path.as_slice(), acl.as_slice(), *flags)?;
             Ok(told_refusal(alloc, watches, code)?)
@@ -120,6 +170,20 @@ pub fn plain_request(
         | Request::GetChildren { path, .. }
         | Request::GetChildren2 { path, .. }
         | Request::Sync { path } => Ok(told_of_path(alloc, watches, path.as_slice())?),
+        Request::CheckWatches { path, kind } => Ok(told_of_watches(
+            alloc,
+            watches,
+            path.as_slice(),
+            *kind,
+            false,
+        )?),
+        Request::RemoveWatches { path, kind } => Ok(told_of_watches(
+            alloc,
+            watches,
+            path.as_slice(),
+            *kind,
+            true,
+        )?),
         Request::Multi { .. } | Request::SetWatches { .. } | Request::Close => Ok(None),
     }
 }

@@ -138,6 +138,12 @@ pub fn tree_reply(
             content,
             acl,
             flags,
+        }
+        | Request::Create2 {
+            path,
+            content,
+            acl,
+            flags,
         } => {
             let outcome = single_create(
                 alloc,
@@ -173,6 +179,10 @@ pub fn tree_reply(
             let transaction = several(alloc, tree, &turn, parts.as_slice())?;
             Ok(refusal_of_several(alloc, watches, transaction)?)
         }
-        Request::Ping | Request::Auth { .. } | Request::Close => Ok(None),
+        Request::Ping
+        | Request::Auth { .. }
+        | Request::Close
+        | Request::CheckWatches { .. }
+        | Request::RemoveWatches { .. } => Ok(None),
     }
 }

@@ -2,12 +2,13 @@
 
 ghost use Rattle.std.specs.Prelude.{◌≡◌, ◌||◌, IfOk};
 ghost use Rattle.std.specs.FinMap.{contains_key};
-ghost use Rattle.zk_model.specs.Watches.{is_unarmed, no_watches, arm_data, arm_children, fired_data, fired_children, fire, fire_all, note};
+ghost use Rattle.zk_model.specs.Watches.{is_unarmed, no_watches, arm_data, arm_children, fired_data, fired_children, fire, fire_all, is_watched, note, unwatched};
 ghost use Rattle.zk_answers.specs.Outcomes.{fired_of};
 
 use crate::paths::PathSet;
 use std::alloc::Global;
 use std::marker::Model;
+use zk_model::watcher::{names_children, names_data};
 use zk_model::{Notice, Path, Trigger};
 use zx_base::{Memory, Seq, Text};
 
@@ -112,6 +113,32 @@ impl Watches {
             on_data: self.on_data,
             on_children,
         })
+    }
+
+    /// Whether one of the path's watches of this type (`Watcher.WatcherType`) is armed.
+    pub fn has(&self, path: &[u8], kind: i32) -> bool
+        ensures { result ≡ is_watched self.now path.now kind }
+    {
+        (names_children(kind) && self.on_children.contains(path))
+            || (names_data(kind) && self.on_data.contains(path))
+    }
+
+    /// The watches without the path's watches of this type.
+    pub fn without(self, path: &[u8], kind: i32) -> Watches
+        ensures { result ≡ unwatched self path.now kind }
+    {
+        let mut on_data = self.on_data;
+        let mut on_children = self.on_children;
+        if names_data(kind) {
+            on_data.remove(path);
+        }
+        if names_children(kind) {
+            on_children.remove(path);
+        }
+        Watches {
+            on_data,
+            on_children,
+        }
     }
 
     /// The path's data watch fires, where there is one.

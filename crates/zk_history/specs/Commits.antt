@@ -21,7 +21,7 @@ changed t (Written ws) = written_all t ws
 abbrev pub commit_of : Tree → Answer → Commit
 commit_of t c = record { response = c.response; tree = changed t c.change; triggers = c.triggers }
 
--- the body of the reply to the create, delete, setData or multi that an update carries out, where it is not refused
+-- the body of the reply to the create, create2, delete, setData or multi that an update carries out, where it is not refused
 abbrev pub response_in : List TranscriptLine → State → ℤ → UpdateKind → Option Body
 response_in before s zxid (Asked c i now) = option_map (λ x. x.response) (asked_commit before s zxid c i now)
 response_in before s zxid _ = None

@@ -20,6 +20,7 @@ PartFits t p = IsWithin t × (data_len p ≤ max_frame)
 
 abbrev pub RequestFits : Tree → ℕ → ℤ → Request → ℤ → ℕ → Type 0
 RequestFits t limit session (req.Create p d a f) zxid now = PartFits t (part.Create p d a f)
+RequestFits t limit session (req.Create2 p d a f) zxid now = PartFits t (part.Create p d a f)
 RequestFits t limit session (req.Delete p v) zxid now = PartFits t (part.Delete p v)
 RequestFits t limit session (req.SetData p d v) zxid now = PartFits t (part.SetData p d v)
 RequestFits t limit session (req.Multi parts) zxid now = StaysWithin t limit session parts zxid now

@@ -37,7 +37,7 @@ impl Change {
     }
 }
 
-/// What a create, delete, setData or multi that is not refused does.
+/// What a create, create2, delete, setData or multi that is not refused does.
 #[derive(Drop)]
 pub struct Commit {
     /// The body of its reply.

@@ -1,8 +1,8 @@
 //! What a request does to the tree.
 
-ghost use Rattle.std.specs.Prelude.{◌≡◌, option_map, IfOk, IfErr};
-ghost use Rattle.zk_transcript.specs.History.{response_of, commit_single, commit_several, commit};
-ghost use Rattle.zk_model.specs.Single.{single};
+ghost use Rattle.std.specs.Prelude.{◌≡◌, ◌≤◌, pos, length, option_map, if◌then◌else◌, IfOk, IfErr};
+ghost use Rattle.zk_transcript.specs.History.{response_of, body_with_stat, commit_single, commit_several, commit_with_stat, commit, made_stat};
+ghost use Rattle.zk_model.specs.Single.{is_ephemeral as is_ephemeral_by, single};
 ghost use Rattle.zk_model.specs.Multi.{several};
 ghost use Rattle.zk_model.specs.Znodes.{Tree as Nodes};
 ghost use Rattle.zk_machine.specs.Faults.{BeyondUnless, StaysWithin};
@@ -12,8 +12,8 @@ ghost use Rattle.zk_history.specs.Fits.{PartFits, RequestFits};
 
 use crate::outcome::{Change, Commit};
 use std::alloc::Global;
-use zk_machine::{Fault, Outcome, Transaction, Tree, Turn, several, single};
-use zk_model::{Body, Part, PartResult, Request};
+use zk_machine::{Fault, Outcome, Transaction, Tree, Turn, is_ephemeral, several, single};
+use zk_model::{Body, Part, PartResult, Request, Stat};
 
 fn response_of(outcome: PartResult) -> Body
     ensures { result ≡ response_of outcome }
@@ -25,6 +25,51 @@ fn response_of(outcome: PartResult) -> Body
         PartResult::Checked => Body::Empty,
         PartResult::Code(_) => Body::Empty,
     }
+}
+
+fn body_with_stat(body: Body, stat: Stat) -> Body
+    ensures { result ≡ body_with_stat stat body }
+{
+    match body {
+        Body::Path(path) => Body::PathStat(path, stat),
+        Body::Empty => Body::Empty,
+        Body::Stat(other) => Body::Stat(other),
+        Body::Content(content, other) => Body::Content(content, other),
+        Body::Names(names) => Body::Names(names),
+        Body::NamesStat(names, other) => Body::NamesStat(names, other),
+        Body::OpenAcl(other) => Body::OpenAcl(other),
+        Body::Parts(results) => Body::Parts(results),
+        Body::PathStat(path, other) => Body::PathStat(path, other),
+    }
+}
+
+fn owner_of(flags: i32, session: i64) -> i64
+    ensures { result ≡ if is_ephemeral_by flags then session else pos 0 }
+{
+    if is_ephemeral(flags) { session } else { 0 }
+}
+
+/// The Stat of the node that a create makes; `Beyond` where its data are too long for an `int`.
+fn made_stat(content: &[u8], flags: i32, turn: &Turn) -> Result<Stat, Fault>
+    ensures ok { IfOk result (λ s. s ≡ made_stat flags content.now turn.now.session turn.now.zxid turn.now.time) }
+    ensures beyond { IfErr result (BeyondUnless (length content.now ≤ 2147483647)) }
+{
+    let Ok(data_length) = i32::try_from(content.len()) else {
+        return Err(Fault::Beyond);
+    };
+    Ok(Stat {
+        czxid: turn.zxid,
+        mzxid: turn.zxid,
+        ctime: turn.time as i64,
+        mtime: turn.time as i64,
+        version: 0,
+        cversion: 0,
+        aversion: 0,
+        ephemeral_owner: owner_of(flags, turn.session),
+        data_length,
+        num_children: 0,
+        pzxid: turn.zxid,
+    })
 }
 
 /// What an outcome does, where it is not a refusal.
@@ -55,6 +100,37 @@ fn commit_single(
     ensures beyond { IfErr result (BeyondUnless (PartFits tree.now part.now)) }
 {
     Ok(done(single(alloc, tree, turn, part)?))
+}
+
+/// What an outcome of a create2 does, where it is not a refusal.
+fn done_with_stat(outcome: Outcome, stat: Stat) -> Option<Commit>
+    ensures { (t : Nodes) → option_map (commit_of t) result ≡ commit_with_stat stat (outcome_of t outcome) }
+{
+    match outcome {
+        Outcome::Refused(_) => None,
+        Outcome::Done {
+            result: given,
+            edit,
+            triggers,
+        } => Some(Commit {
+            response: body_with_stat(response_of(given), stat),
+            change: Change::Edited(edit),
+            triggers,
+        }),
+    }
+}
+
+fn commit_with_stat(
+    alloc: Global,
+    tree: &Tree,
+    turn: &Turn,
+    part: &Part,
+    stat: Stat,
+) -> Result<Option<Commit>, Fault>
+    ensures ok { IfOk result (λ o. option_map (commit_of tree.now) o ≡ commit_with_stat stat (single tree.now turn.now.limit turn.now.session part.now turn.now.zxid turn.now.time)) }
+    ensures beyond { IfErr result (BeyondUnless (PartFits tree.now part.now)) }
+{
+    Ok(done_with_stat(single(alloc, tree, turn, part)?, stat))
 }
 
 /// What a transaction does, where all its parts succeed.
@@ -88,7 +164,7 @@ fn commit_several(
     Ok(all_done(several(alloc, tree, turn, parts)?))
 }
 
-/// What a create, delete, setData or multi does, where it is not refused; any other request does nothing. Faults as
+/// What a create, create2, delete, setData or multi does, where it is not refused; any other request does nothing. Faults as
 /// [`crate::change`] does.
 #[tactic(auto, unfolding(zk_transcript::specs::History::commit))]
 pub fn commit(
@@ -114,6 +190,21 @@ pub fn commit(
                 flags,
             };
             Ok(commit_single(alloc, tree, turn, &part)?)
+        }
+        Request::Create2 {
+            path,
+            content,
+            acl,
+            flags,
+        } => {
+            let stat = made_stat(content.as_slice(), flags, turn)?;
+            let part = Part::Create {
+                path,
+                content,
+                acl,
+                flags,
+            };
+            Ok(commit_with_stat(alloc, tree, turn, &part, stat)?)
         }
         Request::Delete { path, version } => {
             let part = Part::Delete { path, version };

@@ -151,6 +151,7 @@ parts-short (p ∷ ps) small = (part-short p (first_of_both IsShort (part_conten
 
 request-fits : (t : Tree) (limit : ℕ) (session : ℤ) (r : Request) (zxid : ℤ) (now : ℕ) → IsWhole t → AllByRecursion IsShort (contents_of r) → RequestFits t limit session r zxid now
 request-fits t limit session (req.Create path content acl flags) zxid now whole small = (whole.within, small.0)
+request-fits t limit session (req.Create2 path content acl flags) zxid now whole small = (whole.within, small.0)
 request-fits t limit session (req.Delete path version) zxid now whole small = (whole.within, omega arith)
 request-fits t limit session (req.SetData path content version) zxid now whole small = (whole.within, small.0)
 request-fits t limit session (req.Multi parts) zxid now whole small = parts-within limit session zxid now t parts whole (parts-short parts small)

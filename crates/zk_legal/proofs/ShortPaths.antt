@@ -11,6 +11,7 @@ use Rattle.zk_model.specs.Codes.{bad_arguments, ok, runtime_inconsistency}
 use Rattle.zk_model.specs.Limits.{max_load, max_parts, max_path, max_version}
 use Rattle.zk_model.specs.declared.node.Node.{Node}
 use Rattle.zk_model.specs.declared.node.Trigger.{Trigger}
+use Rattle.zk_model.specs.declared.node.Stat.{Stat}
 use Rattle.zk_model.specs.declared.reply.PartResult.{PartResult}
 use Rattle.zk_model.specs.declared.reply.PartResult.TheVariants as result
 use Rattle.zk_model.specs.declared.request.Part.{Part}
@@ -24,7 +25,7 @@ use Rattle.zk_model.specs.Znodes.{Tree, num_children}
 use Rattle.zk_model.proofs.SequencePaths.{sequence-valid}
 use Rattle.zk_model.proofs.ValidPaths.{parent-valid, valid-from}
 use Rattle.zk_jute.proofs.Lists.{both_of}
-use Rattle.zk_transcript.specs.History.{Commit, commit, commit_several, commit_single, response_of}
+use Rattle.zk_transcript.specs.History.{Commit, commit, commit_several, commit_single, body_with_stat, commit_with_stat, response_of}
 use Rattle.zk_transcript.specs.Legal.{is_within_parts}
 use Rattle.zk_machine.proofs.WholeTrees.{parent-made}
 use Rattle.zk_legal.specs.Short.{AreShort, IsShortBody, IsShortResult}
@@ -181,6 +182,21 @@ module _ (limit : ℕ) (session z : ℤ) (now : ℕ) where
   of_single (Refused code) gives = tt
   of_single (Done r t g) gives = (response-short r gives.0, gives.1)
 
+  stat-short : (s : Stat) (b : Body) → IsShortBody b → IsShortBody (body_with_stat s b)
+  stat-short s body.Empty short = short
+  stat-short s (body.Path p) short = short
+  stat-short s (body.Stat x) short = short
+  stat-short s (body.Content content x) short = short
+  stat-short s (body.Names names) short = short
+  stat-short s (body.NamesStat names x) short = short
+  stat-short s (body.OpenAcl x) short = short
+  stat-short s (body.Parts results) short = short
+  stat-short s (body.PathStat p x) short = short
+
+  of_single_with_stat : (s : Stat) (o : Outcome) → Gives o → CommitGives (commit_with_stat s o)
+  of_single_with_stat s (Refused code) gives = tt
+  of_single_with_stat s (Done r t g) gives = (stat-short s (response_of r) (response-short r gives.0), gives.1)
+
   of_several : (n : ℕ) (o : Several) → n ≤ max_parts → SeveralGives n o → CommitGives (commit_several o)
   of_several n (Denied code) few gives = tt
   of_several n (Codes row) few gives = tt
@@ -189,6 +205,7 @@ module _ (limit : ℕ) (session z : ℤ) (now : ℕ) where
   pub commit-gives : (t : Tree) (r : Request) → is_within_parts (Some r) ≡ true → CommitGives (commit t limit session r z now)
   unfolding commit
   commit-gives t (req.Create p d a f) few = of_single _ (single-gives t (part.Create p d a f))
+  commit-gives t (req.Create2 p d a f) few = of_single_with_stat _ _ (single-gives t (part.Create p d a f))
   commit-gives t (req.Delete p v) few = of_single _ (single-gives t (part.Delete p v))
   commit-gives t (req.SetData p d v) few = of_single _ (single-gives t (part.SetData p d v))
   commit-gives t (req.Multi parts) few = of_several (length parts) _ (leb-true (length parts) max_parts few) (several-gives t parts)

@@ -16,9 +16,10 @@ abbrev pub IsShortResult : PartResult → Type 0
 IsShortResult (result.Created p) = length p ≤ max_path
 IsShortResult _ = ⊤
 
--- the body of the reply to a create, delete, setData or multi that was carried out is short
+-- the body of the reply to a create, create2, delete, setData or multi that was carried out is short
 abbrev pub IsShortBody : Body → Type 0
 IsShortBody (body.Path p) = length p ≤ max_path
+IsShortBody (body.PathStat p stat) = length p ≤ max_path
 IsShortBody (body.Parts results) = AllByRecursion IsShortResult results × (length results ≤ max_parts)
 IsShortBody (body.Stat stat) = ⊤
 IsShortBody body.Empty = ⊤

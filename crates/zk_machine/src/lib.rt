@@ -25,7 +25,7 @@ mod update;
 mod write;
 
 pub use alone::{single, single_check, single_create, single_delete, single_set_data};
-pub use create::{begin, is_create_mode, is_open_acl, is_sequential};
+pub use create::{begin, is_create_mode, is_ephemeral, is_open_acl, is_sequential};
 pub use edit::Edit;
 pub use fault::Fault;
 pub use laws::{parts_fit, sound_trees_fit};
