@@ -19,3 +19,4 @@ pub mod PlainAnswers
 pub mod Running
 pub mod Sendable
 pub mod Telling
+pub mod WatchAnswers

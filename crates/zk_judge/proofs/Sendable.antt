@@ -8,12 +8,12 @@ use Rattle.std.proofs.lemmas.List.{length-append}
 use Rattle.std.proofs.lemmas.List.Elements.{All-from_recursion}
 use Rattle.std.specs.FinMap.{get}
 use Rattle.zx_base.specs.Maps.{Bytes}
-use Rattle.zk_model.specs.Codes.{auth_failed, bad_arguments, marshalling_error, no_node, system_error, unimplemented}
+use Rattle.zk_model.specs.Codes.{auth_failed, bad_arguments, marshalling_error, no_node, no_watcher, system_error, unimplemented}
 use Rattle.zk_model.specs.Limits.{max_frame, max_parts, max_path}
 use Rattle.zk_model.specs.Paths.{is_path}
 use Rattle.zk_model.specs.Single.{Outcome, Refused, Done, form_refusal}
 use Rattle.zk_model.specs.Multi.{Several, Denied, Codes, All as AllDone}
-use Rattle.zk_model.specs.Watches.{Seen, Watches, arm_children, arm_data, fire, fire_all, note, see_all, see_children, see_data, see_exist, set_watches, tell, valid_at, trigger_path}
+use Rattle.zk_model.specs.Watches.{Seen, Watches, arm_children, arm_data, fire, fire_all, is_watched, note, see_all, see_children, see_data, see_exist, set_watches, tell, valid_at, trigger_path, unwatched}
 use Rattle.zk_model.specs.Znodes.{Tree, child_names, stat_of}
 use Rattle.zk_model.specs.declared.node.Node.{Node}
 use Rattle.zk_model.specs.declared.node.Stat.{Stat}
@@ -39,7 +39,7 @@ use Rattle.zk_jute.specs.Results.{last_result, result_values}
 use Rattle.zk_jute.proofs.Lengths.{length-boolean_bytes, length-int_bytes, length-long_bytes, length-open_acl, length-string_bytes}
 use Rattle.zk_jute.proofs.Lists.{both_of}
 use Rattle.zk_jute.proofs.RequestLaws.{found}
-use Rattle.zk_transcript.specs.Answers.{Told, about, checked, fits_reply, listing, only, plain_reply, plain_request, refusal_of, refusal_of_several, told, told_refusal, tree_reply}
+use Rattle.zk_transcript.specs.Answers.{Told, about, checked, fits_reply, listing, names_watches, only, plain_reply, plain_request, refusal_of, refusal_of_several, told, told_of_watcher, told_refusal, tree_reply}
 use Rattle.zk_transcript.specs.Legal.{is_within_parts}
 use Rattle.zk_machine.specs.Faults.{IsWhole}
 use Rattle.zk_legal.specs.Short.{AreShort, IsShortBody, IsShortResult}
@@ -132,6 +132,7 @@ body-fits (body.Names names) short = absurd short
 body-fits (body.NamesStat names s) short = absurd short
 body-fits (body.OpenAcl s) short = absurd short
 body-fits (body.Parts rs) short = parts-fit rs short.0 short.1
+body-fits (body.PathStat p s) short = reply-fits (reply.Good (body.PathStat p s)) (omega (arith, stat-size s, short))
 
 listed-fits : (b : Body) → fits_reply b ≡ true → CanBeSent (reply.Good b)
 listed-fits b fits = by_test (nat_lt 2147483647 (length (reply_bytes (pos 0) (pos 0) (reply.Good b)))) refl fits
@@ -275,6 +276,11 @@ done-fits : (b : Bool) (code : ℤ) → CanBeSent (if b then reply.Good body.Emp
 done-fits true code = empty-fits
 done-fits false code = refused-fits code
 
+watcher-told : (w rest : Watches) (valid hit : Bool) → CanBeTold (told_of_watcher w rest valid hit)
+watcher-told w rest false hit = only-fits w (reply.Refused bad_arguments) (refused-fits bad_arguments)
+watcher-told w rest true false = only-fits w (reply.Refused no_watcher) (refused-fits no_watcher)
+watcher-told w rest true true = only-fits rest (reply.Good body.Empty) empty-fits
+
 request-told : (w : Watches) (r : Request) → IfTold (plain_request w r)
 unfolding plain_request
 request-told w req.Ping = only-fits w (reply.Good body.Empty) empty-fits
@@ -292,6 +298,9 @@ request-told w (req.GetChildren2 p watch) = unless-told w (is_path p) bad_argume
 request-told w (req.Sync p) = unless-told w (is_path p) bad_arguments
 request-told w (req.SetWatches r e d c) = tt
 request-told w req.Close = tt
+request-told w (req.Create2 p d a f) = refusal-told w (form_refusal (part.Create p d a f))
+request-told w (req.CheckWatches p k) = watcher-told w w (names_watches p k) (is_watched w p k)
+request-told w (req.RemoveWatches p k) = watcher-told w (unwatched w p k) (names_watches p k) (is_watched w p k)
 
 pub plain-told : (w : Watches) (x : Frame) → IfTold (plain_reply w x)
 plain-told w NoHeader = tt
@@ -345,6 +354,9 @@ tree-told t limit session w xid (req.Multi parts) whole frame few = several-told
 tree-told t limit session w xid req.Ping whole frame few = tt
 tree-told t limit session w xid (req.Auth kind scheme auth) whole frame few = tt
 tree-told t limit session w xid req.Close whole frame few = tt
+tree-told t limit session w xid (req.Create2 p d a f) whole frame few = refused-told w _
+tree-told t limit session w xid (req.CheckWatches p k) whole frame few = tt
+tree-told t limit session w xid (req.RemoveWatches p k) whole frame few = tt
 
 -- a request of which nothing is told without the tree has no more parts than a transaction may have
 pub unanswered-few : (w : Watches) (r : Request) → plain_request w r ≡ None → is_within_parts (Some r) ≡ true

@@ -6,11 +6,12 @@ use Rattle.zk_model.specs.Watches.{Watches}
 use Rattle.zk_model.specs.declared.reply.Reply.{Reply}
 use Rattle.zk_transcript.specs.declared.transcript.UpdateRec.{UpdateRec}
 use Rattle.zk_transcript.specs.declared.transcript.TranscriptLine.{TranscriptLine}
-use Rattle.zk_transcript.specs.Answers.{Told, xid_of}
+use Rattle.zk_transcript.specs.Answers.{Told, only, xid_of}
 use Rattle.zk_transcript.specs.Walks.{Due, Walker, fired_above, reply_step_if, told_as_of}
 use Rattle.zk_answers.specs.Outcomes.{told_of}
 use Rattle.zk_judge.specs.declared.frames.FrameRead.{FrameRead}
 use Rattle.zk_judge.specs.declared.frames.FrameRead.TheVariants as read
+use Rattle.zk_judge.specs.declared.frames.Said.{Said}
 use Rattle.zk_judge.specs.declared.walker.Walker.{Walker as Walking}
 use Rattle.zk_judge.specs.declared.walker.Step.{Step}
 use Rattle.zk_judge.specs.declared.walker.Fired.{Fired}
@@ -20,6 +21,10 @@ use Rattle.zk_judge.specs.declared.answers.Ending.{Ending}
 -- the reply of what is told
 abbrev pub reply_in : Option Told → Option Reply
 reply_in o = option_map (λ (t : Told). t.reply) o
+
+-- a reply that the tree does not decide, which has no notices
+abbrev pub said_of : Said → Told
+said_of s = only s.watches s.reply
 
 abbrev pub frame_as : FrameRead → Frame
 frame_as read.NoHeader = NoHeader

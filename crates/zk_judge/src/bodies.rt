@@ -55,5 +55,8 @@ pub fn copy_of_body(alloc: Global, body: &Body) -> Result<Body, Memory>
         }
         Body::OpenAcl(stat) => Body::OpenAcl(*stat),
         Body::Parts(parts) => Body::Parts(copy_of_results(alloc, parts.as_slice())?),
+        Body::PathStat(path, stat) => {
+            Body::PathStat(Text::copy_of(alloc, path.as_slice())?, *stat)
+        }
     })
 }

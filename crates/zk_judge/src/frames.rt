@@ -1,14 +1,14 @@
 //! The frames of a connection as requests, and their answers without the tree.
 
-ghost use Rattle.std.specs.Prelude.{◌≡◌, IfOk};
+ghost use Rattle.std.specs.Prelude.{◌≡◌, ℤ, false, Some, option_map, IfOk};
 ghost use Rattle.zk_model.specs.Watches.{no_watches};
-ghost use Rattle.zk_jute.specs.Requests.{read_request as read_request_of};
-ghost use Rattle.zk_transcript.specs.Answers.{plain_reply as plain_reply_of, plain_request as plain_request_of, xid_of as xid_of_of};
+ghost use Rattle.zk_jute.specs.Requests.{Asks, read_request as read_request_of};
+ghost use Rattle.zk_transcript.specs.Answers.{asks_of_watches as asks_of_watches_of, told_of_watches, plain_reply as plain_reply_of, plain_request as plain_request_of, xid_of as xid_of_of};
 ghost use Rattle.zk_transcript.specs.Walks.{has_header as has_header_of};
-ghost use Rattle.zk_judge.specs.Seen.{frame_as, reply_in};
+ghost use Rattle.zk_judge.specs.Seen.{frame_as, reply_in, said_of};
 
 use std::alloc::Global;
-use zk_answers::{Watches, plain_request};
+use zk_answers::{Watches, plain_request, watcher_answer};
 use zk_model::code::{MARSHALLING_ERROR, UNIMPLEMENTED};
 use zk_model::{Reply, Request};
 use zk_wire::{WireFault, read_request};
@@ -74,7 +74,7 @@ fn plain_answer(alloc: Global, request: &Request) -> Result<Option<Reply>, Memor
     }
 }
 
-/// The reply to a frame where the tree does not decide it. No watch has a part in it, and it arms none.
+/// The reply to a frame where the tree does not decide it and nothing is armed.
 pub fn plain_reply(alloc: Global, frame: &FrameRead) -> Result<Option<Reply>, Memory>
     ensures { IfOk result (λ o. o ≡ reply_in (plain_reply_of no_watches (frame_as frame.now))) }
 {
@@ -83,5 +83,93 @@ pub fn plain_reply(alloc: Global, frame: &FrameRead) -> Result<Option<Reply>, Me
         FrameRead::Unreadable { .. } => Ok(Some(Reply::Refused(MARSHALLING_ERROR))),
         FrameRead::Unknown { .. } => Ok(Some(Reply::Refused(UNIMPLEMENTED))),
         FrameRead::Asks { request, .. } => plain_answer(alloc, request),
+    }
+}
+
+/// Whether a frame is a checkWatches or a removeWatches, whose answer depends on what is armed.
+pub fn asks_of_watches(frame: &FrameRead) -> bool
+    ensures { result ≡ asks_of_watches_of (frame_as frame.now) }
+{
+    match frame {
+        FrameRead::Asks { request, .. } => match request {
+            Request::CheckWatches { .. } | Request::RemoveWatches { .. } => true,
+            _ => false,
+        },
+        FrameRead::NoHeader => false,
+        FrameRead::Unreadable { .. } => false,
+        FrameRead::Unknown { .. } => false,
+    }
+}
+
+/// A reply to a frame that the tree does not decide, and the watches after it.
+#[derive(Drop)]
+pub struct Said {
+    pub reply: Reply,
+    pub watches: Watches,
+}
+
+/// What is said to a checkWatches or, where `removes`, to a removeWatches.
+fn watcher_said(
+    alloc: Global,
+    watches: Watches,
+    text: &[u8],
+    kind: i32,
+    removes: bool,
+) -> Result<Option<Said>, Memory>
+    ensures { IfOk result (λ o. option_map said_of o ≡ Some (told_of_watches watches text.now kind removes)) }
+{
+    let told = watcher_answer(alloc, watches, text, kind, removes)?;
+    Ok(Some(Said {
+        reply: told.reply,
+        watches: told.watches,
+    }))
+}
+
+/// What is said to a request that is not about watches, where the tree does not decide it.
+fn other_said(alloc: Global, request: &Request, watches: Watches) -> Result<Option<Said>, Memory>
+    requires { (xid : ℤ) → asks_of_watches_of (Asks xid request.now) ≡ false }
+    ensures { IfOk result (λ o. option_map said_of o ≡ plain_request_of watches request.now) }
+{
+    match plain_answer(alloc, request)? {
+        Some(reply) => Ok(Some(Said { reply, watches })),
+        None => Ok(None),
+    }
+}
+
+#[tactic(auto, unfolding(zk_transcript::specs::Answers::plain_request))]
+fn request_said(alloc: Global, request: &Request, watches: Watches) -> Result<Option<Said>, Memory>
+    ensures { IfOk result (λ o. option_map said_of o ≡ plain_request_of watches request.now) }
+{
+    match request {
+        Request::CheckWatches { path, kind } => {
+            watcher_said(alloc, watches, path.as_slice(), *kind, false)
+        }
+        Request::RemoveWatches { path, kind } => {
+            watcher_said(alloc, watches, path.as_slice(), *kind, true)
+        }
+        _ => other_said(alloc, request, watches),
+    }
+}
+
+/// The reply to a frame where the tree does not decide it and these watches are armed, and the watches after it. They are not
+/// copied.
+pub fn plain_said(
+    alloc: Global,
+    frame: &FrameRead,
+    watches: Watches,
+) -> Result<Option<Said>, Memory>
+    ensures { IfOk result (λ o. option_map said_of o ≡ plain_reply_of watches (frame_as frame.now)) }
+{
+    match frame {
+        FrameRead::NoHeader => Ok(None),
+        FrameRead::Unreadable { .. } => Ok(Some(Said {
+            reply: Reply::Refused(MARSHALLING_ERROR),
+            watches,
+        })),
+        FrameRead::Unknown { .. } => Ok(Some(Said {
+            reply: Reply::Refused(UNIMPLEMENTED),
+            watches,
+        })),
+        FrameRead::Asks { request, .. } => request_said(alloc, request, watches),
     }
 }

@@ -14,7 +14,7 @@ ghost use Rattle.zk_answers.specs.Outcomes.{told_of};
 
 use crate::answers::{Ending, told_as_of};
 use crate::firing::fire_above;
-use crate::frames::{FrameRead, frame_of, has_header, plain_reply, xid_of};
+use crate::frames::{FrameRead, frame_of, has_header, plain_said, xid_of};
 use crate::index::Index;
 use crate::next_frame::NextFrame;
 use crate::packets::{Due, add_notices, reply_packet};
@@ -85,10 +85,26 @@ fn answer_frame_plainly(
     ensures { IfOk result (λ o. option_map step_of o ≡ answer_plainly_of (walker_of walker) (Some (place, bytes.now))) }
 {
     let frame = frame_of(alloc, bytes)?;
-    match plain_reply(alloc, &frame)? {
-        Some(answer) => {
-            let first = later_of(walker.since, place + 1);
-            Ok(Some(plain_answer(alloc, walker, first, &frame, answer)?))
+    let Walker {
+        zxid,
+        since,
+        watches,
+        next,
+        moment,
+        is_over,
+    } = walker;
+    match plain_said(alloc, &frame, watches)? {
+        Some(said) => {
+            let first = later_of(since, place + 1);
+            let walker = Walker {
+                zxid,
+                since,
+                watches: said.watches,
+                next,
+                moment,
+                is_over,
+            };
+            Ok(Some(plain_answer(alloc, walker, first, &frame, said.reply)?))
         }
         None => Ok(None),
     }

@@ -1,20 +1,20 @@
 //! The replies of a connection: those that frames get without the tree, and the moments to try for the others.
 
-ghost use Rattle.std.specs.Prelude.{◌≡◌, ◌<◌, ◌≤◌, ◌∷◌, [], Some, None, bytes_eq, if◌then◌else◌, length, option_map, option_to_list, IfOk, IfSome};
+ghost use Rattle.std.specs.Prelude.{◌≡◌, ◌||◌, ◌<◌, ◌≤◌, ◌∷◌, [], Some, None, bytes_eq, if◌then◌else◌, length, option_map, option_to_list, IfOk, IfSome};
 ghost use Rattle.std.specs.Ordering.{int_eq};
 ghost use Rattle.zk_jute.specs.Packets.{CanBeSent, reply_packet as reply_packet_of};
 ghost use Rattle.zk_model.specs.Codes.{session_expired};
-ghost use Rattle.zk_transcript.specs.Answers.{xid_of as xid_of_of};
+ghost use Rattle.zk_transcript.specs.Answers.{asks_of_watches as asks_of_watches_of, xid_of as xid_of_of};
 ghost use Rattle.zk_transcript.specs.History.{state_at};
 ghost use Rattle.zk_transcript.specs.Walks.{later_of as later_of_of, own_update as own_update_of, placed_frame as placed_frame_of};
 ghost use Rattle.zk_least.specs.LeastMoments.{code_in as code_in_of, lapsed_from as lapsed_from_of, moments_for, moments_to_try};
-ghost use Rattle.zk_least.specs.LeastWalk.{given as given_of, repeats as repeats_of, zxid_in as zxid_in_of};
+ghost use Rattle.zk_least.specs.LeastWalk.{given as given_of, is_answer, is_watch_answer, repeats as repeats_of, zxid_in as zxid_in_of};
 ghost use Rattle.zk_judge.specs.Fronts.{IsTold};
 ghost use Rattle.zk_judge.specs.Sent.{packets_in};
 ghost use Rattle.zk_judge.specs.Seen.{frame_as, left_by, step_of, walker_of};
 ghost use Rattle.zk_judge.specs.Waiting.{IsNotBefore, tried, tries_of};
 
-use crate::frames::{FrameRead, frame_of, plain_reply, xid_of};
+use crate::frames::{FrameRead, asks_of_watches, frame_of, plain_reply, xid_of};
 use crate::index::Index;
 use crate::packets::{code_in, come_first, reply_packet, zxid_in};
 use crate::places::lapsed_from;
@@ -23,8 +23,8 @@ use crate::steps::{answer_as_of, later_of};
 use crate::walker::{Party, Step, Walker};
 use std::alloc::Global;
 use zk_history::State;
-use zk_model::Reply;
-use zk_model::code::SESSION_EXPIRED;
+use zk_model::code::{NO_WATCHER, SESSION_EXPIRED};
+use zk_model::{Body, Reply};
 use zx_base::Memory;
 
 /// Whether a packet is this reply to a frame, with whatever zxid.
@@ -36,13 +36,49 @@ fn is_reply(alloc: Global, frame: &FrameRead, answer: &Reply, packet: &[u8]) -> 
     Ok(packet == wanted.as_slice())
 }
 
+/// Whether a packet is one of the replies that a checkWatches or removeWatches gets by what is armed, with whatever zxid.
+#[tactic(auto, using(crate::proofs::WatchAnswers::unasked, crate::proofs::WatchAnswers::found, crate::proofs::WatchAnswers::missed))]
+fn is_watch_reply(alloc: Global, frame: &FrameRead, packet: &[u8]) -> Result<bool, Memory>
+    ensures { IfOk result (λ b. b ≡ is_watch_answer (frame_as frame.now) packet.now (asks_of_watches_of (frame_as frame.now))) }
+{
+    let asked = asks_of_watches(frame);
+    if !asked {
+        return Ok(false);
+    }
+    let found = is_reply(alloc, frame, &Reply::Good(Body::Empty), packet)?;
+    if found {
+        return Ok(true);
+    }
+    let missed = is_reply(alloc, frame, &Reply::Refused(NO_WATCHER), packet)?;
+    Ok(missed)
+}
+
+/// Whether a packet is this reply to a frame, or one that such a frame gets by what is armed.
+#[tactic(auto, using(crate::proofs::WatchAnswers::either_first, crate::proofs::WatchAnswers::either_last))]
+fn is_either(
+    alloc: Global,
+    frame: &FrameRead,
+    answer: &Reply,
+    packet: &[u8],
+) -> Result<bool, Memory>
+    requires { CanBeSent answer.now }
+    ensures { IfOk result (λ b. b ≡ (is_answer (frame_as frame.now) packet.now answer.now || is_watch_answer (frame_as frame.now) packet.now (asks_of_watches_of (frame_as frame.now)))) }
+{
+    let alike = is_reply(alloc, frame, answer, packet)?;
+    if alike {
+        return Ok(true);
+    }
+    let watched = is_watch_reply(alloc, frame, packet)?;
+    Ok(watched)
+}
+
 /// Whether a reply is a frame's answer without the tree, with whatever zxid.
 fn is_plain(alloc: Global, bytes: &[u8], reply: &[u8]) -> Result<bool, Memory>
     ensures { IfOk result (λ b. b ≡ repeats_of (Some (0, bytes.now)) reply.now) }
 {
     let frame = frame_of(alloc, bytes)?;
     match plain_reply(alloc, &frame)? {
-        Some(answer) => is_reply(alloc, &frame, &answer, reply),
+        Some(answer) => is_either(alloc, &frame, &answer, reply),
         None => Ok(false),
     }
 }

@@ -1,31 +1,32 @@
 -- What a list of choices makes of the packets ahead: told updates alone, a reply that repeats the walker's zxid, or one as of a
 -- moment.
 use Rattle.std.proofs.Common.{◌≡◌, ℕ, ◌+◌, ◌<◌, List, [], ◌∷◌, ◌++◌, length, take, refl, sym, ap, ◌∙◌, subst, arith, Bool, true, false, ℤ, pos, inl, inr}
-use Rattle.std.specs.Prelude.{Option, Some, None, option_map, ◌&&◌, ◌⊎◌, ◌<ℤ◌, ◌≤ℤ◌, nat_le, int_lt, bytes_eq, if◌then◌else◌}
+use Rattle.std.specs.Prelude.{Option, Some, None, ◌&&◌, ◌||◌, ◌⊎◌, ◌<ℤ◌, ◌≤ℤ◌, nat_le, int_lt, bytes_eq, if◌then◌else◌}
 use Rattle.std.proofs.lemmas.Slice.Eq.{bytes_eq-Decides}
 use Rattle.std.proofs.lemmas.Bool.{and_parts}
 use Rattle.std.proofs.lemmas.Bool.Decides.{nat_tests}
 use Rattle.std.proofs.lemmas.Int.{ints}
+use Rattle.zk_model.specs.declared.reply.Body.TheVariants as body
 use Rattle.zk_model.specs.declared.reply.Reply.{Reply}
 use Rattle.zk_model.specs.declared.reply.Reply.TheVariants as reply
-use Rattle.zk_model.specs.Codes.{session_expired, session_moved}
+use Rattle.zk_model.specs.Codes.{no_watcher, session_expired, session_moved}
 use Rattle.zk_model.specs.Limits.{max_long}
 use Rattle.zk_model.specs.Watches.{Watches, no_watches}
 use Rattle.zk_jute.specs.Requests.{Frame, read_request}
 use Rattle.zk_jute.specs.Packets.{reply_packet}
 use Rattle.zk_transcript.specs.declared.transcript.UpdateRec.{UpdateRec}
 use Rattle.zk_transcript.specs.declared.transcript.TranscriptLine.{TranscriptLine}
-use Rattle.zk_transcript.specs.Answers.{Told, only, plain_reply, xid_of, session_refusal, owned_limit_in}
+use Rattle.zk_transcript.specs.Answers.{Told, asks_of_watches, only, plain_reply, xid_of, session_refusal, owned_limit_in}
 use Rattle.zk_transcript.specs.History.{State, state_at, session_at}
 use Rattle.zk_transcript.specs.Legal.{is_legal}
-use Rattle.zk_transcript.specs.Walks.{Walker, Choice, Tell, Plain, Answer, Due, move, walk, then_due, are_sent, is_walked, placed_frame, own_update, fired_above, later_of, with_end, looked, seen_told, told_by_state, told_as_of, answer_plainly, plain_answer, is_auth_refusal, all_choices, next_index, is_fresh, are_fresh}
+use Rattle.zk_transcript.specs.Walks.{Walker, Choice, Tell, Plain, Answer, Due, move, walk, then_due, are_sent, is_walked, placed_frame, own_update, fired_above, later_of, with_end, looked, seen_told, told_by_state, told_as_of, answer_plainly, plain_answer, due_notices, is_auth_refusal, all_choices, next_index, is_fresh, are_fresh}
 use Rattle.zk_transcript.proofs.Longer.{if_Some, move-index}
-use Rattle.zk_least.specs.LeastWalk.{zxid_in, is_notice, next_reply, rest_after, is_plain, repeats, plain_choice, HasZxids}
+use Rattle.zk_least.specs.LeastWalk.{zxid_in, is_notice, next_reply, rest_after, is_answer, is_watch_answer, is_plain, repeats, plain_choice, HasZxids}
 use Rattle.zk_least.specs.LeastMoments.{code_in}
 use Rattle.zk_least.proofs.Rising.{at-line, state-long, IsLong}
 use Rattle.zk_least.proofs.Sound.{IsGood, IsFresh}
 use Rattle.zk_least.proofs.ShortCodes.{is_fine, code_of, fine_told, plain-fine, IsShortCode, fine-short}
-use Rattle.zk_least.proofs.PlainReplies.{reply_in, plain-only}
+use Rattle.zk_transcript.proofs.PlainReplies.{plain-either, plain-quiet, plain-some, IsEither}
 use Rattle.zk_least.proofs.Headers.{reply-zxid, reply-code, not-notice}
 use Rattle.zk_least.proofs.Answering.{IsMade, made, are_notices, due-notices, fired-notices, reply-next, shown-reply}
 use Rattle.zk_least.proofs.SameAnswer.{refused-codes}
@@ -106,25 +107,26 @@ pub record IsPlainly (lines : List TranscriptLine) (c : ℕ) (w : Walker) (u : W
   pub bytes : List ℕ
   pub said : Told
   pub frame : placed_frame c w.next lines ≡ Some (place, bytes)
-  pub plain : plain_reply no_watches (read_request bytes) ≡ Some said
-  pub gives : ◌≡◌ {A = Walker × List Due} (record w { next = w.next + 1; over = is_auth_refusal said.reply }, (later_of w.since (place + 1), reply_packet (xid_of (read_request bytes)) w.zxid said.reply) ∷ []) u
+  pub plain : plain_reply w.watches (read_request bytes) ≡ Some said
+  pub gives : ◌≡◌ {A = Walker × List Due} (record w { watches = said.watches; next = w.next + 1; over = is_auth_refusal said.reply }, (later_of w.since (place + 1), reply_packet (xid_of (read_request bytes)) w.zxid said.reply) ∷ []) u
 
 pub plainly-by : (lines : List TranscriptLine) (c : ℕ) (id : ℤ) (w : Walker) (u : Walker × List Due) → move lines c id w Plain ≡ Some u → IsPlainly lines c w u
 unfolding move
 plainly-by lines c id w u h = by (placed_frame c w.next lines) refl (if_Some w.over _ u h)
   where
-    on : (f : ℕ × List ℕ) → placed_frame c w.next lines ≡ Some f → (o : Option Told) → plain_reply no_watches (read_request f.1) ≡ o
-        → plain_answer w (later_of w.since (f.0 + 1)) (xid_of (read_request f.1)) (option_map (only w.watches) (reply_in o)) ≡ Some u → IsPlainly lines c w u
+    on : (f : ℕ × List ℕ) → placed_frame c w.next lines ≡ Some f → (o : Option Told) → plain_reply w.watches (read_request f.1) ≡ o
+        → plain_answer w (later_of w.since (f.0 + 1)) (xid_of (read_request f.1)) o ≡ Some u → IsPlainly lines c w u
     on f e None p t = absurd (cc)
     on f e (Some r) p t =
-        let s : ◌≡◌ {A = Walker × List Due} (record w { next = w.next + 1; over = is_auth_refusal r.reply }, (later_of w.since (f.0 + 1), reply_packet (xid_of (read_request f.1)) w.zxid r.reply) ∷ []) u = cc in
-        record { place = f.0; bytes = f.1; said = r; frame = e; plain = p; gives = s }
+        let k = later_of w.since (f.0 + 1) in
+        let packet = (k, reply_packet (xid_of (read_request f.1)) w.zxid r.reply) in
+        let after = record w { watches = r.watches; next = w.next + 1; over = is_auth_refusal r.reply } in
+        let s : ◌≡◌ {A = Walker × List Due} (after, due_notices k r.notices ++ packet ∷ []) u = cc in
+        record { place = f.0; bytes = f.1; said = r; frame = e; plain = p; gives = sym (ap (λ ns. (after, due_notices k ns ++ packet ∷ [])) (plain-quiet w.watches (read_request f.1) r p)) ∙ s }
 
     by : (o : Option (ℕ × List ℕ)) → placed_frame c w.next lines ≡ o → answer_plainly w o ≡ Some u → IsPlainly lines c w u
     by None e t = absurd (cc)
-    by (Some f) e t =
-        on f e (plain_reply no_watches (read_request f.1)) refl
-        (ap (plain_answer w (later_of w.since (f.0 + 1)) (xid_of (read_request f.1))) (sym (plain-only w.watches (read_request f.1))) ∙ t)
+    by (Some f) e t = on f e (plain_reply w.watches (read_request f.1)) refl t
 
 -- ---- a reply as of a moment is none without the tree
 
@@ -157,10 +159,18 @@ no-bytes xid yid z y r t fine is = by (bytes_eq (reply_packet xid z t) (reply_pa
 
 is-not-plain : (x : Frame) (o : Option Told) (xid z : ℤ) (t : Reply) → plain_reply no_watches x ≡ o → ((r : Told) → o ≡ Some r → IsSessions t) → is_plain x o (reply_packet xid z t) ≡ false
 is-not-plain x None xid z t e h = refl
-is-not-plain x (Some r) xid z t e h = by (subst (λ o. fine_told o ≡ true) e (plain-fine no_watches x))
+is-not-plain x (Some r) xid z t e h =
+    ap (λ b. b || is_watch_answer x packet (asks_of_watches x)) (no-bytes xid (xid_of x) z (zxid_in packet) r.reply t (subst (λ o. fine_told o ≡ true) e (plain-fine no_watches x)) (h r refl))
+    ∙ by (asks_of_watches x)
   where
-    by : is_fine (code_of r.reply) ≡ true → bytes_eq (reply_packet xid z t) (reply_packet (xid_of x) (zxid_in (reply_packet xid z t)) r.reply) ≡ false
-    by fine = no-bytes xid (xid_of x) z (zxid_in (reply_packet xid z t)) r.reply t fine (h r refl)
+    packet : List ℕ
+    packet = reply_packet xid z t
+
+    by : (b : Bool) → is_watch_answer x packet b ≡ false
+    by false = refl
+    by true =
+        ap (λ b. b || is_answer x packet (reply.Refused no_watcher)) (no-bytes xid (xid_of x) z (zxid_in packet) (reply.Good body.Empty) t refl (h r refl))
+        ∙ no-bytes xid (xid_of x) z (zxid_in packet) (reply.Refused no_watcher) t refl (h r refl)
 
 with-some : (b : Bool) (o : Option Told) (t : Bool × Told) → with_end b o ≡ Some t → (v : Told) × (o ≡ Some v)
 with-some b None t h = absurd (cc)
@@ -177,8 +187,8 @@ seen-plain s c id x w t h r p = by (session_refusal c (session_at id s)) refl h
         elim (refused-codes c (session_at id s) q e) [ inl f ↦ inl (sym same ∙ f) | inr f ↦ inr (sym same ∙ f) ]
     by None e g =
         let v = with-some false (looked s (owned_limit_in (session_at id s)) id w x (plain_reply w x)) t g in
-        let plain : plain_reply w x ≡ Some (only w r.reply) = plain-only w x ∙ ap (λ o. option_map (only w) (reply_in o)) p in
-        let bad : looked s (owned_limit_in (session_at id s)) id w x (Some (only w r.reply)) ≡ Some v.0 = ap (looked s (owned_limit_in (session_at id s)) id w x) (sym plain) ∙ v.1 in
+        let plain = plain-some no_watches w x r p in
+        let bad : looked s (owned_limit_in (session_at id s)) id w x (Some plain.0) ≡ Some v.0 = ap (looked s (owned_limit_in (session_at id s)) id w x) (sym plain.1) ∙ v.1 in
         absurd (cc)
 
 told-plain : (lines : List TranscriptLine) (c i m k : ℕ) (id : ℤ) (bytes : List ℕ) (w : Watches) (own : Option (ℕ × UpdateRec)) (t : Bool × Told)
@@ -248,6 +258,29 @@ tell-choice w z h = (let e : int_lt w.zxid z ≡ true = grind (arith, nat_tests,
 plain-here : (w : Walker) (z : ℤ) → z ≡ w.zxid → plain_choice w z ≡ Plain
 plain-here w z h = (let e : int_lt w.zxid z ≡ false = grind (arith, nat_tests, ints) in ap (λ b. if b then Tell else Plain) e)
 
+-- the packet of an answer without the tree is one of those that are looked for
+is-plain : (x : Frame) (t : Told) (r : Reply) (z : ℤ) → zxid_in (reply_packet (xid_of x) z r) ≡ z → IsEither (asks_of_watches x) r t.reply → is_plain x (Some t) (reply_packet (xid_of x) z r) ≡ true
+is-plain x t r z back either = by either
+  where
+    bytes : List ℕ
+    bytes = reply_packet (xid_of x) z r
+
+    here : is_answer x bytes r ≡ true
+    here = ap (λ y. bytes_eq bytes (reply_packet (xid_of x) y r)) back ∙ (bytes_eq-Decides bytes bytes).1 refl
+
+    or-true : (a : Bool) → (a || true) ≡ true
+    or-true true = refl
+    or-true false = refl
+
+    watched : (b : Bool) → b ≡ true → (r ≡ reply.Good body.Empty) ⊎ (r ≡ reply.Refused no_watcher) → is_watch_answer x bytes b ≡ true
+    watched false e is = absurd (cc)
+    watched true e (inl is) = ap (λ b. b || is_answer x bytes (reply.Refused no_watcher)) (ap (is_answer x bytes) (sym is) ∙ here)
+    watched true e (inr is) = ap (λ b. is_answer x bytes (reply.Good body.Empty) || b) (ap (is_answer x bytes) (sym is) ∙ here) ∙ or-true (is_answer x bytes (reply.Good body.Empty))
+
+    by : IsEither (asks_of_watches x) r t.reply → is_plain x (Some t) bytes ≡ true
+    by (inl same) = ap (λ b. b || is_watch_answer x bytes (asks_of_watches x)) (ap (is_answer x bytes) (sym same) ∙ here)
+    by (inr other) = ap (λ b. is_answer x bytes t.reply || b) (watched (asks_of_watches x) other.0 other.1) ∙ or-true (is_answer x bytes t.reply)
+
 plain-ahead : (lines : List TranscriptLine) (c : ℕ) (id : ℤ) (w : Walker) (ps : List Due) (xs : List Choice) → InRange w → IsFirstOf lines c id w ps Plain xs → Ahead lines c id w ps (length (Plain ∷ xs))
 plain-ahead lines c id w ps xs r f =
     let q = plainly-by lines c id w f.made f.moved in
@@ -257,8 +290,10 @@ plain-ahead lines c id w ps xs r f =
     let back : zxid_in bytes ≡ w.zxid = reply-zxid (xid_of x) w.zxid q.said.reply long in
     let next : next_reply ps ≡ Some bytes =
     reply-next [] (later_of w.since (q.place + 1), bytes) ps f.rest refl (not-notice (xid_of x) w.zxid q.said.reply long) (ap (λ (p : Walker × List Due). rest_after p.1 ps) q.gives ∙ f.there) in
+    let none = plain-some w.watches no_watches x q.said q.plain in
     let again : repeats (placed_frame c w.next lines) bytes ≡ true =
-    ap (λ o. repeats o bytes) q.frame ∙ ap (λ o. is_plain x o bytes) q.plain ∙ ap (λ z. bytes_eq bytes (reply_packet (xid_of x) z q.said.reply)) back ∙ (bytes_eq-Decides bytes bytes).1 refl in
+    ap (λ o. repeats o bytes) q.frame ∙ ap (λ o. is_plain x o bytes) none.1
+    ∙ is-plain x none.0 q.said.reply w.zxid back (plain-either w.watches no_watches x q.said none.0 q.plain none.1) in
     Plainly bytes next again (omega (arith, ints, back)) (subst (IsAfter lines c id w ps (length (Plain ∷ xs))) (sym (plain-here w (zxid_in bytes) back)) (first-after lines c id w ps Plain xs f))
 
 answer-ahead : (lines : List TranscriptLine) (c : ℕ) (id : ℤ) (w : Walker) (ps : List Due) (m : ℕ) (xs : List Choice) → is_legal lines ≡ true → HasZxids lines → CarriedByTree lines c → IsFirstOf lines c id w ps (Answer m) xs → Ahead lines c id w ps (length (Answer m ∷ xs))

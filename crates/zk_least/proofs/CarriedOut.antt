@@ -3,6 +3,7 @@ use Rattle.std.proofs.Common.{◌≡◌, ℕ, List, length, take, drop, take-app
 use Rattle.std.specs.Prelude.{Option, Some, None, ◌&&◌, is_some, option_and_then, nat_le, nat_lt, ◌==◌, if◌then◌else◌}
 use Rattle.std.proofs.lemmas.Bool.{and_parts}
 use Rattle.std.proofs.lemmas.Bool.Decides.{nat_tests}
+use Rattle.zk_model.specs.declared.node.Stat.{Stat}
 use Rattle.zk_model.specs.declared.request.Part.{Part}
 use Rattle.zk_model.specs.declared.request.Part.TheVariants as part
 use Rattle.zk_model.specs.declared.request.Request.{Request}
@@ -18,7 +19,7 @@ use Rattle.zk_transcript.specs.declared.transcript.UpdateKind.TheVariants.{Begin
 use Rattle.zk_transcript.specs.declared.transcript.TranscriptLine.{TranscriptLine}
 use Rattle.zk_transcript.specs.declared.transcript.TranscriptLine.TheVariants.{Update, Open, Frame as FrameLine, Send, Lapse, Close}
 use Rattle.zk_transcript.specs.Answers.{Told, plain_reply, plain_request, told_refusal}
-use Rattle.zk_transcript.specs.History.{State, Session, state_at, asked_in, frame_shown, frame, request, commit, commit_single, asked_commit, attached_session, limit_of}
+use Rattle.zk_transcript.specs.History.{State, Session, state_at, asked_in, frame_shown, frame, request, commit, commit_single, commit_with_stat, made_stat, asked_commit, attached_session, limit_of}
 use Rattle.zk_transcript.specs.Legal.{is_legal, is_legal_line, is_next_zxid, may_update, is_close, is_within_parts}
 use Rattle.zk_transcript.specs.Walks.{own_update_in, own_update_shown, placed_frame}
 use Rattle.zk_transcript.proofs.Appending.{first_place-push}
@@ -33,6 +34,14 @@ unfolding single
 formed t limit session p z now w h = by (form_refusal p) (effect t limit session p z now) h
   where
     by : (o : Option ℤ) (e : Outcome) → is_some (commit_single (unless_refused o e)) ≡ true → told_refusal w o ≡ None
+    by None e h = refl
+    by (Some code) e h = absurd (cc)
+
+formed-with-stat : (t : Tree) (limit : ℕ) (session : ℤ) (p : Part) (z : ℤ) (now : ℕ) (x : Stat) (w : Watches) → is_some (commit_with_stat x (single t limit session p z now)) ≡ true → told_refusal w (form_refusal p) ≡ None
+unfolding single
+formed-with-stat t limit session p z now x w h = by (form_refusal p) (effect t limit session p z now) h
+  where
+    by : (o : Option ℤ) (e : Outcome) → is_some (commit_with_stat x (unless_refused o e)) ≡ true → told_refusal w o ≡ None
     by None e h = refl
     by (Some code) e h = absurd (cc)
 
@@ -63,6 +72,9 @@ committed-plain t limit session (req.Check p v) z now h w = absurd (cc)
 committed-plain t limit session (req.Auth k s a) z now h w = absurd (cc)
 committed-plain t limit session (req.SetWatches s e d c) z now h w = absurd (cc)
 committed-plain t limit session req.Close z now h w = absurd (cc)
+committed-plain t limit session (req.Create2 p d a f) z now h w = formed-with-stat t limit session (part.Create p d a f) z now (made_stat f d session z now) no_watches h
+committed-plain t limit session (req.CheckWatches p k) z now h w = absurd (cc)
+committed-plain t limit session (req.RemoveWatches p k) z now h w = absurd (cc)
 
 -- the request of a frame is not one that is answered without the tree
 record ByTree (before : List TranscriptLine) (c i : ℕ) : Type 0 where
@@ -96,6 +108,9 @@ close-plain (Some req.Ping) h = absurd (cc)
 close-plain (Some (req.Check p v)) h = absurd (cc)
 close-plain (Some (req.Auth k s a)) h = absurd (cc)
 close-plain (Some (req.SetWatches s e d c)) h = absurd (cc)
+close-plain (Some (req.Create2 p d a f)) h = absurd (cc)
+close-plain (Some (req.CheckWatches p k)) h = absurd (cc)
+close-plain (Some (req.RemoveWatches p k)) h = absurd (cc)
 
 closed-plain : (before : List TranscriptLine) (c i : ℕ) → is_close (request c i before) ≡ true → ByTree before c i
 unfolding plain_request

@@ -3,7 +3,6 @@ pub mod Sessions
 pub mod SameZxid
 pub mod Firing
 pub mod ShortCodes
-pub mod PlainReplies
 pub mod Headers
 pub mod FirstPlaces
 pub mod Sound

@@ -21,9 +21,9 @@ use Rattle.zk_model.specs.Paths.{parent}
 use Rattle.zk_model.specs.Znodes.{Tree, stat_of, child_names}
 use Rattle.zk_model.specs.Single.{Outcome, Refused, Done, single, form_refusal, effect, unless_refused, create_at, create_under, create_node, made_path, named, is_full, delete, set_data, check}
 use Rattle.zk_model.specs.Multi.{Parts, Stopped, Passed, several, settled, parts_of}
-use Rattle.zk_model.specs.Watches.{Watches}
+use Rattle.zk_model.specs.Watches.{Watches, is_watched, unwatched}
 use Rattle.zk_jute.specs.Requests.{Frame, NoHeader, Unreadable, Unknown, Asks}
-use Rattle.zk_transcript.specs.Answers.{Told, about, listing, refusal_of, checked, refusal_of_several, armed_data, armed_children, tree_reply, plain_request, plain_reply, told_refusal, told_of_path}
+use Rattle.zk_transcript.specs.Answers.{Told, about, listing, refusal_of, checked, refusal_of_several, armed_data, armed_children, tree_reply, plain_request, plain_reply, told_refusal, told_of_path, told_of_watcher, names_watches}
 
 -- a code that is no session's, in a short range
 abbrev pub is_fine : ℤ → Bool
@@ -153,6 +153,9 @@ tree-fine t limit session w (req.Multi parts) = several-fine w t limit session p
 tree-fine t limit session w req.Ping = refl
 tree-fine t limit session w (req.Auth k s a) = refl
 tree-fine t limit session w req.Close = refl
+tree-fine t limit session w (req.Create2 p d a f) = refusal-fine w (single t limit session (part.Create p d a f) (pos 0) 0) (single-fine t limit session (part.Create p d a f) (pos 0) 0)
+tree-fine t limit session w (req.CheckWatches p k) = refl
+tree-fine t limit session w (req.RemoveWatches p k) = refl
 
 -- ---- the answers without the tree
 
@@ -162,6 +165,11 @@ refused-fine w (Some c) h = h
 
 path-fine : (w : Watches) (p : Bytes) → fine_told (told_of_path w p) ≡ true
 path-fine w p = grind arith
+
+watcher-fine : (w rest : Watches) (valid hit : Bool) → fine_told (Some (told_of_watcher w rest valid hit)) ≡ true
+watcher-fine w rest false hit = refl
+watcher-fine w rest true false = refl
+watcher-fine w rest true true = refl
 
 request-fine : (w : Watches) (r : Request) → fine_told (plain_request w r) ≡ true
 unfolding plain_request
@@ -180,6 +188,9 @@ request-fine w (req.GetChildren2 p b) = path-fine w p
 request-fine w (req.Sync p) = path-fine w p
 request-fine w (req.SetWatches r e d c) = refl
 request-fine w req.Close = refl
+request-fine w (req.Create2 p d a f) = refused-fine w (form_refusal (part.Create p d a f)) (form-fine (part.Create p d a f))
+request-fine w (req.CheckWatches p k) = watcher-fine w w (names_watches p k) (is_watched w p k)
+request-fine w (req.RemoveWatches p k) = watcher-fine w (unwatched w p k) (names_watches p k) (is_watched w p k)
 
 pub plain-fine : (w : Watches) (x : Frame) → fine_told (plain_reply w x) ≡ true
 plain-fine w NoHeader = refl

@@ -1,17 +1,21 @@
 -- The least walk: a connection's walk with no choice left, read off its packets. A reply that the frame gets without the tree
 -- repeats the walker's zxid: before it updates are told until that is the reply's. Any other reply is given as of the least moment
 -- that allows it, and the updates up to its zxid are told with it. After the last reply updates are told until no packet is left.
-use Rattle.std.specs.Prelude.{◌≡◌, ℕ, zero, suc, ℤ, pos, negsuc, ◌+◌, ◌≤ℤ◌, Bool, false, ◌&&◌, List, [], ◌∷◌, length, take, drop, nat_le, int_lt, if◌then◌else◌, Option, Some, None, is_some, option_map, bytes_eq, slice_get, IsTrue}
+use Rattle.std.specs.Prelude.{◌≡◌, ℕ, zero, suc, ℤ, pos, negsuc, ◌+◌, ◌≤ℤ◌, Bool, true, false, ◌&&◌, ◌||◌, List, [], ◌∷◌, length, take, drop, nat_le, int_lt, if◌then◌else◌, Option, Some, None, is_some, option_map, bytes_eq, slice_get, IsTrue}
 use Rattle.std.specs.Int.{from_be_bytes, cast_signed, w64}
 use Rattle.std.specs.Ordering.{int_eq}
 use Rattle.zk_jute.specs.Requests.{Frame, read_request}
 use Rattle.zk_jute.specs.Packets.{reply_packet}
 use Rattle.zk_model.specs.Watches.{no_watches}
+use Rattle.zk_model.specs.Codes.{no_watcher}
+use Rattle.zk_model.specs.declared.reply.Body.TheVariants as body
+use Rattle.zk_model.specs.declared.reply.Reply.{Reply}
+use Rattle.zk_model.specs.declared.reply.Reply.TheVariants as reply
 use Rattle.zk_transcript.specs.declared.transcript.UpdateRec.{UpdateRec}
 use Rattle.zk_transcript.specs.declared.transcript.TranscriptLine.{TranscriptLine}
 use Rattle.zk_transcript.specs.declared.transcript.TranscriptLine.TheVariants.{Update}
 use Rattle.zk_transcript.specs.Legal.{Attachment, is_legal, attach_of}
-use Rattle.zk_transcript.specs.Answers.{Told, plain_reply, xid_of}
+use Rattle.zk_transcript.specs.Answers.{Told, asks_of_watches, plain_reply, xid_of}
 use Rattle.zk_transcript.specs.Walks.{Walker, Choice, Tell, Plain, Answer, Due, move, placed_frame, at_start, is_fresh, IsFreshWalk}
 use Rattle.zk_transcript.specs.Conversations.{IsInConnection, later_packets, IsLawfulAndFresh}
 
@@ -55,10 +59,19 @@ first_passing test m (suc n) = if test m then Some m else first_passing test (m 
 abbrev pub least_moment : List TranscriptLine → ℕ → ℤ → Walker → List Due → Option ℕ
 least_moment lines c id w ps = first_passing (is_allowed lines c id w ps) 0 (length lines)
 
--- the packet is the frame's answer without the tree, with whatever zxid; that answer does not depend on what is armed
+-- the packet is this answer to the frame, with whatever zxid
+abbrev pub is_answer : Frame → List ℕ → Reply → Bool
+is_answer x bytes r = bytes_eq bytes (reply_packet (xid_of x) (zxid_in bytes) r)
+
+-- the packet is one of the answers that a checkWatches or removeWatches gets by what is armed
+abbrev pub is_watch_answer : Frame → List ℕ → Bool → Bool
+is_watch_answer x bytes false = false
+is_watch_answer x bytes true = is_answer x bytes (reply.Good body.Empty) || is_answer x bytes (reply.Refused no_watcher)
+
+-- the packet is the frame's answer without the tree, with whatever zxid; of an answer that depends on what is armed, either one
 abbrev pub is_plain : Frame → Option Told → List ℕ → Bool
 is_plain x None bytes = false
-is_plain x (Some t) bytes = bytes_eq bytes (reply_packet (xid_of x) (zxid_in bytes) t.reply)
+is_plain x (Some t) bytes = is_answer x bytes t.reply || is_watch_answer x bytes (asks_of_watches x)
 
 abbrev pub repeats : Option (ℕ × List ℕ) → List ℕ → Bool
 repeats None bytes = false

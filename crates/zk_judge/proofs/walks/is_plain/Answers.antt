@@ -7,8 +7,8 @@ use Rattle.zk_judge.specs.Seen.{frame_as, reply_in}
 use Rattle.zk_judge.proofs.PlainAnswers.{plain-is, plain-is-not, plain-sent}
 use Rattle.zk_judge.proofs.walks.is_plain.Goals as goal
 
-pub is_reply-requires : goal.is_reply-requires
-is_reply-requires c = plain-sent (frame_as c.in_ok-frame.frame) c.in-Some.answer (sym c.in-Some.is ∙ c.in_ok-answer.ensures)
+pub is_either-requires : goal.is_either-requires
+is_either-requires c = plain-sent (frame_as c.in_ok-frame.frame) c.in-Some.answer (sym c.in-Some.is ∙ c.in_ok-answer.ensures)
 
 pub returns-in-Some : goal.returns-in-Some
 returns-in-Some c =
@@ -16,7 +16,7 @@ returns-in-Some c =
     let answered : Some c.in-Some.answer ≡ reply_in (plain_reply no_watches x) = sym c.in-Some.is ∙ c.in_ok-answer.ensures in
     let same =
     plain-is x (plain_reply no_watches x) c.in-Some.answer c.args.reply.now answered ∙ ap (λ (y : Frame). is_plain y (plain_reply no_watches y) c.args.reply.now) c.in_ok-frame.ensures in
-    subst (λ (b : Bool). IfOk c.is_reply.result (λ r. r ≡ b)) same c.is_reply.ensures
+    subst (λ (b : Bool). IfOk c.is_either.result (λ r. r ≡ b)) same c.is_either.ensures
 
 pub returns : goal.returns
 returns c =
