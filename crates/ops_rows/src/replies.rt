@@ -65,6 +65,12 @@ fn push_body(alloc: Global, text: &mut String, body: &Body) -> Result<(), Memory
             push_stat(alloc, text, stat)
         }
         Body::Parts(parts) => push_parts(alloc, text, parts.as_slice()),
+        Body::PathStat(path, stat) => {
+            push_word(text, "path")?;
+            push_word(text, word_of(path.as_slice()))?;
+            push_word(text, "stat")?;
+            push_stat(alloc, text, stat)
+        }
     }
 }
 

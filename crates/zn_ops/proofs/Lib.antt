@@ -1,3 +1,4 @@
 mod SingleRequests
 pub mod SessionTests
 mod Planning
+pub mod Unwatched

@@ -62,6 +62,9 @@ read_told t limit session w (req.Multi parts) read h = cc
 read_told t limit session w (req.Auth kind scheme auth) read h = cc
 read_told t limit session w (req.SetWatches since exists datas children) read h = cc
 read_told t limit session w req.Close read h = cc
+read_told t limit session w (req.Create2 p content acl flags) read h = cc
+read_told t limit session w (req.CheckWatches p kind) read h = cc
+read_told t limit session w (req.RemoveWatches p kind) read h = cc
 
 -- ---- what is no plan
 

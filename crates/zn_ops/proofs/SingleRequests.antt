@@ -32,6 +32,9 @@ plain_told (req.Multi parts) single update read = cc
 plain_told (req.Auth kind scheme auth) single update read = (_, refl)
 plain_told (req.SetWatches since exists datas children) single update read = cc
 plain_told req.Close single update read = cc
+plain_told (req.Create2 p content acl flags) single update read = cc
+plain_told (req.CheckWatches p kind) single update read = (_, refl)
+plain_told (req.RemoveWatches p kind) single update read = (_, refl)
 
 pub read-otherwise : (r : Request) → is_single r ≡ true → plain_request no_watches r ≡ None → is_update r ≡ false → is_read r ≡ true
 read-otherwise r single plain update = elim (is_read r) as (λ b. is_read r ≡ b → b ≡ true) [

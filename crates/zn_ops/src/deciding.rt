@@ -98,7 +98,8 @@ fn decide_by_session(
 
 /// Decides a request on a view that lacks nothing that the request reads, so that [`needs`](crate::needs) names nothing. The
 /// request is neither a multi nor a closeSession ([`is_single`](crate::is_single)), and its data is no longer than a frame may
-/// be ([`is_short`](crate::is_short)); of a setWatches the reply alone is decided. `now` is the time in milliseconds, below
+/// be ([`is_short`](crate::is_short)); of a setWatches the reply alone is decided, and of a checkWatches or removeWatches the answer
+/// where nothing is armed. `now` is the time in milliseconds, below
 /// 2^62; the session's number is at least 1.
 ///
 /// Where the request's form decides, the decision is that answer, on every view, also on one that no state has. Otherwise the

@@ -1,17 +1,18 @@
 //! What is answered by the form of a request alone.
 
-ghost use Rattle.std.specs.Prelude.{◌≡◌, ◌&&◌, not, IfOk};
+ghost use Rattle.std.specs.Prelude.{◌≡◌, ◌&&◌, false, not, IfOk};
 ghost use Rattle.zx_base.specs.Maps.{Bytes as ByteList, same};
 ghost use Rattle.zk_model.specs.declared.request.Part.TheVariants as part;
 ghost use Rattle.zk_model.specs.Paths.{is_path, root};
 ghost use Rattle.zk_model.specs.Single.{form_refusal, path_refusal};
-ghost use Rattle.zk_model.specs.Watches.{no_watches};
-ghost use Rattle.zk_transcript.specs.Answers.{plain_request, told_of_path, told_refusal};
+ghost use Rattle.zk_model.specs.Watches.{Watches, no_watches};
+ghost use Rattle.zk_transcript.specs.Answers.{names_watches, only, plain_request, told_of_path, told_of_watcher, told_refusal};
 ghost use Rattle.zn_ops.specs.Forms.{told_by};
 
 use std::alloc::Global;
-use zk_model::code::{AUTH_FAILED, BAD_ARGUMENTS};
+use zk_model::code::{AUTH_FAILED, BAD_ARGUMENTS, NO_WATCHER};
 use zk_model::limit::MAX_PARTS;
+use zk_model::watcher::is_watcher_type;
 use zk_model::{Acl, Body, Reply, Request};
 use zn_updates::{Form, create_form, inner_path, read_path};
 use zx_base::Memory;
@@ -64,8 +65,28 @@ fn refusal_of_path(alloc: Global, text: &[u8]) -> Result<Option<Reply>, Memory>
     Ok(refusal(path_refusal(alloc, text)?))
 }
 
+/// Whether a checkWatches or removeWatches is not refused for its path or its type.
+pub fn names_watches(alloc: Global, text: &[u8], kind: i32) -> Result<bool, Memory>
+    ensures { IfOk result (λ b. b ≡ names_watches text.now kind) }
+{
+    Ok(read_path(alloc, text, false)?.is_some() && is_watcher_type(kind))
+}
+
+/// The answer to a checkWatches or removeWatches where nothing is armed.
+fn unwatched(alloc: Global, text: &[u8], kind: i32) -> Result<Reply, Memory>
+    ensures { IfOk result (λ r. (rest : Watches) → only no_watches r ≡ told_of_watcher no_watches rest (names_watches text.now kind) false) }
+{
+    if names_watches(alloc, text, kind)? {
+        Ok(Reply::Refused(NO_WATCHER))
+    } else {
+        Ok(Reply::Refused(BAD_ARGUMENTS))
+    }
+}
+
 /// The answer to a request that its form decides: a ping, an `auth`, or a request that is refused for its form (an invalid path,
-/// flags or access list, a delete of the root, or a multi of more than 24 parts). `None` where the session and the tree decide.
+/// flags or access list, a delete of the root, or a multi of more than 24 parts). To a checkWatches or removeWatches it is the
+/// answer where nothing is armed: a connection that has watches armed answers these by them. `None` where the session and the tree
+/// decide.
 #[tactic(auto, unfolding(zk_transcript::specs::Answers::plain_request, zk_model::specs::Single::form_refusal))]
 pub fn plain_reply(alloc: Global, request: &Request) -> Result<Option<Reply>, Memory>
     ensures { IfOk result (λ reply. told_by reply ≡ plain_request no_watches request.now) }
@@ -81,6 +102,12 @@ pub fn plain_reply(alloc: Global, request: &Request) -> Result<Option<Reply>, Me
             flags,
             ..
         } => Ok(refusal(create_refusal(alloc, path.as_slice(), acl.as_slice(), *flags)?)),
+        Request::Create2 {
+            path,
+            acl,
+            flags,
+            ..
+        } => Ok(refusal(create_refusal(alloc, path.as_slice(), acl.as_slice(), *flags)?)),
         Request::Delete { path, .. } => Ok(refusal(delete_refusal(alloc, path.as_slice())?)),
         Request::SetData { path, .. }
         | Request::Check { path, .. }
@@ -90,6 +117,12 @@ pub fn plain_reply(alloc: Global, request: &Request) -> Result<Option<Reply>, Me
         | Request::GetChildren { path, .. }
         | Request::GetChildren2 { path, .. }
         | Request::Sync { path } => Ok(refusal_of_path(alloc, path.as_slice())?),
+        Request::CheckWatches { path, kind } => {
+            Ok(Some(unwatched(alloc, path.as_slice(), *kind)?))
+        }
+        Request::RemoveWatches { path, kind } => {
+            Ok(Some(unwatched(alloc, path.as_slice(), *kind)?))
+        }
         Request::Multi { .. } | Request::SetWatches { .. } | Request::Close => Ok(None),
     }
 }

@@ -16,6 +16,7 @@ pub fn is_single(request: &Request) -> bool
     match request {
         Request::Multi { .. } | Request::Close => false,
         Request::Create { .. }
+        | Request::Create2 { .. }
         | Request::Delete { .. }
         | Request::Exists { .. }
         | Request::GetData { .. }
@@ -27,19 +28,22 @@ pub fn is_single(request: &Request) -> bool
         | Request::Ping
         | Request::Check { .. }
         | Request::Auth { .. }
-        | Request::SetWatches { .. } => true,
+        | Request::SetWatches { .. }
+        | Request::CheckWatches { .. }
+        | Request::RemoveWatches { .. } => true,
     }
 }
 
-/// Whether a create's or a setData's data has at most 1,048,575 bytes, as [`decide`](crate::decide) requires. Any other request
+/// Whether the data of a create, with or without Stat, or of a setData has at most 1,048,575 bytes, as
+/// [`decide`](crate::decide) requires. Any other request
 /// is short.
 pub fn is_short(request: &Request) -> bool
     ensures { IsTrue result ↔ length (content_in request.now) ≤ max_frame }
 {
     match request {
-        Request::Create { content, .. } | Request::SetData { content, .. } => {
-            content.len() <= MAX_FRAME
-        }
+        Request::Create { content, .. }
+        | Request::Create2 { content, .. }
+        | Request::SetData { content, .. } => content.len() <= MAX_FRAME,
         Request::Delete { .. }
         | Request::Exists { .. }
         | Request::GetData { .. }
@@ -52,16 +56,21 @@ pub fn is_short(request: &Request) -> bool
         | Request::Multi { .. }
         | Request::Auth { .. }
         | Request::SetWatches { .. }
-        | Request::Close => true,
+        | Request::Close
+        | Request::CheckWatches { .. }
+        | Request::RemoveWatches { .. } => true,
     }
 }
 
-/// Whether this is a create, a delete or a setData.
+/// Whether this is a create, with or without Stat, a delete or a setData.
 pub(crate) fn is_update(request: &Request) -> bool
     ensures { result ≡ is_update request.now }
 {
     match request {
-        Request::Create { .. } | Request::Delete { .. } | Request::SetData { .. } => true,
+        Request::Create { .. }
+        | Request::Create2 { .. }
+        | Request::Delete { .. }
+        | Request::SetData { .. } => true,
         Request::Exists { .. }
         | Request::GetData { .. }
         | Request::GetAcl { .. }
@@ -73,7 +82,9 @@ pub(crate) fn is_update(request: &Request) -> bool
         | Request::Multi { .. }
         | Request::Auth { .. }
         | Request::SetWatches { .. }
-        | Request::Close => false,
+        | Request::Close
+        | Request::CheckWatches { .. }
+        | Request::RemoveWatches { .. } => false,
     }
 }
 
@@ -91,11 +102,14 @@ pub(crate) fn is_read(request: &Request) -> bool
         | Request::Check { .. }
         | Request::SetWatches { .. } => true,
         Request::Create { .. }
+        | Request::Create2 { .. }
         | Request::Delete { .. }
         | Request::SetData { .. }
         | Request::Ping
         | Request::Multi { .. }
         | Request::Auth { .. }
-        | Request::Close => false,
+        | Request::Close
+        | Request::CheckWatches { .. }
+        | Request::RemoveWatches { .. } => false,
     }
 }

@@ -51,6 +51,9 @@ remaining-read (req.Multi parts) v d h other is = cc
 remaining-read (req.Auth kind scheme auth) v d h other is = cc
 remaining-read (req.SetWatches since exists datas children) v d h other is = subst (λ (x : Decision). IsReadDecision (req.SetWatches since exists datas children) v x) (sym is) (set_watches_read since exists datas children v)
 remaining-read req.Close v d h other is = cc
+remaining-read (req.Create2 p content acl flags) v d h other is = cc
+remaining-read (req.CheckWatches p kind) v d h other is = cc
+remaining-read (req.RemoveWatches p kind) v d h other is = cc
 
 pub remaining-none : (r : Request) → is_read r ≡ true → IsNoOther r → ((since : ℤ) (exists datas children : List Bytes) → r ≡ req.SetWatches since exists datas children → ⊥) → ⊥
 remaining-none (req.Create p content acl flags) h other set = cc
@@ -68,3 +71,6 @@ remaining-none (req.Multi parts) h other set = cc
 remaining-none (req.Auth kind scheme auth) h other set = cc
 remaining-none (req.SetWatches since exists datas children) h other set = set since exists datas children refl
 remaining-none req.Close h other set = cc
+remaining-none (req.Create2 p content acl flags) h other set = cc
+remaining-none (req.CheckWatches p kind) h other set = cc
+remaining-none (req.RemoveWatches p kind) h other set = cc

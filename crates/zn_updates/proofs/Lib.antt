@@ -26,3 +26,4 @@ pub mod Plans
 pub mod DeleteClauses
 pub mod CreateClauses
 pub mod Writing
+pub mod WithStat

@@ -34,9 +34,10 @@ use Rattle.zn_updates.specs.Choices.{Choice, Refuse, Make, set_data_choice, dele
 use Rattle.zn_updates.specs.KeysRead.{set_data_keys, delete_keys, create_keys}
 use Rattle.zn_updates.specs.Making.{IsDataSeen, IsCountsSeen, IsPathsSeen, has_found}
 
--- whether a request is a create, a delete or a setData
+-- whether a request is a create, with or without Stat, a delete or a setData
 abbrev pub is_update : Request → Bool
 is_update (req.Create p d a f) = true
+is_update (req.Create2 p d a f) = true
 is_update (req.Delete p v) = true
 is_update (req.SetData p d v) = true
 is_update _ = false
@@ -153,9 +154,10 @@ abbrev pub IsCreate : View → Bytes → Bytes → ℕ → Bool → Bool → ℤ
 IsCreate v path content now sequential ephemeral session None d = d ≡ decision_of v (Refuse node_exists)
 IsCreate v path content now sequential ephemeral session (Some q) d = IsCreateBelow v path content now sequential ephemeral session q d
 
--- the data of a create or a setData; other requests have none
+-- the data of a create, a create2 or a setData; other requests have none
 abbrev pub content_in : Request → Bytes
 content_in (req.Create p d a f) = d
+content_in (req.Create2 p d a f) = d
 content_in (req.SetData p d v) = d
 content_in _ = []
 

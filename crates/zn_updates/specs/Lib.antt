@@ -9,3 +9,4 @@ pub mod Layers
 pub mod Deciding
 pub mod Parts
 pub mod Writing
+pub mod WithStat

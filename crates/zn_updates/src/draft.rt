@@ -67,6 +67,7 @@ fn own_body(alloc: Global, zxid: i64, body: Body) -> Result<Body, Memory>
         Body::Names(names) => Ok(Body::Names(names)),
         Body::NamesStat(names, stat) => Ok(Body::NamesStat(names, stat)),
         Body::OpenAcl(stat) => Ok(Body::OpenAcl(stat)),
+        Body::PathStat(path, stat) => Ok(Body::PathStat(path, own_stat(zxid, stat))),
     }
 }
 

@@ -19,6 +19,7 @@
 mod changes;
 mod chosen;
 mod create;
+mod create2;
 mod delete;
 mod draft;
 mod form;

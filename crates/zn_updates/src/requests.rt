@@ -1,4 +1,4 @@
-//! The three requests that are updates.
+//! The requests that are updates.
 
 ghost use Rattle.std.specs.Prelude.{◌^◌, ◌<◌, ◌≡◌, ◌≤◌, ◌≤ℤ◌, pos, length, true, IfOk, IsTrue};
 ghost use Rattle.zk_model.specs.Limits.{max_frame};
@@ -8,6 +8,7 @@ ghost use Rattle.zn_updates.specs.Deciding.{content_in, is_update, IsBySound, Is
 ghost use Rattle.zn_updates.specs.Writing.{WritesAs};
 
 use crate::create::{create_needs, decide_create};
+use crate::create2::{create2_needs, decide_create2};
 use crate::delete::{decide_delete, delete_needs};
 use crate::set_data::{decide_set_data, set_data_needs};
 use std::alloc::Global;
@@ -15,8 +16,8 @@ use zk_model::Request;
 use zn_view::{Decision, View, Want, Who};
 use zx_base::{Memory, Seq};
 
-/// What a create, a delete or a setData still has to read, as far as the view determines it: nothing where the view has it all,
-/// and where the request is refused by its form. The session's number is at least 1.
+/// What a create, with or without Stat, a delete or a setData still has to read, as far as the view determines it: nothing
+/// where the view has it all, and where the request is refused by its form. The session's number is at least 1.
 pub fn update_needs(
     alloc: Global,
     request: &Request,
@@ -34,14 +35,20 @@ pub fn update_needs(
             flags,
             ..
         } => create_needs(alloc, path.as_slice(), acl.as_slice(), *flags, who, view),
+        Request::Create2 {
+            path,
+            acl,
+            flags,
+            ..
+        } => create2_needs(alloc, path.as_slice(), acl.as_slice(), *flags, who, view),
         Request::Delete { path, .. } => delete_needs(alloc, path.as_slice(), who, view),
         Request::SetData { path, .. } => set_data_needs(alloc, path.as_slice(), who, view),
         _ => unreachable!(),
     }
 }
 
-/// Decides a create, a delete or a setData of a session that is open, on a view that lacks nothing that the request reads. The
-/// caller tests the session. `now` is in milliseconds since 1970, below 2^62; the session's number is at least 1.
+/// Decides a create, with or without Stat, a delete or a setData of a session that is open, on a view that lacks nothing that
+/// the request reads. The caller tests the session. `now` is in milliseconds since 1970, below 2^62; the session's number is at least 1.
 pub fn decide_update(
     alloc: Global,
     request: &Request,
@@ -67,6 +74,21 @@ pub fn decide_update(
             acl,
             flags,
         } => decide_create(
+            alloc,
+            path.as_slice(),
+            content.as_slice(),
+            acl.as_slice(),
+            *flags,
+            who,
+            now,
+            view,
+        ),
+        Request::Create2 {
+            path,
+            content,
+            acl,
+            flags,
+        } => decide_create2(
             alloc,
             path.as_slice(),
             content.as_slice(),

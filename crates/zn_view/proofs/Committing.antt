@@ -61,6 +61,9 @@ next-done s z session (req.Check p v) now ts made e t = next-committed s z ts (d
 next-done s z session (req.Auth kind scheme auth) now ts made e t = next-committed s z ts (done_by s z session (req.Auth kind scheme auth) now) made e t
 next-done s z session (req.SetWatches since exists datas children) now ts made e t = next-committed s z ts (done_by s z session (req.SetWatches since exists datas children) now) made e t
 next-done s z session req.Close now ts made e t = next-closed s z session now ts made e t
+next-done s z session (req.Create2 p d a f) now ts made e t = next-committed s z ts (done_by s z session (req.Create2 p d a f) now) made e t
+next-done s z session (req.CheckWatches p k) now ts made e t = next-committed s z ts (done_by s z session (req.CheckWatches p k) now) made e t
+next-done s z session (req.RemoveWatches p k) now ts made e t = next-committed s z ts (done_by s z session (req.RemoveWatches p k) now) made e t
 
 -- What is to be shown of a request: where keys have what the view saw, its changes are those of the update.
 pub plan-commits : (r : Request) (who : Who) (now : ℕ) (v : View) (p : Plan) (finish : ℤ → Reply) (cs : List KeyChange)

@@ -103,9 +103,10 @@ PutsNewKeys v p = (m : Keys) (s : State) → IsSound s → StandsFor m s → May
 
 -- ---- which updates are planned on a kept view
 
--- the path of a create that is not sequential, of a delete, or of a setData
+-- the path of a create or create2 that is not sequential, of a delete, or of a setData
 abbrev pub update_path : Request → Option Bytes
 update_path (req.Create p d a f) = if is_sequential f then None else Some p
+update_path (req.Create2 p d a f) = if is_sequential f then None else Some p
 update_path (req.Delete p v) = Some p
 update_path (req.SetData p d v) = Some p
 update_path _ = None

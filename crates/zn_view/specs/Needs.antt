@@ -88,6 +88,8 @@ FollowsFrom id v before (p ∷ parts) w = ((form_refusal p ≡ None) × FollowsP
 abbrev pub Follows : Request → ℤ → View → Want → Type 0
 Follows (req.Create p d a f) id v w =
     IsTrue (is_sequential f) × (q : Bytes) × (parent (with_one p) ≡ Some q) × (r : CountRec) × SawCounts v q r × (w ≡ key_want (DataKey (sequence_path p (nat_abs r.creates))))
+Follows (req.Create2 p d a f) id v w =
+    IsTrue (is_sequential f) × (q : Bytes) × (parent (with_one p) ≡ Some q) × (r : CountRec) × SawCounts v q r × (w ≡ key_want (DataKey (sequence_path p (nat_abs r.creates))))
 Follows (req.Delete p x) id v w = FollowsOwner v p w
 Follows (req.GetChildren p x) id v w = w ≡ want.Children p
 Follows (req.GetChildren2 p x) id v w = w ≡ want.Children p
@@ -145,6 +147,7 @@ own_result zxid (result.Code c) = result.Code c
 
 abbrev pub own_body : ℤ → Body → Body
 own_body zxid (body.Stat s) = body.Stat (own_stat zxid s)
+own_body zxid (body.PathStat p s) = body.PathStat p (own_stat zxid s)
 own_body zxid (body.Parts rs) = body.Parts (map (own_result zxid) rs)
 own_body zxid b = b
 

@@ -98,6 +98,7 @@ part_reads id p = if is_some (form_refusal p) then [] else part_keys id p
 -- The keys that follow from the request alone; a multi reads what its parts read.
 unfoldable pub reads : Request → ℤ → List Key
 reads (req.Create p d a f) id = about_parent (parent (named f p)) ++ own_data f p ++ own_nodes f id
+reads (req.Create2 p d a f) id = about_parent (parent (named f p)) ++ own_data f p ++ own_nodes f id
 reads (req.Delete p v) id = about_path p ++ counts_of_parent (parent p)
 reads (req.SetData p d v) id = about_path p
 reads (req.Exists p w) id = about_path p
@@ -111,6 +112,8 @@ reads req.Close id = SessionKey (nat_abs id) ∷ []
 reads (req.Sync p) id = []
 reads req.Ping id = []
 reads (req.Auth kind scheme auth) id = []
+reads (req.CheckWatches p kind) id = []
+reads (req.RemoveWatches p kind) id = []
 reads (req.Multi parts) id = flat_map (part_reads id) parts
 
 -- ---- what a decision is worth
