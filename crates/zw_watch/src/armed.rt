@@ -1,7 +1,7 @@
 //! The armed watches of a connection.
 
-ghost use Rattle.std.specs.Prelude.{◌≡◌, IfOk, OnOk, OnErr};
-ghost use Rattle.zk_model.specs.Watches.{no_watches, is_unarmed, fire};
+ghost use Rattle.std.specs.Prelude.{◌≡◌, IfOk, OnOk, OnErr, IsTrue};
+ghost use Rattle.zk_model.specs.Watches.{no_watches, is_unarmed, fire, is_watched, is_watcher_type, unwatched};
 ghost use Rattle.zw_watch.specs.Armed.{armed, fired_of};
 ghost use Rattle.zw_watch.specs.SeenPaths.{see_paths, unseen, IsSetWatches};
 
@@ -57,6 +57,25 @@ impl Armed {
         ensures err { OnErr result (self.new ≡ self.old) }
     {
         self.paths.arm(self.alloc, path.bytes(), child)
+    }
+
+    /// Whether a watch of this type is armed on this path: 1 is a child watch, 2 a data watch, 3 either (`Watcher.WatcherType`,
+    /// release 3.5; a checkWatches asks it).
+    pub fn has(&self, path: &Path, kind: i32) -> bool
+        requires { IsTrue (is_watcher_type kind) }
+        ensures { result ≡ is_watched self.now path.now kind }
+    {
+        self.paths.has(path.bytes(), kind)
+    }
+
+    /// Takes the watches of this type away that are armed on this path, and says whether there was one (a removeWatches asks for
+    /// it). The types are those of [`Armed::has`].
+    pub fn remove(&mut self, path: &Path, kind: i32) -> bool
+        requires { IsTrue (is_watcher_type kind) }
+        ensures rest { self.new ≡ unwatched self.old path.now kind }
+        ensures was { result ≡ is_watched self.old path.now kind }
+    {
+        self.paths.remove(path.bytes(), kind)
     }
 
     /// Fires the watches that a change hits. They are no longer armed, and give one notice, also where both watches of a deleted

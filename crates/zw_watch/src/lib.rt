@@ -2,7 +2,8 @@
 //! Guide, "ZooKeeper Watches").
 //!
 //! Each connection keeps an [`Armed`]. A read that asks for a watch calls [`Armed::arm`], each change of the tree
-//! [`Armed::fire`], and a setWatches [`Armed::rearm`], with what was seen at each of its paths ([`SeenPath`]).
+//! [`Armed::fire`], and a setWatches [`Armed::rearm`], with what was seen at each of its paths ([`SeenPath`]). A checkWatches
+//! asks [`Armed::has`], and a removeWatches [`Armed::remove`].
 //!
 //! The paths stand in two ordered sets, so a call takes time in proportion to the logarithm of the number of armed paths, and a
 //! setWatches that for each of its paths. Arming copies the path; firing copies the path that it tells, and takes no other memory.

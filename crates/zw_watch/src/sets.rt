@@ -2,12 +2,13 @@
 
 ghost use Rattle.std.specs.Prelude.{◌≡◌, ◌||◌, IfOk, OnOk, OnErr};
 ghost use Rattle.std.specs.FinMap.{contains_key};
-ghost use Rattle.zk_model.specs.Watches.{no_watches, is_unarmed, fired_data, fired_children, fire, note};
+ghost use Rattle.zk_model.specs.Watches.{no_watches, is_unarmed, fired_data, fired_children, fire, is_watched, note, unwatched};
 ghost use Rattle.zw_watch.specs.Armed.{armed, fired_of, watches_of};
 
 use crate::notices::{CHANGED, CHILDREN, CREATED, DELETED, note};
 use crate::paths::PathSet;
 use std::alloc::Global;
+use zk_model::watcher::{names_children, names_data};
 use zk_model::{Notice, Trigger};
 use zx_base::Memory;
 
@@ -46,6 +47,29 @@ impl PathSets {
         } else {
             self.on_data.insert(alloc, path)
         }
+    }
+
+    /// Whether the path has a watch of this type.
+    pub(crate) fn has(&self, path: &[u8], kind: i32) -> bool
+        ensures { result ≡ is_watched (watches_of self.now) path.now kind }
+    {
+        (names_children(kind) && self.on_children.contains(path))
+            || (names_data(kind) && self.on_data.contains(path))
+    }
+
+    /// Takes the path's watches of this type away, and says whether there was one.
+    pub(crate) fn remove(&mut self, path: &[u8], kind: i32) -> bool
+        ensures rest { watches_of self.new ≡ unwatched (watches_of self.old) path.now kind }
+        ensures was { result ≡ is_watched (watches_of self.old) path.now kind }
+    {
+        let was = self.has(path, kind);
+        if names_data(kind) {
+            self.on_data.remove(path);
+        }
+        if names_children(kind) {
+            self.on_children.remove(path);
+        }
+        was
     }
 
     /// Fires the path's data watch, if there is one.
