@@ -18,6 +18,7 @@ IsShort content = length content ≤ max_frame
 
 content_by : (r : Request) → AllByRecursion IsShort (contents_of r) → IsShort (content_in r)
 content_by (req.Create path content acl flags) h = h.0
+content_by (req.Create2 path content acl flags) h = h.0
 content_by (req.SetData path content version) h = h.0
 content_by _ h = omega arith
 

@@ -13,7 +13,7 @@ use Rattle.zk_jute.specs.Records.{contents_of}
 use Rattle.zk_jute.specs.Requests.{Frame, NoHeader, Unreadable, Unknown, Asks, read_request}
 use Rattle.zk_jute.proofs.Contents.{contents_within}
 use Rattle.zk_model.specs.Limits.{max_frame}
-use Rattle.zk_model.specs.Watches.{Watches, no_watches}
+use Rattle.zk_model.specs.Watches.{Watches}
 use Rattle.zk_model.specs.declared.connect.ConnectRequest.{ConnectRequest}
 use Rattle.zk_model.specs.declared.request.Request.{Request}
 use Rattle.zk_transcript.specs.Answers.{Told, plain_reply, xid_of}
@@ -116,7 +116,7 @@ module _ (c : Core) (real : IsReal c.who.session) (frames : All IsFrame c.waitin
 
     readable-held : (x : Frame) (o : Option Told) → ((xid : ℤ) (r : Request) → x ≡ Asks xid r → IsRequest r) → TakesReadable c now c' out x o → IsHeld c'
     readable-held x (Some t) known h =
-        is-held (plainly c (xid_of x) t.reply) c' out h (after-held c real frames (end_of_plain (is_auth_refusal t.reply)) c.zxid c.cursor c.watches (counted_up (c.next + 1)))
+        is-held (plainly c (xid_of x) t) c' out h (after-held c real frames (end_of_plain (is_auth_refusal t.reply)) c.zxid c.cursor t.watches (counted_up (c.next + 1)))
     readable-held (Asks xid r) None known h = go (first-or-anew c c' xid r now out (update_path r) h)
       where
         go : PlansBeside c xid r now c' out ⊎ Looks c xid r empty_view now c' out → IsHeld c'
@@ -127,7 +127,7 @@ module _ (c : Core) (real : IsReal c.who.session) (frames : All IsFrame c.waitin
     readable-held (Unknown xid kind) None known h = absurd h
 
     pub takes-held : (bytes : List ℕ) → IsFrame bytes → TakesFrame c bytes now c' out → IsHeld c'
-    takes-held bytes f h = readable-held (read_request bytes) (plain_reply no_watches (read_request bytes)) (λ xid r read. request-of bytes xid r f read) h
+    takes-held bytes f h = readable-held (read_request bytes) (plain_reply c.watches (read_request bytes)) (λ xid r read. request-of bytes xid r f read) h
 
     pub takes_up-held : (bytes : List ℕ) → IsFrame bytes → TakesUp c bytes now c' out → IsHeld c'
     takes_up-held bytes f h =

@@ -16,3 +16,4 @@ pub mod Passing
 pub mod Tasks
 pub mod StillLacking
 pub mod Fronts
+pub mod Watching

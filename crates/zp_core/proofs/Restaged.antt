@@ -9,7 +9,6 @@ use Rattle.ev_types.specs.declared.answer.Answer.{Answer}
 use Rattle.ev_types.specs.declared.answer.Answer.TheVariants as answer
 use Rattle.ev_types.specs.declared.answer.Kv.{Kv}
 use Rattle.zk_jute.specs.Requests.{Frame, NoHeader, Unreadable, Unknown, Asks, read_request}
-use Rattle.zk_model.specs.Watches.{no_watches}
 use Rattle.zk_model.specs.declared.connect.ConnectRequest.{ConnectRequest}
 use Rattle.zk_model.specs.declared.request.Request.{Request}
 use Rattle.zk_transcript.specs.Answers.{Told, plain_reply, xid_of}
@@ -75,7 +74,7 @@ module _ (c : Core) (s : Stage) (c' : Core) (out : List Action) where
   readable-at now (Unknown xid kind) None h = h
 
   pub takes-at : (bytes : List ℕ) (now : ℕ) → TakesFrame (record c { stage = s }) bytes now c' out → TakesFrame c bytes now c' out
-  takes-at bytes now h = readable-at now (read_request bytes) (plain_reply no_watches (read_request bytes)) h
+  takes-at bytes now h = readable-at now (read_request bytes) (plain_reply c.watches (read_request bytes)) h
 
   -- ---- by the answer to what was asked
 

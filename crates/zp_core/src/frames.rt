@@ -1,9 +1,8 @@
 //! How a frame is taken up: what needs no tree is answered at once, and anything else is looked up.
 
-ghost use Rattle.std.specs.Prelude.{◌≡◌, ◌≤ℤ◌, pos, IfOk, ◌<◌, ◌^◌};
+ghost use Rattle.std.specs.Prelude.{◌≡◌, ◌≤ℤ◌, false, pos, IfOk, ◌<◌, ◌^◌};
 ghost use Rattle.zk_jute.specs.Requests.{Asks, read_request as read_as};
-ghost use Rattle.zk_model.specs.Watches.{no_watches};
-ghost use Rattle.zk_transcript.specs.Answers.{plain_request, xid_of as xid_in};
+ghost use Rattle.zk_transcript.specs.Answers.{asks_of_watches, only, plain_request, told_of_watches, xid_of as xid_in};
 ghost use Rattle.zk_transcript.specs.Walks.{is_auth_refusal};
 ghost use Rattle.zp_step.specs.Replies.{Is};
 ghost use Rattle.zp_step.specs.Taking.{TakesFrame, TakesReadable, plainly, end_of_plain};
@@ -12,14 +11,17 @@ ghost use Rattle.zp_core.specs.Meanings.{Leads, ready};
 
 use crate::at_once::{begun, look_first};
 use crate::client::Client;
-use crate::moves::{Move, end_after, only};
+use crate::moves::{Move, end_after, only as just};
 use crate::packets::send_reply;
 use std::alloc::Global;
-use zk_model::code::{AUTH_FAILED, MARSHALLING_ERROR, UNIMPLEMENTED};
-use zk_model::{Reply, Request};
+use zk_model::code::{AUTH_FAILED, BAD_ARGUMENTS, MARSHALLING_ERROR, NO_WATCHER, UNIMPLEMENTED};
+use zk_model::watcher::is_watcher_type;
+use zk_model::{Body, Reply, Request};
 use zk_transcript::Cause;
 use zk_wire::{WireFault, read_request};
 use zn_ops::plain_reply;
+use zn_updates::read_path;
+use zw_watch::Armed;
 use zx_base::Memory;
 
 /// The connection is closed after it has refused an `auth`.
@@ -32,20 +34,82 @@ fn end_of(reply: &Reply) -> Option<Cause>
     }
 }
 
-/// Sends a reply that needs no tree.
+/// Sends a reply that needs no tree, and changes nothing that is armed.
 fn answer_plainly(
     alloc: Global,
     client: &mut Client,
     xid: i32,
     reply: &Reply,
 ) -> Result<Move, Memory>
-    ensures { IfOk result (Leads (Is (plainly (ready client.old) xid reply.now)) client.new) }
+    ensures { IfOk result (Leads (Is (plainly (ready client.old) xid (only client.old.watches reply.now))) client.new) }
 {
-    let actions = only(alloc, send_reply(alloc, xid, client.zxid, reply)?)?;
+    let actions = just(alloc, send_reply(alloc, xid, client.zxid, reply)?)?;
     client.next = client.next.saturating_add(1);
     end_after(actions, end_of(reply))
 }
 
+/// The reply to a checkWatches or, where `removes`, to a removeWatches, which takes the watches away that it names.
+#[tactic(auto, using(crate::proofs::Watching::no_path, crate::proofs::Watching::no_type, crate::proofs::Watching::no_watch, crate::proofs::Watching::some_watch))]
+fn watcher_reply(
+    alloc: Global,
+    watches: &mut Armed,
+    text: &[u8],
+    kind: i32,
+    removes: bool,
+) -> Result<Reply, Memory>
+    ensures { IfOk result (λ r. only watches.new r ≡ told_of_watches watches.old text.now kind removes) }
+{
+    let Some(path) = read_path(alloc, text, false)? else {
+        return Ok(Reply::Refused(BAD_ARGUMENTS));
+    };
+    if !is_watcher_type(kind) {
+        return Ok(Reply::Refused(BAD_ARGUMENTS));
+    }
+    if !watches.has(&path, kind) {
+        return Ok(Reply::Refused(NO_WATCHER));
+    }
+    if removes {
+        watches.remove(&path, kind);
+    }
+    Ok(Reply::Good(Body::Empty))
+}
+
+/// Answers a checkWatches or, where `removes`, a removeWatches.
+fn answer_watcher(
+    alloc: Global,
+    client: &mut Client,
+    xid: i32,
+    text: &[u8],
+    kind: i32,
+    removes: bool,
+) -> Result<Move, Memory>
+    ensures { IfOk result (Leads (Is (plainly (ready client.old) xid (told_of_watches client.old.watches text.now kind removes))) client.new) }
+{
+    let reply = watcher_reply(alloc, &mut client.watches, text, kind, removes)?;
+    answer_plainly(alloc, client, xid, &reply)
+}
+
+/// Takes up a request that is not about watches.
+fn take_other(
+    alloc: Global,
+    client: &mut Client,
+    xid: i32,
+    request: Request,
+    now: u64,
+) -> Result<Move, Memory>
+    requires request { IsRequest request }
+    requires real { pos 1 ≤ℤ client.old.who.session }
+    requires time { now < 2 ^ 62 }
+    requires other { asks_of_watches (Asks xid request) ≡ false }
+    ensures { IfOk result (Leads (λ c out. TakesReadable (ready client.old) now c out (Asks xid request) (plain_request client.old.watches request)) client.new) }
+{
+    match plain_reply(alloc, &request)? {
+        Some(reply) => answer_plainly(alloc, client, xid, &reply),
+        None => look_first(alloc, client, begun(alloc, xid, request)?, now),
+    }
+}
+
+#[tactic(auto, unfolding(zk_transcript::specs::Answers::plain_request))]
 fn take_request(
     alloc: Global,
     client: &mut Client,
@@ -56,11 +120,16 @@ fn take_request(
     requires request { IsRequest request }
     requires real { pos 1 ≤ℤ client.old.who.session }
     requires time { now < 2 ^ 62 }
-    ensures { IfOk result (Leads (λ c out. TakesReadable (ready client.old) now c out (Asks xid request) (plain_request no_watches request)) client.new) }
+    ensures { IfOk result (Leads (λ c out. TakesReadable (ready client.old) now c out (Asks xid request) (plain_request client.old.watches request)) client.new) }
 {
-    match plain_reply(alloc, &request)? {
-        Some(reply) => answer_plainly(alloc, client, xid, &reply),
-        None => look_first(alloc, client, begun(alloc, xid, request)?, now),
+    match request {
+        Request::CheckWatches { path, kind } => {
+            answer_watcher(alloc, client, xid, path.as_slice(), kind, false)
+        }
+        Request::RemoveWatches { path, kind } => {
+            answer_watcher(alloc, client, xid, path.as_slice(), kind, true)
+        }
+        other => take_other(alloc, client, xid, other, now),
     }
 }
 

@@ -34,7 +34,9 @@ pub(crate) fn update_path(request: &Request) -> Option<&[u8]>
     ensures { MatchOption result (path_of_update request.now ≡ None) (λ p. path_of_update request.now ≡ Some p.now) }
 {
     match request {
-        Request::Create { path, flags, .. } => path_of_create(path.as_slice(), *flags),
+        Request::Create { path, flags, .. } | Request::Create2 { path, flags, .. } => {
+            path_of_create(path.as_slice(), *flags)
+        }
         Request::Delete { path, .. } => Some(path.as_slice()),
         Request::SetData { path, .. } => Some(path.as_slice()),
         _ => None,

@@ -3,8 +3,6 @@ use Rattle.std.specs.Prelude.{◌≢◌, ℕ, ℤ, ◌+◌, ◌⊎◌, Bool, tru
 use Rattle.std.specs.Map.{lookup}
 use Rattle.zk_jute.specs.Packets.{reply_packet}
 use Rattle.zk_jute.specs.Requests.{Frame, Asks, read_request}
-use Rattle.zk_model.specs.Watches.{no_watches}
-use Rattle.zk_model.specs.declared.reply.Reply.{Reply}
 use Rattle.zk_transcript.specs.Answers.{Told, plain_reply, xid_of}
 use Rattle.zk_transcript.specs.Walks.{is_auth_refusal}
 use Rattle.zk_transcript.specs.declared.transcript.Cause.{Cause}
@@ -33,11 +31,12 @@ abbrev pub end_of_plain : Bool → Option Cause
 end_of_plain true = Some cause.AuthRefused
 end_of_plain false = None
 
--- a reply that needs no tree repeats the zxid up to which the client has been told
-abbrev pub plainly : Core → ℤ → Reply → Core × List Action
-plainly c xid r =
-    let ends = end_of_plain (is_auth_refusal r) in
-    (record c { stage = stage_after ends; next = counted_up (c.next + 1) }, action.Send (reply_packet xid c.zxid r) ∷ close_after ends)
+-- A reply that needs no tree repeats the zxid up to which the client has been told. A removeWatches takes watches away; no other
+-- such request changes what is armed.
+abbrev pub plainly : Core → ℤ → Told → Core × List Action
+plainly c xid t =
+    let ends = end_of_plain (is_auth_refusal t.reply) in
+    (record c { stage = stage_after ends; watches = t.watches; next = counted_up (c.next + 1) }, action.Send (reply_packet xid c.zxid t.reply) ∷ close_after ends)
 
 -- ---- an update that is planned on a kept view
 
@@ -83,9 +82,9 @@ LooksFirst c xid r now c' out (Some q) = LooksOn c xid r now c' out q (lookup (s
 
 -- a frame without a header never waits (see `Comes`), so the last case does not arise
 abbrev pub TakesReadable : Core → ℕ → Core → List Action → Frame → Option Told → Type 0
-TakesReadable c now c' out x (Some t) = Is (plainly c (xid_of x) t.reply) c' out
+TakesReadable c now c' out x (Some t) = Is (plainly c (xid_of x) t) c' out
 TakesReadable c now c' out (Asks xid r) None = LooksFirst c xid r now c' out (update_path r)
 TakesReadable c now c' out _ None = ⊥
 
 abbrev pub TakesFrame : Core → List ℕ → ℕ → Core → List Action → Type 0
-TakesFrame c bytes now c' out = let x = read_request bytes in TakesReadable c now c' out x (plain_reply no_watches x)
+TakesFrame c bytes now c' out = let x = read_request bytes in TakesReadable c now c' out x (plain_reply c.watches x)

@@ -1,0 +1,45 @@
+-- How a request that is not about watches is answered without the tree, whatever is armed.
+use Rattle.std.proofs.Common.{◌≡◌, Bool, true, false, ℤ, refl, sym, ap, ◌∙◌}
+use Rattle.std.specs.Prelude.{◌&&◌, Option, Some, None, option_map}
+use Rattle.zk_jute.specs.Requests.{Asks}
+use Rattle.zx_base.specs.Maps.{Bytes}
+use Rattle.zk_model.specs.declared.reply.Body.TheVariants as body
+use Rattle.zk_model.specs.declared.reply.Reply.{Reply}
+use Rattle.zk_model.specs.declared.reply.Reply.TheVariants as reply
+use Rattle.zk_model.specs.declared.request.Request.{Request}
+use Rattle.zk_model.specs.declared.request.Request.TheVariants as req
+use Rattle.zk_model.specs.Codes.{bad_arguments, no_watcher}
+use Rattle.zk_model.specs.Paths.{is_path}
+use Rattle.zk_model.specs.Watches.{Watches, is_watched, is_watcher_type, no_watches}
+use Rattle.zk_transcript.specs.Answers.{Told, asks_of_watches, names_watches, only, plain_request, told_of_watcher}
+use Rattle.zk_transcript.proofs.PlainReplies.{plain-only, reply_in}
+use Rattle.zn_ops.specs.Forms.{told_by}
+
+pub other-watches : (xid : ℤ) (r : Request) → ((p : Bytes) (kind : ℤ) → r ≡ req.CheckWatches p kind → ⊥) → ((p : Bytes) (kind : ℤ) → r ≡ req.RemoveWatches p kind → ⊥) → asks_of_watches (Asks xid r) ≡ false
+other-watches xid (req.CheckWatches p kind) check remove = absurd (check p kind refl)
+other-watches xid (req.RemoveWatches p kind) check remove = absurd (remove p kind refl)
+other-watches xid _ check remove = refl
+
+same-reply : (o : Option Reply) → reply_in (told_by o) ≡ o
+same-reply None = refl
+same-reply (Some r) = refl
+
+pub plain-with : (w : Watches) (xid : ℤ) (r : Request) (o : Option Reply) → asks_of_watches (Asks xid r) ≡ false → told_by o ≡ plain_request no_watches r → plain_request w r ≡ option_map (only w) o
+plain-with w xid r o other is =
+    plain-only w no_watches (Asks xid r) other ∙ ap (λ (x : Option Told). option_map (only w) (reply_in x)) (sym is) ∙ ap (option_map (only w)) (same-reply o)
+
+-- ---- the answer by what was tested
+
+pub no_path : (w rest : Watches) (p : Bytes) (kind : ℤ) (hit : Bool) → is_path p ≡ false → only w (reply.Refused bad_arguments) ≡ told_of_watcher w rest (names_watches p kind) hit
+no_path w rest p kind hit e = sym (ap (λ (b : Bool). told_of_watcher w rest (b && is_watcher_type kind) hit) e)
+
+pub no_type : (w rest : Watches) (p : Bytes) (kind : ℤ) (hit : Bool) → is_path p ≡ true → is_watcher_type kind ≡ false → only w (reply.Refused bad_arguments) ≡ told_of_watcher w rest (names_watches p kind) hit
+no_type w rest p kind hit e f = sym (λ i. told_of_watcher w rest (e i && f i) hit)
+
+pub no_watch : (w rest : Watches) (p : Bytes) (kind : ℤ) → is_path p ≡ true → is_watcher_type kind ≡ true → is_watched w p kind ≡ false
+    → only w (reply.Refused no_watcher) ≡ told_of_watcher w rest (names_watches p kind) (is_watched w p kind)
+no_watch w rest p kind e f g = sym (λ i. told_of_watcher w rest (e i && f i) (g i))
+
+pub some_watch : (w rest : Watches) (p : Bytes) (kind : ℤ) → is_path p ≡ true → is_watcher_type kind ≡ true → is_watched w p kind ≡ true
+    → only rest (reply.Good body.Empty) ≡ told_of_watcher w rest (names_watches p kind) (is_watched w p kind)
+some_watch w rest p kind e f g = sym (λ i. told_of_watcher w rest (e i && f i) (g i))
