@@ -11,7 +11,7 @@ use Rattle.ev_types.specs.declared.ask.Ask.{Ask}
 use Rattle.zk_jute.specs.Connects.{read_connect}
 use Rattle.zk_jute.specs.Packets.{connect_packet, notice_packet, reply_packet}
 use Rattle.zk_jute.specs.Requests.{Frame, NoHeader, Unreadable, Unknown, Asks, read_request}
-use Rattle.zk_model.specs.Watches.{fire_all, no_watches}
+use Rattle.zk_model.specs.Watches.{fire_all}
 use Rattle.zk_model.specs.declared.connect.ConnectRequest.{ConnectRequest}
 use Rattle.zk_model.specs.declared.reply.Notice.{Notice}
 use Rattle.zk_model.specs.declared.request.Request.{Request}
@@ -240,13 +240,13 @@ module _ (fs : List (List ℕ)) where
 
     -- ---- a frame is taken up
 
-    plain-row : (c c' : Core) (bytes : List ℕ) (t : Told) (out : List Action) → c.waiting ≡ [] → IsServed (bytes ∷ []) fs ps → Is (plainly c (xid_of (read_request bytes)) t.reply) c' out → Row fs ps c' out
-    plain-row c c' bytes t out w s i = row-is ps (plainly c (xid_of (read_request bytes)) t.reply) c' out i
-        (reply-row ps (plainly c (xid_of (read_request bytes)) t.reply).0 (reply_packet (xid_of (read_request bytes)) c.zxid t.reply) (end_of_plain (is_auth_refusal t.reply)) w refl
+    plain-row : (c c' : Core) (bytes : List ℕ) (t : Told) (out : List Action) → c.waiting ≡ [] → IsServed (bytes ∷ []) fs ps → Is (plainly c (xid_of (read_request bytes)) t) c' out → Row fs ps c' out
+    plain-row c c' bytes t out w s i = row-is ps (plainly c (xid_of (read_request bytes)) t) c' out i
+        (reply-row ps (plainly c (xid_of (read_request bytes)) t).0 (reply_packet (xid_of (read_request bytes)) c.zxid t.reply) (end_of_plain (is_auth_refusal t.reply)) w refl
         (served-reply bytes fs ps [] (reply_packet (xid_of (read_request bytes)) c.zxid t.reply) s (All-nil IsNotice) (c.zxid, t.reply, refl)))
 
     readable-row : (c c' : Core) (bytes : List ℕ) (now : ℕ) (out : List Action) (y : Frame) (o : Option Told) → c.waiting ≡ [] → IsServed (bytes ∷ []) fs ps → read_request bytes ≡ y → TakesReadable c now c' out y o → Row fs ps c' out
-    readable-row c c' bytes now out y (Some t) w s is h = plain-row c c' bytes t out w s (subst (λ z. Is (plainly c (xid_of z) t.reply) c' out) (sym is) h)
+    readable-row c c' bytes now out y (Some t) w s is h = plain-row c c' bytes t out w s (subst (λ z. Is (plainly c (xid_of z) t) c' out) (sym is) h)
     readable-row c c' bytes now out NoHeader None w s is h = absurd h
     readable-row c c' bytes now out (Unreadable xid place) None w s is h = absurd h
     readable-row c c' bytes now out (Unknown xid kind) None w s is h = absurd h
@@ -260,7 +260,7 @@ module _ (fs : List (List ℕ)) where
         go (inr y) = looks-row c c' xid r empty_view now out w work y
 
     takes-row : (c c' : Core) (bytes : List ℕ) (now : ℕ) (out : List Action) → c.waiting ≡ [] → IsServed (bytes ∷ []) fs ps → TakesFrame c bytes now c' out → Row fs ps c' out
-    takes-row c c' bytes now out w s h = readable-row c c' bytes now out (read_request bytes) (plain_reply no_watches (read_request bytes)) w s refl h
+    takes-row c c' bytes now out w s h = readable-row c c' bytes now out (read_request bytes) (plain_reply c.watches (read_request bytes)) w s refl h
 
     takes-up-row : (c c' : Core) (bytes : List ℕ) (now : ℕ) (out : List Action) → c.waiting ≡ [] → IsServed (bytes ∷ []) fs ps → TakesUp c bytes now c' out → Row fs ps c' out
     takes-up-row c c' bytes now out w s h =

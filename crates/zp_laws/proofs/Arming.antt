@@ -147,3 +147,6 @@ tree-alike t limit id (req.Multi parts) h = several-alike _
 tree-alike t limit id req.Ping h = no-alike
 tree-alike t limit id (req.Auth kind scheme auth) h = no-alike
 tree-alike t limit id req.Close h = no-alike
+tree-alike t limit id (req.Create2 p d a f) h = refusal-alike _
+tree-alike t limit id (req.CheckWatches p k) h = no-alike
+tree-alike t limit id (req.RemoveWatches p k) h = no-alike

@@ -9,7 +9,6 @@ use Rattle.ev_types.specs.declared.answer.Answer.{Answer}
 use Rattle.ev_types.specs.declared.answer.Kv.{Kv}
 use Rattle.zk_jute.specs.Connects.{read_connect}
 use Rattle.zk_jute.specs.Requests.{Frame, NoHeader, Unreadable, Unknown, Asks, read_request}
-use Rattle.zk_model.specs.Watches.{no_watches}
 use Rattle.zk_model.specs.declared.connect.ConnectRequest.{ConnectRequest}
 use Rattle.zk_model.specs.declared.request.Request.{Request}
 use Rattle.zk_transcript.specs.Answers.{Told, plain_reply, xid_of}
@@ -108,7 +107,7 @@ module _ (n : ℕ) (small : n ≤ max_count) where
     records-keeps c ws parts Next f (inr h) = f h.1
 
     readable-keeps : (c : Core) (now : ℕ) (x : Frame) (o : Option Told) → work c ≡ n → TakesReadable c now c' out x o → Keeps true n c'
-    readable-keeps c now x (Some t) w h = is-keeps true n (plainly c (xid_of x) t.reply) c' out (answered c (plainly c (xid_of x) t.reply).0 (end_of_plain (is_auth_refusal t.reply)) w refl refl refl) h
+    readable-keeps c now x (Some t) w h = is-keeps true n (plainly c (xid_of x) t) c' out (answered c (plainly c (xid_of x) t).0 (end_of_plain (is_auth_refusal t.reply)) w refl refl refl) h
     readable-keeps c now NoHeader None w h = absurd h
     readable-keeps c now (Unreadable xid place) None w h = absurd h
     readable-keeps c now (Unknown xid kind) None w h = absurd h
@@ -119,7 +118,7 @@ module _ (n : ℕ) (small : n ≤ max_count) where
         go (inr y) = looks-keeps c xid r empty_view now w y
 
     takes-keeps : (c : Core) (bytes : List ℕ) (now : ℕ) → work c ≡ n → TakesFrame c bytes now c' out → Keeps true n c'
-    takes-keeps c bytes now w h = readable-keeps c now (read_request bytes) (plain_reply no_watches (read_request bytes)) w h
+    takes-keeps c bytes now w h = readable-keeps c now (read_request bytes) (plain_reply c.watches (read_request bytes)) w h
 
     takes_up-keeps : (c : Core) (bytes : List ℕ) (now : ℕ) → work c ≡ n → TakesUp c bytes now c' out → Keeps true n c'
     takes_up-keeps c bytes now w h =

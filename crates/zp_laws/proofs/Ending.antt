@@ -10,7 +10,7 @@ use Rattle.ev_types.specs.declared.ask.Ask.{Ask}
 use Rattle.zk_jute.specs.Connects.{read_connect}
 use Rattle.zk_jute.specs.Packets.{reply_packet}
 use Rattle.zk_jute.specs.Requests.{Frame, NoHeader, Unreadable, Unknown, Asks, read_request}
-use Rattle.zk_model.specs.Watches.{fire_all, no_watches}
+use Rattle.zk_model.specs.Watches.{fire_all}
 use Rattle.zk_model.specs.declared.connect.ConnectRequest.{ConnectRequest}
 use Rattle.zk_model.specs.declared.reply.Notice.{Notice}
 use Rattle.zk_model.specs.declared.request.Request.{Request}
@@ -146,8 +146,8 @@ records-ends c c' ws parts out Next f (inr h) = f h.1
 
 -- ---- a frame is taken up
 
-plain-ends : (c c' : Core) (xid : ℤ) (t : Told) (out : List Action) → Is (plainly c xid t.reply) c' out → Ends c' out
-plain-ends c c' xid t out i = ends-is c' (plainly c xid t.reply) out i (reply-ends (plainly c xid t.reply).0 (reply_packet xid c.zxid t.reply) (end_of_plain (is_auth_refusal t.reply)) refl)
+plain-ends : (c c' : Core) (xid : ℤ) (t : Told) (out : List Action) → Is (plainly c xid t) c' out → Ends c' out
+plain-ends c c' xid t out i = ends-is c' (plainly c xid t) out i (reply-ends (plainly c xid t).0 (reply_packet xid c.zxid t.reply) (end_of_plain (is_auth_refusal t.reply)) refl)
 
 readable-ends : (c c' : Core) (now : ℕ) (out : List Action) (x : Frame) (o : Option Told) → TakesReadable c now c' out x o → Ends c' out
 readable-ends c c' now out x (Some t) h = plain-ends c c' (xid_of x) t out h
@@ -161,7 +161,7 @@ readable-ends c c' now out (Asks xid r) None h = go (first-or-anew c c' xid r no
     go (inr y) = looks-ends c c' xid r empty_view now out y
 
 takes-ends : (c c' : Core) (bytes : List ℕ) (now : ℕ) (out : List Action) → TakesFrame c bytes now c' out → Ends c' out
-takes-ends c c' bytes now out h = readable-ends c c' now out (read_request bytes) (plain_reply no_watches (read_request bytes)) h
+takes-ends c c' bytes now out h = readable-ends c c' now out (read_request bytes) (plain_reply c.watches (read_request bytes)) h
 
 takes_up-ends : (c c' : Core) (bytes : List ℕ) (now : ℕ) (out : List Action) → TakesUp c bytes now c' out → Ends c' out
 takes_up-ends c c' bytes now out h =

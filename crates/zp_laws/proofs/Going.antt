@@ -7,8 +7,9 @@ use Rattle.std.proofs.lemmas.List.Elements.{All-nil, All-cons}
 use Rattle.ev_types.specs.Store.{Store}
 use Rattle.zk_jute.specs.Packets.{reply_packet}
 use Rattle.zk_jute.specs.Requests.{Frame, NoHeader, Unreadable, Unknown, Asks, read_request}
-use Rattle.zk_model.specs.Watches.{no_watches}
+use Rattle.zk_model.specs.Watches.{Watches, no_watches}
 use Rattle.zk_model.specs.declared.request.Request.{Request}
+use Rattle.zk_transcript.proofs.PlainReplies.{plain-none}
 use Rattle.zk_transcript.specs.Answers.{Told, plain_reply, xid_of}
 use Rattle.zk_transcript.specs.History.{frame_shown}
 use Rattle.zk_transcript.specs.Legal.{is_legal}
@@ -86,16 +87,16 @@ close-sends bytes (Some why) = refl
 -- none of these steps is as of a moment, so what they send is fresh under any premise
 module _ (store : Store) (lines : List TranscriptLine) (conn : ℕ) (Afresh : Type 0) where
   -- the core after a plain reply
-  abbrev plain_core : Core → Bool → Core
-  plain_core c b = record c { stage = stage_after (end_of_plain b); next = counted_up (c.next + 1) }
+  abbrev plain_core : Core → Watches → Bool → Core
+  plain_core c ws b = record c { stage = stage_after (end_of_plain b); watches = ws; next = counted_up (c.next + 1) }
 
-  plain-stands : (c : Core) (w : Walker) (bytes : List ℕ) (looked : ℕ) (b : Bool) → Works store lines conn c w bytes
-      → StandsOpen (is_open (stage_after (end_of_plain b))) store lines conn (plain_core c b) (record w { next = w.next + 1; over = b }) looked
-  plain-stands c w bytes looked true k = tt
-  plain-stands c w bytes looked false k =
+  plain-stands : (c : Core) (w : Walker) (bytes : List ℕ) (looked : ℕ) (ws : Watches) (b : Bool) → Works store lines conn c w bytes
+      → StandsOpen (is_open (stage_after (end_of_plain b))) store lines conn (plain_core c ws b) (record w { watches = ws; next = w.next + 1; over = b }) looked
+  plain-stands c w bytes looked ws true k = tt
+  plain-stands c w bytes looked ws false k =
       let up = index-after lines conn c.next bytes k.frame in
       record {
-        matches = record { zxid = (k.matches).zxid; since = (k.matches).since; watches = (k.matches).watches; next = ap (λ n. n + 1) (k.matches).next ∙ sym up; over = refl; at = record { line = ((k.matches).at).line; update = ((k.matches).at).update; shown = ((k.matches).at).shown; zxid = ((k.matches).at).zxid; cursor = ((k.matches).at).cursor } };
+        matches = record { zxid = (k.matches).zxid; since = (k.matches).since; watches = refl; next = ap (λ n. n + 1) (k.matches).next ∙ sym up; over = refl; at = record { line = ((k.matches).at).line; update = ((k.matches).at).update; shown = ((k.matches).at).shown; zxid = ((k.matches).at).zxid; cursor = ((k.matches).at).cursor } };
         work = tt;
         waiting = subst (λ n. AreFrames lines conn n c.waiting) (sym up) k.waiting;
         turn = ap (is_not_overtaken lines conn) up ∙ turn-next lines conn c.next k.turn;
@@ -103,31 +104,31 @@ module _ (store : Store) (lines : List TranscriptLine) (conn : ℕ) (Afresh : Ty
         knows = ap (is_ahead lines conn) up ∙ k.turn;
       }
 
-  plain-ahead : (c : Core) (w : Walker) (bytes : List ℕ) (b : Bool) → Works store lines conn c w bytes → IsAheadIn lines conn (plain_core c b) (stage_after (end_of_plain b))
-  plain-ahead c w bytes true k = tt
-  plain-ahead c w bytes false k = ap (is_ahead lines conn) (index-after lines conn c.next bytes k.frame) ∙ k.turn
+  plain-ahead : (c : Core) (w : Walker) (bytes : List ℕ) (ws : Watches) (b : Bool) → Works store lines conn c w bytes → IsAheadIn lines conn (plain_core c ws b) (stage_after (end_of_plain b))
+  plain-ahead c w bytes ws true k = tt
+  plain-ahead c w bytes ws false k = ap (is_ahead lines conn) (index-after lines conn c.next bytes k.frame) ∙ k.turn
 
-  pub plain-walks : (c : Core) (w : Walker) (bytes : List ℕ) (looked : ℕ) (t : Told) → Works store lines conn c w bytes → plain_reply no_watches (read_request bytes) ≡ Some t
-      → Walks store lines conn Afresh c (plainly c (xid_of (read_request bytes)) t.reply).0 w looked (plainly c (xid_of (read_request bytes)) t.reply).1
+  pub plain-walks : (c : Core) (w : Walker) (bytes : List ℕ) (looked : ℕ) (t : Told) → Works store lines conn c w bytes → plain_reply c.watches (read_request bytes) ≡ Some t
+      → Walks store lines conn Afresh c (plainly c (xid_of (read_request bytes)) t).0 w looked (plainly c (xid_of (read_request bytes)) t).1
   plain-walks c w bytes looked t k h =
       let f = k.frame in
       let m = k.matches in
       let p = placed lines c w k.legal m in
       let x = xid_of (read_request bytes) in
       let at_next : placed_frame conn w.next lines ≡ Some (f.place, bytes) = ap (λ n. placed_frame conn n lines) m.next ∙ f.framed in
-      let y = plain-move lines conn c.who.session w f.place bytes t m.over at_next h in
+      let y = plain-move lines conn c.who.session w f.place bytes t m.over at_next (ap (λ (v : Watches). plain_reply v (read_request bytes)) m.watches ∙ h) in
       let bound = first_place-bound (frame_shown conn c.next) 0 lines (f.place, bytes) f.framed in
       let packet = reply_packet x w.zxid t.reply in
       let b = is_auth_refusal t.reply in
       record {
-        walker = record w { next = w.next + 1; over = b };
-        strides = strides-one lines conn Afresh c.who.session w Plain (record w { next = w.next + 1; over = b }, (later_of w.since (f.place + 1), packet) ∷ []) (plainly c x t.reply).1
+        walker = record w { watches = t.watches; next = w.next + 1; over = b };
+        strides = strides-one lines conn Afresh c.who.session w Plain (record w { watches = t.watches; next = w.next + 1; over = b }, (later_of w.since (f.place + 1), packet) ∷ []) (plainly c x t).1
             y (ap (λ z. reply_packet x z t.reply ∷ []) m.zxid ∙ sym (close-sends (reply_packet x c.zxid t.reply) (end_of_plain b)))
             (All-cons (UpTo (length lines)) (later_of w.since (f.place + 1), packet) [] (later-bound w.since (f.place + 1) (length lines) (omega (arith, p.since, p.within)) (omega (arith, bound))) (All-nil (UpTo (length lines)))) (λ q. refl) refl;
-        stands = plain-stands c w bytes looked b k;
+        stands = plain-stands c w bytes looked t.watches b k;
         looks = λ q e. absurd (held-after (end_of_plain b) e);
         who = refl;
-        ahead = inr (plain-ahead c w bytes b k);
+        ahead = inr (plain-ahead c w bytes t.watches b k);
         zxid = omega (arith, ints);
         cursor = omega (arith, ints);
       }
@@ -209,17 +210,17 @@ module _ (store : Store) (lines : List TranscriptLine) (conn : ℕ) (Afresh : Ty
       go (Some v) there (inl y) = at_once-walks c c' w bytes looked now xid r out q v k e h (views-of store (same q) c.views v k.views there) y
       go (Some v) there (inr y) = anew-walks c c' w bytes looked now xid r out k e h y.1
 
-  readable-walks : (c c' : Core) (w : Walker) (bytes : List ℕ) (looked now : ℕ) (out : List Action) (x : Frame) (o : Option Told) → Works store lines conn c w bytes → read_request bytes ≡ x → plain_reply no_watches x ≡ o → TakesReadable c now c' out x o → Walks store lines conn Afresh c c' w looked out
+  readable-walks : (c c' : Core) (w : Walker) (bytes : List ℕ) (looked now : ℕ) (out : List Action) (x : Frame) (o : Option Told) → Works store lines conn c w bytes → read_request bytes ≡ x → plain_reply c.watches x ≡ o → TakesReadable c now c' out x o → Walks store lines conn Afresh c c' w looked out
   readable-walks c c' w bytes looked now out x (Some t) k e p h =
-      subst (λ y. Is (plainly c (xid_of y) t.reply) c' out → Walks store lines conn Afresh c c' w looked out) e
-      (λ i. walks-is store lines conn Afresh c c' (plainly c (xid_of (read_request bytes)) t.reply) w looked out i (plain-walks c w bytes looked t k (ap (plain_reply no_watches) e ∙ p))) h
+      subst (λ y. Is (plainly c (xid_of y) t) c' out → Walks store lines conn Afresh c c' w looked out) e
+      (λ i. walks-is store lines conn Afresh c c' (plainly c (xid_of (read_request bytes)) t) w looked out i (plain-walks c w bytes looked t k (ap (plain_reply c.watches) e ∙ p))) h
   readable-walks c c' w bytes looked now out NoHeader None k e p h = absurd h
   readable-walks c c' w bytes looked now out (Unreadable xid place) None k e p h = absurd h
   readable-walks c c' w bytes looked now out (Unknown xid kind) None k e p h = absurd h
-  readable-walks c c' w bytes looked now out (Asks xid r) None k e p h = looks-walks c c' w bytes looked now xid r out (update_path r) k e p h
+  readable-walks c c' w bytes looked now out (Asks xid r) None k e p h = looks-walks c c' w bytes looked now xid r out (update_path r) k e (plain-none c.watches no_watches (Asks xid r) p) h
 
   pub takes-walks : (c c' : Core) (w : Walker) (bytes : List ℕ) (looked now : ℕ) (out : List Action) → Works store lines conn c w bytes → TakesFrame c bytes now c' out → Walks store lines conn Afresh c c' w looked out
-  takes-walks c c' w bytes looked now out k t = readable-walks c c' w bytes looked now out (read_request bytes) (plain_reply no_watches (read_request bytes)) k refl refl t
+  takes-walks c c' w bytes looked now out k t = readable-walks c c' w bytes looked now out (read_request bytes) (plain_reply c.watches (read_request bytes)) k refl refl t
 
   -- ---- frames are taken up
 

@@ -9,7 +9,7 @@ use Rattle.ev_types.specs.declared.answer.Answer.{Answer}
 use Rattle.ev_types.specs.declared.answer.Kv.{Kv}
 use Rattle.zk_jute.specs.Connects.{read_connect}
 use Rattle.zk_jute.specs.Requests.{Frame, NoHeader, Unreadable, Unknown, Asks, read_request}
-use Rattle.zk_model.specs.Watches.{fire_all, no_watches}
+use Rattle.zk_model.specs.Watches.{fire_all}
 use Rattle.zk_model.specs.declared.connect.ConnectRequest.{ConnectRequest}
 use Rattle.zk_model.specs.declared.request.Request.{Request}
 use Rattle.zk_transcript.specs.Answers.{Told, plain_reply, xid_of}
@@ -88,7 +88,7 @@ records-plan c c' ws parts now out Next f (inr h) = f h.1
 -- ---- a frame is taken up
 
 readable-plans : (c c' : Core) (now : ℕ) (out : List Action) (x : Frame) (o : Option Told) → TakesReadable c now c' out x o → IsPlannedAt now c'.stage
-readable-plans c c' now out x (Some t) h = planned-is now (plainly c (xid_of x) t.reply) c' out h (after-plans now (end_of_plain (is_auth_refusal t.reply)))
+readable-plans c c' now out x (Some t) h = planned-is now (plainly c (xid_of x) t) c' out h (after-plans now (end_of_plain (is_auth_refusal t.reply)))
 readable-plans c c' now out NoHeader None h = absurd h
 readable-plans c c' now out (Unreadable xid place) None h = absurd h
 readable-plans c c' now out (Unknown xid kind) None h = absurd h
@@ -99,7 +99,7 @@ readable-plans c c' now out (Asks xid r) None h = go (first-or-anew c c' xid r n
     go (inr y) = looks-plans c c' xid r empty_view now out y
 
 takes-plans : (c c' : Core) (bytes : List ℕ) (now : ℕ) (out : List Action) → TakesFrame c bytes now c' out → IsPlannedAt now c'.stage
-takes-plans c c' bytes now out h = readable-plans c c' now out (read_request bytes) (plain_reply no_watches (read_request bytes)) h
+takes-plans c c' bytes now out h = readable-plans c c' now out (read_request bytes) (plain_reply c.watches (read_request bytes)) h
 
 takes_up-plans : (c c' : Core) (bytes : List ℕ) (now : ℕ) (out : List Action) → TakesUp c bytes now c' out → IsPlannedAt now c'.stage
 takes_up-plans c c' bytes now out h =

@@ -11,11 +11,11 @@ use Rattle.zk_model.specs.declared.reply.Reply.{Reply}
 use Rattle.zk_model.specs.declared.reply.Reply.TheVariants as reply
 use Rattle.zk_model.specs.declared.request.Request.{Request}
 use Rattle.zk_model.specs.declared.request.Request.TheVariants as req
-use Rattle.zk_transcript.specs.Answers.{Told, owned_limit_in, only, plain_reply, plain_request, rearmed, session_refusal, tree_reply}
+use Rattle.zk_transcript.specs.Answers.{Told, owned_limit_in, only, plain_request, rearmed, session_refusal, tree_reply}
 use Rattle.zk_transcript.specs.History.{Session, State, limit_of, session_at, state_at}
 use Rattle.zk_transcript.specs.Walks.{looked, seen_told, told_as_of, with_end}
 use Rattle.zk_transcript.specs.declared.transcript.TranscriptLine.{TranscriptLine}
-use Rattle.zk_least.proofs.PlainReplies.{plain-only}
+use Rattle.zk_transcript.proofs.PlainReplies.{plain-none}
 use Rattle.zx_base.proofs.Options.{some_is}
 use Rattle.zn_reads.specs.SeenPaths.{seen_paths}
 use Rattle.zn_view.specs.Needs.{LacksNothing}
@@ -39,10 +39,6 @@ pub refused-told : (lines : List TranscriptLine) (conn moment : ℕ) (id : ℤ) 
 unfolding told_as_of
 refused-told lines conn moment id x r ws h = ap (seen_told (state_at lines moment) (owned_limit_in (session_at id (state_at lines moment))) id x ws) h
 
--- a request that only the tree answers, whatever is armed
-plain-none : (w : Watches) (q : Request) (xid : ℤ) → plain_request no_watches q ≡ None → plain_reply w (Asks xid q) ≡ None
-plain-none w q xid h = plain-only w (Asks xid q) ∙ ap (λ o. elim o [ None ↦ None | Some t ↦ Some (only w t) ]) (ap (λ o. elim o [ None ↦ None | Some t ↦ Some t.reply ]) h)
-
 -- and else it is the tree's answer
 pub tree-told : (lines : List TranscriptLine) (conn moment : ℕ) (id : ℤ) (xid : ℤ) (q : Request) (t : Told) (ws : Watches) (limit : ℕ) → owned_limit_in (session_at id (state_at lines moment)) ≡ limit
     → session_refusal conn (session_at id (state_at lines moment)) ≡ None → plain_request no_watches q ≡ None → tree_reply (state_at lines moment).tree limit id ws q ≡ Some t
@@ -53,7 +49,7 @@ tree-told lines conn moment id xid q t ws limit l h p r =
     let x = Asks xid q in
     ap (λ n. seen_told s n id x ws (session_refusal conn (session_at id s))) l
     ∙ ap (seen_told s limit id x ws) h
-    ∙ ap (λ o. with_end false (looked s limit id ws x o)) (plain-none ws q xid p)
+    ∙ ap (λ o. with_end false (looked s limit id ws x o)) (plain-none no_watches ws (Asks xid q) p)
     ∙ ap (with_end false) r
 
 -- ---- what a decision says of a state
@@ -155,3 +151,6 @@ module _ (s : State) (who : Who) (v : View) (r : Reply) (arm : Option Arm) (ws :
   told-by req.Ping b whole = read-told req.Ping b refl
   told-by (req.Auth kind scheme auth) b whole = read-told (req.Auth kind scheme auth) b refl
   told-by req.Close b whole = read-told req.Close b refl
+  told-by (req.Create2 p d a x) b whole = read-told (req.Create2 p d a x) b refl
+  told-by (req.CheckWatches p x) b whole = read-told (req.CheckWatches p x) b refl
+  told-by (req.RemoveWatches p x) b whole = read-told (req.RemoveWatches p x) b refl

@@ -1,14 +1,13 @@
 -- Walks joined, and the moves that need no moment.
 use Rattle.std.proofs.Common.{◌≡◌, ℕ, ◌+◌, ◌≤◌, arith, List, [], ◌∷◌, ◌++◌, refl, sym, ap, ◌∙◌, subst, append_assoc, false, ℤ}
-use Rattle.std.specs.Prelude.{Option, Some, None, option_map, if◌then◌else◌}
+use Rattle.std.specs.Prelude.{Option, Some, None, if◌then◌else◌}
 use Rattle.zk_jute.specs.Packets.{reply_packet}
-use Rattle.zk_jute.specs.Requests.{Frame, read_request}
-use Rattle.zk_model.specs.Watches.{Watches, no_watches}
-use Rattle.zk_transcript.specs.Answers.{Told, only, plain_reply, xid_of}
-use Rattle.zk_transcript.specs.Walks.{Choice, Due, Plain, Walker, answer_plainly, is_auth_refusal, later_of, move, placed_frame, plain_answer, then_due, walk}
+use Rattle.zk_jute.specs.Requests.{read_request}
+use Rattle.zk_transcript.specs.Answers.{Told, plain_reply, xid_of}
+use Rattle.zk_transcript.specs.Walks.{Choice, Due, Plain, Walker, answer_plainly, due_notices, is_auth_refusal, later_of, move, placed_frame, plain_answer, then_due, walk}
 use Rattle.zk_transcript.specs.declared.transcript.TranscriptLine.{TranscriptLine}
 use Rattle.zk_transcript.proofs.Longer.{move-next, then_due-next}
-use Rattle.zk_least.proofs.PlainReplies.{plain-only}
+use Rattle.zk_transcript.proofs.PlainReplies.{plain-quiet}
 use Rattle.zx_base.proofs.Options.{none_some, some_is}
 
 pub walk-append : (lines : List TranscriptLine) (c : ℕ) (id : ℤ) (w : Walker) (xs ys : List Choice) (r q : Walker × List Due)
@@ -43,12 +42,12 @@ walk-next lines c id w (x ∷ xs) r h = go (move lines c id w x) refl h (λ v q 
         omega (arith, move-next lines c id w x u e, later u.0 s.0 s.1, ap (λ (v : Walker). v.next) s.2)
 
 -- a reply that needs no tree
-plain-told : (w : Watches) (x : Frame) (t : Told) → plain_reply no_watches x ≡ Some t → plain_reply w x ≡ Some (only w t.reply)
-plain-told w x t h = plain-only w x ∙ ap (λ o. option_map (only w) (option_map (λ (u : Told). u.reply) o)) h
-
-pub plain-move : (lines : List TranscriptLine) (c : ℕ) (id : ℤ) (w : Walker) (k : ℕ) (bytes : List ℕ) (t : Told) → w.over ≡ false → placed_frame c w.next lines ≡ Some (k, bytes) → plain_reply no_watches (read_request bytes) ≡ Some t
-    → move lines c id w Plain ≡ Some (record w { next = w.next + 1; over = is_auth_refusal t.reply }, (later_of w.since (k + 1), reply_packet (xid_of (read_request bytes)) w.zxid t.reply) ∷ [])
+pub plain-move : (lines : List TranscriptLine) (c : ℕ) (id : ℤ) (w : Walker) (k : ℕ) (bytes : List ℕ) (t : Told) → w.over ≡ false → placed_frame c w.next lines ≡ Some (k, bytes) → plain_reply w.watches (read_request bytes) ≡ Some t
+    → move lines c id w Plain ≡ Some (record w { watches = t.watches; next = w.next + 1; over = is_auth_refusal t.reply }, (later_of w.since (k + 1), reply_packet (xid_of (read_request bytes)) w.zxid t.reply) ∷ [])
 unfolding move
 plain-move lines c id w k bytes t o f p =
-    ap (λ b. if b then None else answer_plainly w (placed_frame c w.next lines)) o ∙ ap (answer_plainly w) f
-    ∙ ap (plain_answer w (later_of w.since (k + 1)) (xid_of (read_request bytes))) (plain-told w.watches (read_request bytes) t p)
+    let place = later_of w.since (k + 1) in
+    let packet = (place, reply_packet (xid_of (read_request bytes)) w.zxid t.reply) in
+    let after = record w { watches = t.watches; next = w.next + 1; over = is_auth_refusal t.reply } in
+    ap (λ b. if b then None else answer_plainly w (placed_frame c w.next lines)) o ∙ ap (answer_plainly w) f ∙ ap (plain_answer w place (xid_of (read_request bytes))) p
+    ∙ ap (λ ns. Some (after, due_notices place ns ++ packet ∷ [])) (plain-quiet w.watches (read_request bytes) t p)

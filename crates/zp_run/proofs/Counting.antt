@@ -8,7 +8,6 @@ use Rattle.ev_types.specs.declared.answer.Answer.{Answer}
 use Rattle.ev_types.specs.declared.answer.Kv.{Kv}
 use Rattle.zk_jute.specs.Connects.{read_connect}
 use Rattle.zk_jute.specs.Requests.{Frame, NoHeader, Unreadable, Unknown, Asks, read_request}
-use Rattle.zk_model.specs.Watches.{no_watches}
 use Rattle.zk_model.specs.declared.connect.ConnectRequest.{ConnectRequest}
 use Rattle.zk_model.specs.declared.request.Request.{Request}
 use Rattle.zk_transcript.specs.Answers.{Told, plain_reply, xid_of}
@@ -84,7 +83,7 @@ readable-same c c' now out (Asks xid r) None h = go (first-or-anew c c' xid r no
     go (inr y) = looks-same c c' xid r empty_view now out y
 
 takes-same : (c c' : Core) (bytes : List ℕ) (now : ℕ) (out : List Action) → TakesFrame c bytes now c' out → c'.taken ≡ c.taken
-takes-same c c' bytes now out h = readable-same c c' now out (read_request bytes) (plain_reply no_watches (read_request bytes)) h
+takes-same c c' bytes now out h = readable-same c c' now out (read_request bytes) (plain_reply c.watches (read_request bytes)) h
 
 takes-up-same : (c c' : Core) (bytes : List ℕ) (now : ℕ) (out : List Action) → TakesUp c bytes now c' out → c'.taken ≡ c.taken
 takes-up-same c c' bytes now out h =

@@ -16,7 +16,8 @@ use Rattle.zk_model.specs.Watches.{fire_all, no_watches}
 use Rattle.zk_model.specs.declared.connect.ConnectRequest.{ConnectRequest}
 use Rattle.zk_model.specs.declared.request.Request.{Request}
 use Rattle.zk_model.specs.declared.request.Request.TheVariants as req
-use Rattle.zk_transcript.specs.Answers.{Told, plain_reply, xid_of}
+use Rattle.zk_transcript.proofs.PlainReplies.{plain-closes, plain-none}
+use Rattle.zk_transcript.specs.Answers.{Told, only, plain_reply, xid_of}
 use Rattle.zk_transcript.specs.Walks.{has_header, is_auth_refusal}
 use Rattle.zk_transcript.specs.declared.transcript.Cause.TheVariants as cause
 use Rattle.zn_layout.specs.declared.entry.Entry.{Entry}
@@ -119,17 +120,17 @@ module _ (k : Heard) (c0 : Core) (x : Input) where
 
   -- ---- a frame is taken up
 
-  plain-done : (c c' : Core) (bytes : List ℕ) (t : Told) (out : List Action) → Waits-heard c → Contains k.frames bytes → plain_reply no_watches (read_request bytes) ≡ Some t → Is (plainly c (xid_of (read_request bytes)) t.reply) c' out → Done k c0 x c' out
-  plain-done c c' bytes t out w f e i = done-is k c0 x (plainly c (xid_of (read_request bytes)) t.reply) c' out i (go (is_auth_refusal t.reply) refl)
+  plain-done : (c c' : Core) (bytes : List ℕ) (t : Told) (out : List Action) → Waits-heard c → Contains k.frames bytes → plain_reply c.watches (read_request bytes) ≡ Some t → Is (plainly c (xid_of (read_request bytes)) t) c' out → Done k c0 x c' out
+  plain-done c c' bytes t out w f e i = done-is k c0 x (plainly c (xid_of (read_request bytes)) t) c' out i (go (is_auth_refusal t.reply) refl)
     where
       say : Action
       say = action.Send (reply_packet (xid_of (read_request bytes)) c.zxid t.reply)
 
-      go : (b : Bool) → is_auth_refusal t.reply ≡ b → Done k c0 x (record c { stage = stage_after (end_of_plain b); next = counted_up (c.next + 1) }) (say ∷ close_after (end_of_plain b))
+      go : (b : Bool) → is_auth_refusal t.reply ≡ b → Done k c0 x (record c { stage = stage_after (end_of_plain b); watches = t.watches; next = counted_up (c.next + 1) }) (say ∷ close_after (end_of_plain b))
       go true refused = record {
         rests = record { waiting = w; stage = tt };
         shows = λ why h. subst (λ z. Shows k c0 x c.who (say ∷ action.Close cause.AuthRefused ∷ []) z) (some_is h)
-            (record { frame = bytes; came = f; told = t; plain = e; refused = refused; zxid = c.zxid; sent = (0, omega (arith), refl) });
+            (record { frame = bytes; came = f; told = only no_watches t.reply; plain = plain-closes c.watches no_watches (read_request bytes) t e refused; refused = refused; zxid = c.zxid; sent = (0, omega (arith), refl) });
         unended = λ r. absurd (cc);
       }
       go false refused = record {
@@ -138,9 +139,9 @@ module _ (k : Heard) (c0 : Core) (x : Input) where
         unended = λ r. refl;
       }
 
-  readable-done : (c c' : Core) (bytes : List ℕ) (now : ℕ) (out : List Action) (y : Frame) (o : Option Told) → Waits-heard c → Contains k.frames bytes → read_request bytes ≡ y → plain_reply no_watches y ≡ o → TakesReadable c now c' out y o → Done k c0 x c' out
+  readable-done : (c c' : Core) (bytes : List ℕ) (now : ℕ) (out : List Action) (y : Frame) (o : Option Told) → Waits-heard c → Contains k.frames bytes → read_request bytes ≡ y → plain_reply c.watches y ≡ o → TakesReadable c now c' out y o → Done k c0 x c' out
   readable-done c c' bytes now out y (Some t) w f is e h =
-      plain-done c c' bytes t out w f (ap (plain_reply no_watches) is ∙ e) (subst (λ z. Is (plainly c (xid_of z) t.reply) c' out) (sym is) h)
+      plain-done c c' bytes t out w f (ap (plain_reply c.watches) is ∙ e) (subst (λ z. Is (plainly c (xid_of z) t) c' out) (sym is) h)
   readable-done c c' bytes now out NoHeader None w f is e h = absurd h
   readable-done c c' bytes now out (Unreadable xid place) None w f is e h = absurd h
   readable-done c c' bytes now out (Unknown xid kind) None w f is e h = absurd h
@@ -149,12 +150,15 @@ module _ (k : Heard) (c0 : Core) (x : Input) where
       asking : IsFrameAsking k xid r
       asking = record { frame = bytes; came = f; reads = is }
 
+      tree : IsForTree r
+      tree = plain-none c.watches no_watches (Asks xid r) e
+
       go : PlansBeside c xid r now c' out ⊎ Looks c xid r empty_view now c' out → Done k c0 x c' out
-      go (inl y) = asks-done k c0 x (record c { views = y.views; stage = Committing xid r y.view y.plan now }) c' _ out (record { waiting = w; stage = (asking, e) }) (λ f. cc) y.is
-      go (inr y) = looks-done c c' xid r empty_view now out w asking e (nothing refl) y
+      go (inl y) = asks-done k c0 x (record c { views = y.views; stage = Committing xid r y.view y.plan now }) c' _ out (record { waiting = w; stage = (asking, tree) }) (λ f. cc) y.is
+      go (inr y) = looks-done c c' xid r empty_view now out w asking tree (nothing refl) y
 
   takes-done : (c c' : Core) (bytes : List ℕ) (now : ℕ) (out : List Action) → Waits-heard c → Contains k.frames bytes → TakesFrame c bytes now c' out → Done k c0 x c' out
-  takes-done c c' bytes now out w f h = readable-done c c' bytes now out (read_request bytes) (plain_reply no_watches (read_request bytes)) w f refl refl h
+  takes-done c c' bytes now out w f h = readable-done c c' bytes now out (read_request bytes) (plain_reply c.watches (read_request bytes)) w f refl refl h
 
   takes-up-done : (c c' : Core) (bytes : List ℕ) (now : ℕ) (out : List Action) → Waits-heard c → Contains k.frames bytes → TakesUp c bytes now c' out → Done k c0 x c' out
   takes-up-done c c' bytes now out w f h =

@@ -12,6 +12,7 @@ use Rattle.ev_types.specs.declared.answer.Kv.{Kv}
 use Rattle.zk_jute.specs.Requests.{Frame, NoHeader, Unreadable, Unknown, Asks, read_request}
 use Rattle.zk_model.specs.Watches.{no_watches}
 use Rattle.zk_model.specs.declared.request.Request.{Request}
+use Rattle.zk_transcript.proofs.PlainReplies.{plain-none}
 use Rattle.zk_transcript.specs.Answers.{Told, plain_reply, xid_of}
 use Rattle.zk_transcript.specs.Walks.{is_auth_refusal}
 use Rattle.zk_transcript.specs.declared.transcript.Cause.{Cause}
@@ -121,8 +122,8 @@ module _ (s : Store) (n : ℕ) where
 
     -- ---- a frame is taken up
 
-    readable-then : (c : Core) (now k : ℕ) (x : Frame) (o : Option Told) → plain_reply no_watches x ≡ o → looks_in x + 2 ≤ k → k + asks_of_all c.waiting ≤ n → TakesReadable c now c' out x o → Then s n c'
-    readable-then c now k x (Some t) p m w h = is-then (plainly c (xid_of x) t.reply) c' out (answered c (plainly c (xid_of x) t.reply).0 (end_of_plain (is_auth_refusal t.reply)) (omega (arith, w)) refl refl) h
+    readable-then : (c : Core) (now k : ℕ) (x : Frame) (o : Option Told) → plain_reply c.watches x ≡ o → looks_in x + 2 ≤ k → k + asks_of_all c.waiting ≤ n → TakesReadable c now c' out x o → Then s n c'
+    readable-then c now k x (Some t) p m w h = is-then (plainly c (xid_of x) t) c' out (answered c (plainly c (xid_of x) t).0 (end_of_plain (is_auth_refusal t.reply)) (omega (arith, w)) refl refl) h
     readable-then c now k NoHeader None p m w h = absurd h
     readable-then c now k (Unreadable xid place) None p m w h = absurd h
     readable-then c now k (Unknown xid kind) None p m w h = absurd h
@@ -133,7 +134,7 @@ module _ (s : Store) (n : ℕ) where
         go (inl y) =
             is-then (decided (record c { views = y.views }) xid r y.view now (Planned y.plan)) c' out
             (inr (record { asks = k; out = (let again = again-most (succeeds s (plan_txn y.plan)) r in omega (arith, m, again)); most = w })) y.is
-        go (inr (inr y)) = absurd (y.whole.enough refl p head_want (inl refl) refl)
+        go (inr (inr y)) = absurd (y.whole.enough refl (plain-none c.watches no_watches (Asks xid r) p) head_want (inl refl) refl)
         go (inr (inl y)) =
             is-then (asks_for c xid r empty_view (take max_ranges y.lacking)) c' out (inr (record {
               asks = k;
@@ -142,7 +143,7 @@ module _ (s : Store) (n : ℕ) where
             })) y.is
 
     takes-then : (c : Core) (bytes : List ℕ) (now k : ℕ) → asks_of bytes ≤ k + 2 → k + asks_of_all c.waiting ≤ n → TakesFrame c bytes now c' out → Then s n c'
-    takes-then c bytes now k m w h = readable-then c now k (read_request bytes) (plain_reply no_watches (read_request bytes)) refl (omega (arith, m)) w h
+    takes-then c bytes now k m w h = readable-then c now k (read_request bytes) (plain_reply c.watches (read_request bytes)) refl (omega (arith, m)) w h
 
     takes_up-then : (c : Core) (bytes : List ℕ) (now : ℕ) → asks_of bytes + asks_of_all c.waiting ≤ n → TakesUp c bytes now c' out → Then s n c'
     takes_up-then c bytes now w h =

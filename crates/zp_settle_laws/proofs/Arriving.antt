@@ -3,6 +3,7 @@ use Rattle.std.proofs.Common.{◌≡◌, ℕ, ◌+◌, List, [], ◌∷◌, ◌+
 use Rattle.std.specs.Prelude.{Option, Some, None, ◌⊎◌, MatchBool, fold, if◌then◌else◌, not, take}
 use Rattle.zk_jute.specs.Requests.{Frame, NoHeader, Unreadable, Unknown, Asks, read_request}
 use Rattle.zk_model.specs.Watches.{no_watches}
+use Rattle.zk_transcript.proofs.PlainReplies.{plain-none}
 use Rattle.zk_transcript.proofs.Appending.{after-push}
 use Rattle.zk_transcript.specs.Answers.{Told, plain_reply, xid_of}
 use Rattle.zk_transcript.specs.History.{after, session_at}
@@ -47,8 +48,8 @@ use Rattle.zp_settle_laws.specs.Staying.{AreLasting, AreMild, FramesLeaveOpen, I
 is-who : (x : Core × List Action) (c c' : Core) (out : List Action) → x.0.who ≡ c.who → Is x c' out → c'.who ≡ c.who
 is-who x c c' out e i = ap (λ (d : Core). d.who) i.0 ∙ e
 
-readable-who : (c c' : Core) (now : ℕ) (out : List Action) (x : Frame) (o : Option Told) → plain_reply no_watches x ≡ o → TakesReadable c now c' out x o → c'.who ≡ c.who
-readable-who c c' now out x (Some t) p h = is-who (plainly c (xid_of x) t.reply) c c' out refl h
+readable-who : (c c' : Core) (now : ℕ) (out : List Action) (x : Frame) (o : Option Told) → plain_reply c.watches x ≡ o → TakesReadable c now c' out x o → c'.who ≡ c.who
+readable-who c c' now out x (Some t) p h = is-who (plainly c (xid_of x) t) c c' out refl h
 readable-who c c' now out NoHeader None p h = absurd h
 readable-who c c' now out (Unreadable xid place) None p h = absurd h
 readable-who c c' now out (Unknown xid kind) None p h = absurd h
@@ -57,12 +58,12 @@ readable-who c c' now out (Asks xid r) None p h = go (first-or-anew c c' xid r n
     go : PlansBeside c xid r now c' out ⊎ Looks c xid r empty_view now c' out → c'.who ≡ c.who
     go (inl y) = is-who (decided (record c { views = y.views }) xid r y.view now (Planned y.plan)) c c' out refl y.is
     go (inr (inl y)) = is-who (asks_for c xid r empty_view (take max_ranges y.lacking)) c c' out refl y.is
-    go (inr (inr y)) = absurd (y.whole.enough refl p head_want (inl refl) refl)
+    go (inr (inr y)) = absurd (y.whole.enough refl (plain-none c.watches no_watches (Asks xid r) p) head_want (inl refl) refl)
 
 takes_up-who : (c c' : Core) (bytes : List ℕ) (now : ℕ) (out : List Action) → TakesUp c bytes now c' out → c'.who ≡ c.who
 takes_up-who c c' bytes now out h =
     either (is_alive_due c.kept now c.timeout) (Is (keeps_alive c bytes now) c' out) (TakesFrame c bytes now c' out) (c'.who ≡ c.who) h (is-who (keeps_alive c bytes now) c c' out refl)
-    (readable-who c c' now out (read_request bytes) (plain_reply no_watches (read_request bytes)) refl)
+    (readable-who c c' now out (read_request bytes) (plain_reply c.watches (read_request bytes)) refl)
 
 goes-who : (now : ℕ) (c c' : Core) (out : List Action) → Goes now c c' out → c'.who ≡ c.who
 goes-who now c c' out (rests why same none) = ap (λ (d : Core). d.who) same

@@ -9,7 +9,7 @@ use Rattle.ev_types.specs.declared.answer.Answer.TheVariants as answer
 use Rattle.ev_types.specs.declared.answer.Kv.{Kv}
 use Rattle.zk_jute.specs.Connects.{read_connect}
 use Rattle.zk_jute.specs.Requests.{Frame, NoHeader, Unreadable, Unknown, Asks, read_request}
-use Rattle.zk_model.specs.Watches.{fire_all, no_watches}
+use Rattle.zk_model.specs.Watches.{fire_all}
 use Rattle.zk_model.specs.declared.connect.ConnectRequest.{ConnectRequest}
 use Rattle.zk_model.specs.declared.reply.Notice.{Notice}
 use Rattle.zk_model.specs.declared.request.Request.TheVariants as req
@@ -182,6 +182,9 @@ module _ (damage : Bool) where
   fine-end req.Ping = tt
   fine-end (req.Auth kind scheme auth) = tt
   fine-end (req.Multi parts) = tt
+  fine-end (req.Create2 p d a f) = tt
+  fine-end (req.CheckWatches p k) = tt
+  fine-end (req.RemoveWatches p k) = tt
 
   fine-plain : (b : Bool) → EndsFine damage (end_of_plain b)
   fine-plain true = refl
@@ -216,7 +219,7 @@ module _ (damage : Bool) (now : ℕ) (c' : Core) (out : List Action) where
   fine-readable : (c : Core) (x : Frame) (o : Option Told) → TakesReadable c now c' out x o → Finely damage c' out
   fine-readable c x (Some t) h =
       let ends = end_of_plain (is_auth_refusal t.reply) in
-      fine-is (plainly c (xid_of x) t.reply) (record { stage = fine-after damage ends; acts = fine-close damage ends (fine-plain damage (is_auth_refusal t.reply)) }) h
+      fine-is (plainly c (xid_of x) t) (record { stage = fine-after damage ends; acts = fine-close damage ends (fine-plain damage (is_auth_refusal t.reply)) }) h
   fine-readable c NoHeader None h = absurd h
   fine-readable c (Unreadable xid place) None h = absurd h
   fine-readable c (Unknown xid kind) None h = absurd h
@@ -227,7 +230,7 @@ module _ (damage : Bool) (now : ℕ) (c' : Core) (out : List Action) where
       go (inr y) = fine-looks c xid r empty_view y
 
   fine-takes : (c : Core) (bytes : List ℕ) → TakesFrame c bytes now c' out → Finely damage c' out
-  fine-takes c bytes h = fine-readable c (read_request bytes) (plain_reply no_watches (read_request bytes)) h
+  fine-takes c bytes h = fine-readable c (read_request bytes) (plain_reply c.watches (read_request bytes)) h
 
   fine-takes_up : (c : Core) (bytes : List ℕ) → TakesUp c bytes now c' out → Finely damage c' out
   fine-takes_up c bytes h =

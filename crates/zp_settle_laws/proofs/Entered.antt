@@ -9,6 +9,7 @@ use Rattle.std.proofs.lemmas.Option.{slice_get_within}
 use Rattle.zk_jute.specs.Requests.{Frame, NoHeader, Unreadable, Unknown, Asks, read_request}
 use Rattle.zk_least.proofs.Rising.{at-line, not-below}
 use Rattle.zk_model.specs.Watches.{is_unarmed, no_watches}
+use Rattle.zk_transcript.proofs.PlainReplies.{plain-none}
 use Rattle.zk_transcript.specs.Answers.{Told, plain_reply, xid_of}
 use Rattle.zk_transcript.specs.History.{state_at}
 use Rattle.zn_layout.specs.declared.entry.Entry.{Entry}
@@ -53,8 +54,8 @@ use Rattle.zp_settle_laws.proofs.Lasting.{ConnLeft, Left, LeftBy, left-at, still
 is-cursor : (x : Core × List Action) (c c' : Core) (out : List Action) → x.0.cursor ≡ c.cursor → Is x c' out → c'.cursor ≡ c.cursor
 is-cursor x c c' out e i = ap (λ (d : Core). d.cursor) i.0 ∙ e
 
-readable-cursor : (c c' : Core) (now : ℕ) (out : List Action) (x : Frame) (o : Option Told) → plain_reply no_watches x ≡ o → TakesReadable c now c' out x o → c'.cursor ≡ c.cursor
-readable-cursor c c' now out x (Some t) p h = is-cursor (plainly c (xid_of x) t.reply) c c' out refl h
+readable-cursor : (c c' : Core) (now : ℕ) (out : List Action) (x : Frame) (o : Option Told) → plain_reply c.watches x ≡ o → TakesReadable c now c' out x o → c'.cursor ≡ c.cursor
+readable-cursor c c' now out x (Some t) p h = is-cursor (plainly c (xid_of x) t) c c' out refl h
 readable-cursor c c' now out NoHeader None p h = absurd h
 readable-cursor c c' now out (Unreadable xid place) None p h = absurd h
 readable-cursor c c' now out (Unknown xid kind) None p h = absurd h
@@ -63,10 +64,10 @@ readable-cursor c c' now out (Asks xid r) None p h = go (first-or-anew c c' xid 
     go : PlansBeside c xid r now c' out ⊎ Looks c xid r empty_view now c' out → c'.cursor ≡ c.cursor
     go (inl y) = is-cursor (decided (record c { views = y.views }) xid r y.view now (Planned y.plan)) c c' out refl y.is
     go (inr (inl y)) = is-cursor (asks_for c xid r empty_view (take max_ranges y.lacking)) c c' out refl y.is
-    go (inr (inr y)) = absurd (y.whole.enough refl p head_want (inl refl) refl)
+    go (inr (inr y)) = absurd (y.whole.enough refl (plain-none c.watches no_watches (Asks xid r) p) head_want (inl refl) refl)
 
 takes-cursor : (c c' : Core) (bytes : List ℕ) (now : ℕ) (out : List Action) → TakesFrame c bytes now c' out → c'.cursor ≡ c.cursor
-takes-cursor c c' bytes now out h = readable-cursor c c' now out (read_request bytes) (plain_reply no_watches (read_request bytes)) refl h
+takes-cursor c c' bytes now out h = readable-cursor c c' now out (read_request bytes) (plain_reply c.watches (read_request bytes)) refl h
 
 takes_up-cursor : (c c' : Core) (bytes : List ℕ) (now : ℕ) (out : List Action) → TakesUp c bytes now c' out → c'.cursor ≡ c.cursor
 takes_up-cursor c c' bytes now out h =

@@ -10,7 +10,6 @@ use Rattle.ev_types.specs.declared.answer.Answer.{Answer}
 use Rattle.ev_types.specs.declared.answer.Kv.{Kv}
 use Rattle.zk_jute.specs.Connects.{read_connect}
 use Rattle.zk_jute.specs.Requests.{Frame, NoHeader, Unreadable, Unknown, Asks, read_request}
-use Rattle.zk_model.specs.Watches.{no_watches}
 use Rattle.zk_model.specs.declared.connect.ConnectRequest.{ConnectRequest}
 use Rattle.zk_model.specs.declared.request.Request.{Request}
 use Rattle.zk_transcript.specs.Answers.{Told, plain_reply, xid_of}
@@ -98,7 +97,7 @@ module _ (now : ℕ) (c' : Core) (out : List Action) where
   -- ---- a frame is taken up
 
   few-readable : (c : Core) (x : Frame) (o : Option Told) → TakesReadable c now c' out x o → AsksFew c'.stage
-  few-readable c x (Some t) h = few-is (plainly c (xid_of x) t.reply) (few-after (end_of_plain (is_auth_refusal t.reply))) h
+  few-readable c x (Some t) h = few-is (plainly c (xid_of x) t) (few-after (end_of_plain (is_auth_refusal t.reply))) h
   few-readable c NoHeader None h = absurd h
   few-readable c (Unreadable xid place) None h = absurd h
   few-readable c (Unknown xid kind) None h = absurd h
@@ -109,7 +108,7 @@ module _ (now : ℕ) (c' : Core) (out : List Action) where
       go (inr y) = few-looks c xid r empty_view y
 
   few-takes : (c : Core) (bytes : List ℕ) → TakesFrame c bytes now c' out → AsksFew c'.stage
-  few-takes c bytes h = few-readable c (read_request bytes) (plain_reply no_watches (read_request bytes)) h
+  few-takes c bytes h = few-readable c (read_request bytes) (plain_reply c.watches (read_request bytes)) h
 
   few-takes_up : (c : Core) (bytes : List ℕ) → TakesUp c bytes now c' out → AsksFew c'.stage
   few-takes_up c bytes h =

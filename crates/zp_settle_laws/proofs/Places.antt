@@ -130,6 +130,7 @@ FollowsPartAt id v before (p ∷ parts) (suc i) w = FollowsPartAt id v (p ∷ be
 
 abbrev FollowsAt : Request → ℤ → View → ℕ → Want → Type 0
 FollowsAt (req.Create p d a f) id v i w = Follows (req.Create p d a f) id v w
+FollowsAt (req.Create2 p d a f) id v i w = Follows (req.Create2 p d a f) id v w
 FollowsAt (req.Delete p x) id v i w = FollowsOwner v p w
 FollowsAt req.Close id v i w = FollowsClose id v i w
 FollowsAt (req.Multi parts) id v i w = FollowsPartAt id v [] parts i w
@@ -160,6 +161,7 @@ create-same p d a f id v u w t x (s, q, e, r, saw, is) (s', q', e', r', saw', is
 
 after-same : (r : Request) (id : ℤ) (v u : View) (i : ℕ) (w t : Want) → Extends v u → FollowsAt r id v i w → FollowsAt r id u i t → w ≡ t
 after-same (req.Create p d a f) id v u i w t x h k = create-same p d a f id v u w t x h k
+after-same (req.Create2 p d a f) id v u i w t x h k = create-same p d a f id v u w t x h k
 after-same (req.Delete p n) id v u i w t x h k = owner-same v u p w t x h k
 after-same req.Close id v u i w t x h k = close-same id v u i w t x h k
 after-same (req.Multi parts) id v u i w t x h k = part-at-same id v u [] parts i w t x h k
@@ -183,6 +185,7 @@ fixed_wants r id = head_want ∷ life_want id ∷ (map key_want (reads r id) ++ 
 -- how much may follow
 abbrev follows_most : Request → ℕ
 follows_most (req.Create p d a f) = 1
+follows_most (req.Create2 p d a f) = 1
 follows_most (req.Delete p x) = 1
 follows_most req.Close = max_owned
 follows_most (req.Multi parts) = length parts
@@ -230,6 +233,7 @@ listed-place r id v w h = fixed-place r id v w (inr (inr (in_right w (map key_wa
 
 follows-place : (r : Request) (id : ℤ) (v : View) (w : Want) → AreFewOwned id v → Follows r id v w → HasPlace r id v (places r id) w
 follows-place (req.Create p d a f) id v w few h = after-place (req.Create p d a f) id v w 0 (omega arith) h
+follows-place (req.Create2 p d a f) id v w few h = after-place (req.Create2 p d a f) id v w 0 (omega arith) h
 follows-place (req.Delete p x) id v w few h = after-place (req.Delete p x) id v w 0 (omega arith) h
 follows-place (req.GetChildren p x) id v w few h = listed-place (req.GetChildren p x) id v w (inl (sym h))
 follows-place (req.GetChildren2 p x) id v w few h = listed-place (req.GetChildren2 p x) id v w (inl (sym h))
@@ -396,6 +400,9 @@ reads-length (req.Sync p) id = omega arith
 reads-length req.Ping id = omega arith
 reads-length (req.Auth kind scheme auth) id = omega arith
 reads-length (req.Multi parts) id = omega (arith, parts-length id parts)
+reads-length (req.Create2 p d a f) id = omega (arith, create-length (parent (named f p)) f id p)
+reads-length (req.CheckWatches p k) id = omega arith
+reads-length (req.RemoveWatches p k) id = omega arith
 
 after-length : (n : ℕ) → length (after_places n) ≡ n
 after-length zero = refl

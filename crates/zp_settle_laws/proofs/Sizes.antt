@@ -66,6 +66,9 @@ asked-long (req.SetWatches since exists datas children) bytes (a, ar, since_is, 
 asked-long req.Close bytes h = omega arith
 asked-long (req.Sync p) bytes h = omega arith
 asked-long req.Ping bytes h = omega arith
+asked-long (req.Create2 p d a f) bytes h = omega arith
+asked-long (req.CheckWatches p k) bytes h = omega arith
+asked-long (req.RemoveWatches p k) bytes h = omega arith
 asked-long (req.Auth kind scheme auth) bytes h = omega arith
 asked-long (req.Multi parts) bytes (front, last, spelled, end, e) = omega (arith, parts-long parts front spelled, ap (λ (l : List ℕ). length l) e, length-append front last)
 

@@ -12,9 +12,10 @@ use Rattle.ev_types.specs.declared.answer.Answer.{Answer}
 use Rattle.ev_types.specs.declared.answer.Answer.TheVariants as answer
 use Rattle.ev_types.specs.declared.answer.Kv.{Kv}
 use Rattle.zk_jute.specs.Requests.{Frame, NoHeader, Unreadable, Unknown, Asks, read_request}
-use Rattle.zk_model.specs.Watches.{no_watches}
+use Rattle.zk_model.specs.Watches.{Watches, no_watches}
 use Rattle.zk_model.specs.declared.request.Request.{Request}
 use Rattle.zk_model.specs.declared.request.Request.TheVariants as req
+use Rattle.zk_transcript.proofs.PlainReplies.{plain-closes, plain-none}
 use Rattle.zk_transcript.specs.Answers.{Told, plain_reply, xid_of}
 use Rattle.zk_transcript.specs.Walks.{is_auth_refusal}
 use Rattle.zk_transcript.specs.declared.transcript.Cause.{Cause}
@@ -119,6 +120,14 @@ decided-lasting c xid r v now (Planned p) t k w = record { work = k; waiting = w
 decided-lasting c xid r v now Expired t k w = absurd (true-false (sym t))
 decided-lasting c xid r v now (Moved found) t k w = absurd (true-false (sym t))
 
+-- what is not refused where nothing is armed is not refused, whatever is armed
+not-refused : (w : Watches) (x : Frame) (t : Told) → plain_reply w x ≡ Some t → refuses (plain_reply no_watches x) ≡ false → is_auth_refusal t.reply ≡ false
+not-refused w x t p k = go (is_auth_refusal t.reply) refl
+  where
+    go : (b : Bool) → is_auth_refusal t.reply ≡ b → b ≡ false
+    go false e = refl
+    go true e = let bad : true ≡ false = sym e ∙ sym (ap refuses (plain-closes w no_watches x t p e)) ∙ k in absurd (true-false bad)
+
 module _ (c' : Core) (out : List Action) where
   looks-lasting : (c : Core) (xid : ℤ) (r : Request) (v : View) (now : ℕ) → pos 1 ≤ℤ c.who.mine → IsForTree r → SeesLife c.who v → is_close r ≡ false → AreLasting c.waiting → Looks c xid r v now c' out → IsLasting c'
   looks-lasting c xid r v now rises tree s k w (inl y) = is-lasting (asks_for c xid r v (take max_ranges y.lacking)) c' out (record { work = k; waiting = w }) y.is
@@ -132,10 +141,10 @@ module _ (c' : Core) (out : List Action) where
 
   -- ---- a frame is taken up
 
-  readable-lasting : (c : Core) (now : ℕ) (x : Frame) (o : Option Told) → plain_reply no_watches x ≡ o → closes_after x ≡ false → AreLasting c.waiting → TakesReadable c now c' out x o → IsLasting c'
+  readable-lasting : (c : Core) (now : ℕ) (x : Frame) (o : Option Told) → plain_reply c.watches x ≡ o → closes_after x ≡ false → AreLasting c.waiting → TakesReadable c now c' out x o → IsLasting c'
   readable-lasting c now x (Some t) p k w h =
-      let mild : is_auth_refusal t.reply ≡ false = sym (ap refuses p) ∙ (or-both (asks_close x) (refuses (plain_reply no_watches x)) k).1 in
-      is-lasting (plainly c (xid_of x) t.reply) c' out (answered c (plainly c (xid_of x) t.reply).0 (end_of_plain (is_auth_refusal t.reply)) (ap end_of_plain mild) w refl refl) h
+      let mild : is_auth_refusal t.reply ≡ false = not-refused c.watches x t p (or-both (asks_close x) (refuses (plain_reply no_watches x)) k).1 in
+      is-lasting (plainly c (xid_of x) t) c' out (answered c (plainly c (xid_of x) t).0 (end_of_plain (is_auth_refusal t.reply)) (ap end_of_plain mild) w refl refl) h
   readable-lasting c now NoHeader None p k w h = absurd h
   readable-lasting c now (Unreadable xid place) None p k w h = absurd h
   readable-lasting c now (Unknown xid kind) None p k w h = absurd h
@@ -147,10 +156,10 @@ module _ (c' : Core) (out : List Action) where
       go : PlansBeside c xid r now c' out ⊎ Looks c xid r empty_view now c' out → IsLasting c'
       go (inl y) = is-lasting (decided (record c { views = y.views }) xid r y.view now (Planned y.plan)) c' out (record { work = stays; waiting = w }) y.is
       go (inr (inl y)) = is-lasting (asks_for c xid r empty_view (take max_ranges y.lacking)) c' out (record { work = stays; waiting = w }) y.is
-      go (inr (inr y)) = absurd (y.whole.enough refl p head_want (inl refl) refl)
+      go (inr (inr y)) = absurd (y.whole.enough refl (plain-none c.watches no_watches (Asks xid r) p) head_want (inl refl) refl)
 
   takes-lasting : (c : Core) (bytes : List ℕ) (now : ℕ) → closes_after (read_request bytes) ≡ false → AreLasting c.waiting → TakesFrame c bytes now c' out → IsLasting c'
-  takes-lasting c bytes now k w h = readable-lasting c now (read_request bytes) (plain_reply no_watches (read_request bytes)) refl k w h
+  takes-lasting c bytes now k w h = readable-lasting c now (read_request bytes) (plain_reply c.watches (read_request bytes)) refl k w h
 
   takes_up-lasting : (c : Core) (bytes : List ℕ) (now : ℕ) → closes_after (read_request bytes) ≡ false → AreLasting c.waiting → TakesUp c bytes now c' out → IsLasting c'
   takes_up-lasting c bytes now k w h =

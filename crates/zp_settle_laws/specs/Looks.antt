@@ -22,6 +22,9 @@ looks (req.Sync p) = 2
 looks req.Ping = 2
 looks (req.Auth kind scheme auth) = 2
 looks (req.Multi parts) = 2 + 5 * length parts
+looks (req.Create2 p d a f) = 7
+looks (req.CheckWatches p k) = 2
+looks (req.RemoveWatches p k) = 2
 
 -- what is no request looks up nothing
 abbrev pub looks_in : Frame → ℕ

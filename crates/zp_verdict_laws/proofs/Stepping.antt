@@ -14,6 +14,7 @@ use Rattle.zk_model.specs.declared.connect.ConnectRequest.{ConnectRequest}
 use Rattle.zk_model.specs.declared.reply.Notice.{Notice}
 use Rattle.zk_model.specs.declared.request.Request.TheVariants as req
 use Rattle.zk_model.specs.declared.request.Request.{Request}
+use Rattle.zk_transcript.proofs.PlainReplies.{plain-none}
 use Rattle.zk_transcript.specs.Answers.{Told, plain_reply, xid_of}
 use Rattle.zk_transcript.specs.Walks.{has_header, is_auth_refusal}
 use Rattle.zk_transcript.specs.declared.transcript.Cause.TheVariants as cause
@@ -173,6 +174,9 @@ natural-end (req.Sync p) = tt
 natural-end req.Ping = tt
 natural-end (req.Auth kind scheme auth) = tt
 natural-end (req.Multi parts) = tt
+natural-end (req.Create2 p d a f) = tt
+natural-end (req.CheckWatches p k) = tt
+natural-end (req.RemoveWatches p k) = tt
 
 natural-plain : (b : Bool) → EndsNatural (end_of_plain b)
 natural-plain true = tt
@@ -222,21 +226,24 @@ module _ (now : ℕ) (c' : Core) (out : List Action) where
 
   -- ---- a frame is taken up
 
-  natural-readable : (c : Core) (x : Frame) (o : Option Told) → plain_reply no_watches x ≡ o → IsNaturalCore c → TakesReadable c now c' out x o → Naturally c' out
+  natural-readable : (c : Core) (x : Frame) (o : Option Told) → plain_reply c.watches x ≡ o → IsNaturalCore c → TakesReadable c now c' out x o → Naturally c' out
   natural-readable c x (Some t) e k h =
       let ends = end_of_plain (is_auth_refusal t.reply) in
-      natural-is (plainly c (xid_of x) t.reply) (record { core = record { stage = natural-after ends; cursor = k.cursor; mine = k.mine }; acts = natural-close ends (natural-plain (is_auth_refusal t.reply)) }) h
+      natural-is (plainly c (xid_of x) t) (record { core = record { stage = natural-after ends; cursor = k.cursor; mine = k.mine }; acts = natural-close ends (natural-plain (is_auth_refusal t.reply)) }) h
   natural-readable c NoHeader None e k h = absurd h
   natural-readable c (Unreadable xid place) None e k h = absurd h
   natural-readable c (Unknown xid kind) None e k h = absurd h
   natural-readable c (Asks xid r) None e k h = go (first-or-anew c c' xid r now out (update_path r) h)
     where
+      tree : IsForTree r
+      tree = plain-none c.watches no_watches (Asks xid r) e
+
       go : PlansBeside c xid r now c' out ⊎ Looks c xid r empty_view now c' out → Naturally c' out
-      go (inl y) = natural-is (decided (record c { views = y.views }) xid r y.view now (Planned y.plan)) (record { core = record { stage = e; cursor = k.cursor; mine = k.mine }; acts = tt }) y.is
-      go (inr y) = natural-looks c xid r empty_view e k empty-natural y
+      go (inl y) = natural-is (decided (record c { views = y.views }) xid r y.view now (Planned y.plan)) (record { core = record { stage = tree; cursor = k.cursor; mine = k.mine }; acts = tt }) y.is
+      go (inr y) = natural-looks c xid r empty_view tree k empty-natural y
 
   natural-takes : (c : Core) (bytes : List ℕ) → IsNaturalCore c → TakesFrame c bytes now c' out → Naturally c' out
-  natural-takes c bytes k h = natural-readable c (read_request bytes) (plain_reply no_watches (read_request bytes)) refl k h
+  natural-takes c bytes k h = natural-readable c (read_request bytes) (plain_reply c.watches (read_request bytes)) refl k h
 
   natural-takes_up : (c : Core) (bytes : List ℕ) → IsNaturalCore c → TakesUp c bytes now c' out → Naturally c' out
   natural-takes_up c bytes k h =
