@@ -7,6 +7,7 @@ use Rattle.std.proofs.lemmas.Bool.{and_parts}
 use Rattle.std.proofs.lemmas.Bool.Decides.{nat_tests}
 use Rattle.std.proofs.lemmas.Int.{ints}
 use Rattle.zk_model.specs.declared.reply.Body.TheVariants as body
+use Rattle.zk_model.specs.declared.reply.Notice.{Notice}
 use Rattle.zk_model.specs.declared.reply.Reply.{Reply}
 use Rattle.zk_model.specs.declared.reply.Reply.TheVariants as reply
 use Rattle.zk_model.specs.Codes.{no_watcher, session_expired, session_moved}
@@ -119,10 +120,11 @@ plainly-by lines c id w u h = by (placed_frame c w.next lines) refl (if_Some w.o
     on f e None p t = absurd (cc)
     on f e (Some r) p t =
         let k = later_of w.since (f.0 + 1) in
-        let packet = (k, reply_packet (xid_of (read_request f.1)) w.zxid r.reply) in
-        let after = record w { watches = r.watches; next = w.next + 1; over = is_auth_refusal r.reply } in
+        let packet : Due = (k, reply_packet (xid_of (read_request f.1)) w.zxid r.reply) in
+        let after : Walker = record w { watches = r.watches; next = w.next + 1; over = is_auth_refusal r.reply } in
+        let sent : List Notice → Walker × List Due = λ ns. (after, due_notices k ns ++ packet ∷ []) in
         let s : ◌≡◌ {A = Walker × List Due} (after, due_notices k r.notices ++ packet ∷ []) u = cc in
-        record { place = f.0; bytes = f.1; said = r; frame = e; plain = p; gives = sym (ap (λ ns. (after, due_notices k ns ++ packet ∷ [])) (plain-quiet w.watches (read_request f.1) r p)) ∙ s }
+        record { place = f.0; bytes = f.1; said = r; frame = e; plain = p; gives = sym (ap sent (plain-quiet w.watches (read_request f.1) r p)) ∙ s }
 
     by : (o : Option (ℕ × List ℕ)) → placed_frame c w.next lines ≡ o → answer_plainly w o ≡ Some u → IsPlainly lines c w u
     by None e t = absurd (cc)
