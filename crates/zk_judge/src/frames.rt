@@ -141,12 +141,20 @@ fn request_said(alloc: Global, request: &Request, watches: Watches) -> Result<Op
     ensures { IfOk result (λ o. option_map said_of o ≡ plain_request_of watches request.now) }
 {
     match request {
-        Request::CheckWatches { path, kind } => {
-            watcher_said(alloc, watches, path.as_slice(), *kind, false)
-        }
-        Request::RemoveWatches { path, kind } => {
-            watcher_said(alloc, watches, path.as_slice(), *kind, true)
-        }
+        Request::CheckWatches { path, kind } => Ok(watcher_said(
+            alloc,
+            watches,
+            path.as_slice(),
+            *kind,
+            false,
+        )?),
+        Request::RemoveWatches { path, kind } => Ok(watcher_said(
+            alloc,
+            watches,
+            path.as_slice(),
+            *kind,
+            true,
+        )?),
         _ => other_said(alloc, request, watches),
     }
 }

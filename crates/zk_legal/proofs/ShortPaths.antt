@@ -12,6 +12,8 @@ use Rattle.zk_model.specs.Limits.{max_load, max_parts, max_path, max_version}
 use Rattle.zk_model.specs.declared.node.Node.{Node}
 use Rattle.zk_model.specs.declared.node.Trigger.{Trigger}
 use Rattle.zk_model.specs.declared.node.Stat.{Stat}
+use Rattle.zk_model.specs.declared.reply.Body.{Body}
+use Rattle.zk_model.specs.declared.reply.Body.TheVariants as body
 use Rattle.zk_model.specs.declared.reply.PartResult.{PartResult}
 use Rattle.zk_model.specs.declared.reply.PartResult.TheVariants as result
 use Rattle.zk_model.specs.declared.request.Part.{Part}
