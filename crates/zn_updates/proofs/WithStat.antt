@@ -14,8 +14,9 @@ use Rattle.zk_model.specs.declared.request.Part.TheVariants as part
 use Rattle.zk_model.specs.declared.request.Request.{Request}
 use Rattle.zk_model.specs.declared.request.Request.TheVariants as req
 use Rattle.zk_model.specs.Single.{Outcome, Refused, Done, single}
+use Rattle.zk_model.specs.Watches.{no_watches}
 use Rattle.zk_transcript.specs.Answers.{Told, plain_request, tree_reply}
-use Rattle.zk_transcript.specs.History.{State, Commit, body_with_stat, commit, commit_single, commit_with_stat, committed, made_stat, response_of}
+use Rattle.zk_transcript.specs.History.{State, Commit, body_with_stat, commit, commit_single, commit_with_stat, committed, limit_of, made_stat, response_of}
 use Rattle.zn_layout.specs.StandsFor.{StandsFor}
 use Rattle.zn_view.specs.declared.plan.Decision.{Decision}
 use Rattle.zn_view.specs.declared.plan.Decision.TheVariants.{Answered, Planned, Expired, Moved}
@@ -135,7 +136,7 @@ module _ (path content : Bytes) (acl : List Acl) (flags : ℤ) where
 
   pub sound-asked : (stat : Stat) (who : Who) (v : View) (d : Decision) → IsBySound plainly who v d → IsBySound asked who v (with_stat stat d)
   unfolding plain_request tree_reply
-  sound-asked stat who v d sound = λ plain s is of x opened. with_stat-told stat plainly asked d _ (told-asked stat d) (sound plain s is of x opened)
+  sound-asked stat who v d sound = λ plain s is of x opened. with_stat-told stat plainly asked d (tree_reply s.tree (limit_of x) who.session no_watches plainly) (told-asked stat d) (sound plain s is of x opened)
 
   is_done-asked : (s : State) (z session : ℤ) (now : ℕ) (p : Plan) → IsDone s z session plainly now p.triggers (finished z p.draft)
       → IsDone s z session asked now p.triggers (finished z (reply_with_stat (stat_at session (pos 0) now) p.draft))
@@ -155,8 +156,8 @@ module _ (path content : Bytes) (acl : List Acl) (flags : ℤ) where
   plan-asked who now v p plan = record {
     carries = λ m s z sound stands may above most.
         subst (StandsFor (acts_applied z m p.success)) (committed-with_stat s z (stat_at who.session z now) (single s.tree (limit_at who.session s) who.session (part.Create path content acl flags) z now))
-        (plan.carries m s z sound stands (may_commit _ p v m may) above most);
-    answers = λ m s z sound stands may above most. is_done-asked s z who.session now p (plan.answers m s z sound stands (may_commit _ p v m may) above most);
+        (plan.carries m s z sound stands (may_commit (stat_at who.session (pos 0) now) p v m may) above most);
+    answers = λ m s z sound stands may above most. is_done-asked s z who.session now p (plan.answers m s z sound stands (may_commit (stat_at who.session (pos 0) now) p v m may) above most);
   }
 
   reads-asked : (who : Who) (v : View) (stat : Stat) (p : Plan) → GuardsReads plainly who v p → GuardsReads asked who v (plan_with_stat stat p)

@@ -47,7 +47,7 @@ pub plain-move : (lines : List TranscriptLine) (c : ℕ) (id : ℤ) (w : Walker)
 unfolding move
 plain-move lines c id w k bytes t o f p =
     let place = later_of w.since (k + 1) in
-    let packet = (place, reply_packet (xid_of (read_request bytes)) w.zxid t.reply) in
-    let after = record w { watches = t.watches; next = w.next + 1; over = is_auth_refusal t.reply } in
+    let packet : Due = (place, reply_packet (xid_of (read_request bytes)) w.zxid t.reply) in
+    let after : Walker = record w { watches = t.watches; next = w.next + 1; over = is_auth_refusal t.reply } in
     ap (λ b. if b then None else answer_plainly w (placed_frame c w.next lines)) o ∙ ap (answer_plainly w) f ∙ ap (plain_answer w place (xid_of (read_request bytes))) p
     ∙ ap (λ ns. Some (after, due_notices place ns ++ packet ∷ [])) (plain-quiet w.watches (read_request bytes) t p)

@@ -14,4 +14,4 @@ returns-in-Stat c =
 pub returns-in-PathStat : goal.returns-in-PathStat
 returns-in-PathStat c =
     let fits : SFits w64 c.args.zxid = search rules in
-    ap (PathStat c.in-PathStat.path) (c.own_stat.ensures ∙ ap (λ (z : ℤ). own_stat z c.in-PathStat.stat) (to_z-of_z w64 _ fits)) ∙ sym (ap (own_body c.args.zxid) c.in-PathStat.is)
+    ap (PathStat c.in-PathStat.path) (c.own_stat-in-PathStat.ensures ∙ ap (λ (z : ℤ). own_stat z c.in-PathStat.stat) (to_z-of_z w64 _ fits)) ∙ sym (ap (own_body c.args.zxid) c.in-PathStat.is)
