@@ -66,10 +66,13 @@ fn refusal_of_path(alloc: Global, text: &[u8]) -> Result<Option<Reply>, Memory>
 }
 
 /// Whether a checkWatches or removeWatches is not refused for its path or its type.
-pub fn names_watches(alloc: Global, text: &[u8], kind: i32) -> Result<bool, Memory>
+fn names_watches(alloc: Global, text: &[u8], kind: i32) -> Result<bool, Memory>
     ensures { IfOk result (λ b. b ≡ names_watches text.now kind) }
 {
-    Ok(read_path(alloc, text, false)?.is_some() && is_watcher_type(kind))
+    match read_path(alloc, text, false)? {
+        Some(_path) => Ok(is_watcher_type(kind)),
+        None => Ok(false),
+    }
 }
 
 /// The answer to a checkWatches or removeWatches where nothing is armed.

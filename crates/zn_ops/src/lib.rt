@@ -15,7 +15,7 @@ mod laws;
 mod wanting;
 
 pub use deciding::{attached_at, decide};
-pub use form::{names_watches, plain_reply};
+pub use form::plain_reply;
 pub use kinds::{is_short, is_single};
 pub use laws::planned_where_not_refused;
 pub use wanting::needs;
