@@ -4,7 +4,6 @@ use Rattle.std.specs.Prelude.{◌&&◌, Option, Some, None, option_map}
 use Rattle.zk_jute.specs.Requests.{Asks}
 use Rattle.zx_base.specs.Maps.{Bytes}
 use Rattle.zk_model.specs.declared.reply.Body.TheVariants as body
-use Rattle.zk_model.specs.declared.reply.Reply.{Reply}
 use Rattle.zk_model.specs.declared.reply.Reply.TheVariants as reply
 use Rattle.zk_model.specs.declared.request.Request.{Request}
 use Rattle.zk_model.specs.declared.request.Request.TheVariants as req
@@ -13,20 +12,19 @@ use Rattle.zk_model.specs.Paths.{is_path}
 use Rattle.zk_model.specs.Watches.{Watches, is_watched, is_watcher_type, no_watches}
 use Rattle.zk_transcript.specs.Answers.{Told, asks_of_watches, names_watches, only, plain_request, told_of_watcher}
 use Rattle.zk_transcript.proofs.PlainReplies.{plain-only, reply_in}
-use Rattle.zn_ops.specs.Forms.{told_by}
+use Rattle.zp_core.specs.Meanings.{told_with}
 
 pub other-watches : (xid : ℤ) (r : Request) → ((p : Bytes) (kind : ℤ) → r ≡ req.CheckWatches p kind → ⊥) → ((p : Bytes) (kind : ℤ) → r ≡ req.RemoveWatches p kind → ⊥) → asks_of_watches (Asks xid r) ≡ false
 other-watches xid (req.CheckWatches p kind) check remove = absurd (check p kind refl)
 other-watches xid (req.RemoveWatches p kind) check remove = absurd (remove p kind refl)
 other-watches xid _ check remove = refl
 
-same-reply : (o : Option Reply) → reply_in (told_by o) ≡ o
-same-reply None = refl
-same-reply (Some r) = refl
+same-told : (w : Watches) (o : Option Told) → option_map (only w) (reply_in o) ≡ told_with w o
+same-told w None = refl
+same-told w (Some t) = refl
 
-pub plain-with : (w : Watches) (xid : ℤ) (r : Request) (o : Option Reply) → asks_of_watches (Asks xid r) ≡ false → told_by o ≡ plain_request no_watches r → plain_request w r ≡ option_map (only w) o
-plain-with w xid r o other is =
-    plain-only w no_watches (Asks xid r) other ∙ ap (λ (x : Option Told). option_map (only w) (reply_in x)) (sym is) ∙ ap (option_map (only w)) (same-reply o)
+pub plain-with : (w : Watches) (xid : ℤ) (r : Request) → asks_of_watches (Asks xid r) ≡ false → plain_request w r ≡ told_with w (plain_request no_watches r)
+plain-with w xid r other = plain-only w no_watches (Asks xid r) other ∙ same-told w (plain_request no_watches r)
 
 -- ---- the answer by what was tested
 

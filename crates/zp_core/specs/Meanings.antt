@@ -1,5 +1,7 @@
 -- What the code keeps, as the definition's data.
-use Rattle.std.specs.Prelude.{◌≡◌, List, [], ◌∷◌}
+use Rattle.std.specs.Prelude.{◌≡◌, List, [], ◌∷◌, Option, Some, None}
+use Rattle.zk_model.specs.Watches.{Watches}
+use Rattle.zk_transcript.specs.Answers.{Told, only}
 use Rattle.zk_transcript.specs.declared.transcript.Cause.{Cause}
 use Rattle.zp_step.specs.declared.action.Action.{Action}
 use Rattle.zp_step.specs.declared.action.Action.TheVariants as action
@@ -50,6 +52,13 @@ core_of c s = record {
 -- the core of a client in the stage `Ready`
 abbrev pub ready : Client → step.Core
 ready c = core_of c step.Ready
+
+-- ---- what is told without the tree
+
+-- what is told where nothing is armed, with these watches armed before and after
+abbrev pub told_with : Watches → Option Told → Option Told
+told_with w None = None
+told_with w (Some t) = Some (only w t.reply)
 
 -- ---- what a move does
 

@@ -1,13 +1,14 @@
 //! How a frame is taken up: what needs no tree is answered at once, and anything else is looked up.
 
-ghost use Rattle.std.specs.Prelude.{◌≡◌, ◌≤ℤ◌, false, pos, IfOk, ◌<◌, ◌^◌};
+ghost use Rattle.std.specs.Prelude.{◌≡◌, ◌≤ℤ◌, pos, IfOk, ◌<◌, ◌^◌};
 ghost use Rattle.zk_jute.specs.Requests.{Asks, read_request as read_as};
-ghost use Rattle.zk_transcript.specs.Answers.{asks_of_watches, only, plain_request, told_of_watches, xid_of as xid_in};
+ghost use Rattle.zk_model.specs.Watches.{no_watches};
+ghost use Rattle.zk_transcript.specs.Answers.{only, plain_request, told_of_watches, xid_of as xid_in};
 ghost use Rattle.zk_transcript.specs.Walks.{is_auth_refusal};
 ghost use Rattle.zp_step.specs.Replies.{Is};
 ghost use Rattle.zp_step.specs.Taking.{TakesFrame, TakesReadable, plainly, end_of_plain};
 ghost use Rattle.zp_core.specs.Held.{IsFrame, IsRequest};
-ghost use Rattle.zp_core.specs.Meanings.{Leads, ready};
+ghost use Rattle.zp_core.specs.Meanings.{Leads, ready, told_with};
 
 use crate::at_once::{begun, look_first};
 use crate::client::Client;
@@ -49,7 +50,6 @@ fn answer_plainly(
 }
 
 /// The reply to a checkWatches or, where `removes`, to a removeWatches, which takes the watches away that it names.
-#[tactic(auto, using(crate::proofs::Watching::no_path, crate::proofs::Watching::no_type, crate::proofs::Watching::no_watch, crate::proofs::Watching::some_watch))]
 fn watcher_reply(
     alloc: Global,
     watches: &mut Armed,
@@ -62,14 +62,17 @@ fn watcher_reply(
     let Some(path) = read_path(alloc, text, false)? else {
         return Ok(Reply::Refused(BAD_ARGUMENTS));
     };
-    if !is_watcher_type(kind) {
+    let is_type = is_watcher_type(kind);
+    if !is_type {
         return Ok(Reply::Refused(BAD_ARGUMENTS));
     }
-    if !watches.has(&path, kind) {
+    let is_armed = watches.has(&path, kind);
+    if !is_armed {
         return Ok(Reply::Refused(NO_WATCHER));
     }
     if removes {
         watches.remove(&path, kind);
+        return Ok(Reply::Good(Body::Empty));
     }
     Ok(Reply::Good(Body::Empty))
 }
@@ -89,7 +92,7 @@ fn answer_watcher(
     answer_plainly(alloc, client, xid, &reply)
 }
 
-/// Takes up a request that is not about watches.
+/// Takes up a request as where nothing is armed, and leaves armed what is.
 fn take_other(
     alloc: Global,
     client: &mut Client,
@@ -100,8 +103,7 @@ fn take_other(
     requires request { IsRequest request }
     requires real { pos 1 ≤ℤ client.old.who.session }
     requires time { now < 2 ^ 62 }
-    requires other { asks_of_watches (Asks xid request) ≡ false }
-    ensures { IfOk result (Leads (λ c out. TakesReadable (ready client.old) now c out (Asks xid request) (plain_request client.old.watches request)) client.new) }
+    ensures { IfOk result (Leads (λ c out. TakesReadable (ready client.old) now c out (Asks xid request) (told_with client.old.watches (plain_request no_watches request))) client.new) }
 {
     match plain_reply(alloc, &request)? {
         Some(reply) => answer_plainly(alloc, client, xid, &reply),
