@@ -161,8 +161,41 @@ public class Clients {
     a.close();
   }
 
+  // A create tells the Stat of the node that it made, and a watch that was taken away is told of nothing.
+  static void unwatch(String host, String ignored) throws Exception {
+    ZooKeeper a = connect(host, new Events());
+    Stat made = new Stat();
+    a.create("/java-unwatch", bytes("x"), Ids.OPEN_ACL_UNSAFE, CreateMode.PERSISTENT, made);
+    check("the stat of a create", made.equals(a.exists("/java-unwatch", false)) && made.getDataLength() == 1);
+    String first = a.create("/java-unwatch/n-", bytes(""), Ids.OPEN_ACL_UNSAFE, CreateMode.EPHEMERAL_SEQUENTIAL, made);
+    check("an owner", first.equals("/java-unwatch/n-0000000000") && made.getEphemeralOwner() == a.getSessionId());
+    Events one = new Events(), other = new Events(), children = new Events();
+    a.getData("/java-unwatch", one, null);
+    a.getData("/java-unwatch", other, null);
+    a.getChildren("/java-unwatch", children);
+    a.removeWatches("/java-unwatch", one, Watcher.WatcherType.Data, false);
+    check("one of two is gone", one.next() == Watcher.Event.EventType.DataWatchRemoved);
+    a.setData("/java-unwatch", bytes("y"), -1);
+    check("the other is told", other.next() == Watcher.Event.EventType.NodeDataChanged);
+    a.getData("/java-unwatch", other, null);
+    a.removeAllWatches("/java-unwatch", Watcher.WatcherType.Data, false);
+    check("all of data are gone", other.next() == Watcher.Event.EventType.DataWatchRemoved);
+    a.setData("/java-unwatch", bytes("z"), -1);
+    a.delete(first, -1);
+    check("the children's is left", children.next() == Watcher.Event.EventType.NodeChildrenChanged);
+    a.exists("/java-unwatch", false);
+    check("nothing more is told", one.all.isEmpty() && other.all.isEmpty() && children.all.isEmpty());
+    try {
+      a.removeAllWatches("/java-unwatch", Watcher.WatcherType.Any, false);
+      check("no watch is left", false);
+    } catch (KeeperException.NoWatcherException expected) {
+    }
+    a.close();
+  }
+
   public static void main(String[] words) throws Exception {
     switch (words[0]) {
+      case "unwatch": unwatch(words[1], words[2]); break;
       case "basics": basics(words[1], words[2]); break;
       case "lock": lock(words[1], words[2]); break;
       case "failover": failover(words[1], words[2]); break;

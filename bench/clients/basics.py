@@ -168,6 +168,16 @@ def the_java_client_elects_a_leader(program, work):
         runs("java", "Clients", "elect", proxies[0].address, proxies[1].address)
 
 
+def the_java_client_takes_watches_away(program, work):
+    with two_proxies(program, work) as (_etcd, proxies):
+        runs("java", "Clients", "unwatch", proxies[0].address, proxies[1].address)
+
+
+def curator_reads_writes_locks_and_elects(program, work):
+    with two_proxies(program, work) as (_etcd, proxies):
+        runs("java", "Curator", proxies[0].address, proxies[1].address)
+
+
 def the_c_client_reads_writes_watches_locks_and_elects(program, work):
     with two_proxies(program, work) as (_etcd, proxies):
         runs(f"{work}/clients", proxies[0].address, proxies[1].address)
@@ -304,5 +314,6 @@ def connections_that_end_are_told(program, work):
 
 checks = [kazoo_reads_writes_and_watches, kazoo_holds_a_lock, kazoo_elects_a_leader, kazoo_has_its_other_recipes,
           the_java_client_reads_writes_and_watches, the_java_client_holds_a_lock, the_java_client_elects_a_leader,
+          the_java_client_takes_watches_away, curator_reads_writes_locks_and_elects,
           the_c_client_reads_writes_watches_locks_and_elects, zkcli_reads_writes_and_watches, zkclis_elect_and_lock,
           large_nodes_and_long_listings, many_requests_at_once, an_etcd_in_memory_does_as_well, connections_that_end_are_told]
