@@ -7,7 +7,7 @@ ghost use Rattle.ev_types.specs.declared.ask.Ask.{Ask as SomeAsk};
 use ev_types::{Answer, Ask};
 
 /// Why a call of an endpoint has no answer.
-#[derive(Clone, Copy, Debug, PartialEq, Eq)]
+#[derive(Clone, Copy, PartialEq, Eq)]
 pub enum EndFault {
     /// Nothing was sent, so nothing was carried out.
     NotSent,

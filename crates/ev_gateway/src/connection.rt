@@ -19,7 +19,7 @@ use zx_net::Clock;
 use zx_outside::{Sink, Source};
 
 /// Why a gateway stopped.
-#[derive(Clone, Copy, Debug, PartialEq, Eq)]
+#[derive(Clone, Copy, PartialEq, Eq)]
 pub enum GatewayEnd {
     /// The source ended between two messages.
     Ended,

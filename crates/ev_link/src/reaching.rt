@@ -13,7 +13,7 @@ use std::alloc::Global;
 use zx_net::Net;
 
 /// Why there is no link.
-#[derive(Clone, Copy, Debug)]
+#[derive(Clone, Copy)]
 pub enum NoLink {
     /// Nobody answers at any of the addresses.
     Dial,

@@ -15,7 +15,7 @@ use zx_net::{Clock, Net, Spawner};
 use zx_outside::Sink;
 
 /// How a server ended.
-#[derive(Clone, Copy, Debug, PartialEq, Eq)]
+#[derive(Clone, Copy, PartialEq, Eq)]
 pub enum EtcdEnd {
     /// As many connections as the limit allows were accepted, and have ended.
     Done,

@@ -6,7 +6,7 @@ ghost use Rattle.zp_conn.specs.Writing.{Wrote};
 use zx_outside::{Sink, Took};
 
 /// The sink failed. It took a front of the bytes, and how much is not known.
-#[derive(Clone, Copy, Debug)]
+#[derive(Clone, Copy)]
 pub(crate) struct WriteFault;
 
 /// Writes all of the bytes, or up to the first fault of the sink.

@@ -12,7 +12,7 @@ use std::marker::Model;
 use zx_base::{Bytes, Memory};
 
 /// A path by its bytes, as it stands in a request: the key under which its view is kept.
-#[derive(Debug, Drop)]
+#[derive(Drop)]
 pub struct PathKey {
     bytes: Vec<u8>,
 }

@@ -30,7 +30,7 @@ pub trait Book<I: Source + Drop, O: Sink + Drop> {
 }
 
 /// A book that keeps nothing, and is never out of memory.
-#[derive(Clone, Copy, Debug)]
+#[derive(Clone, Copy)]
 pub struct NoBook;
 
 impl<I: Source + Drop, O: Sink + Drop> Book<I, O> for NoBook {

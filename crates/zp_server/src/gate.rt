@@ -7,7 +7,7 @@ pub trait Gate {
 }
 
 /// Holds nobody.
-#[derive(Clone, Copy, Debug)]
+#[derive(Clone, Copy)]
 pub struct OpenGate;
 
 impl Gate for OpenGate {

@@ -11,7 +11,7 @@ use ev_types::{Answer, Ask};
 use zx_base::Memory;
 
 /// Why a turn stopped before its end.
-#[derive(Clone, Copy, Debug, PartialEq, Eq)]
+#[derive(Clone, Copy, PartialEq, Eq)]
 pub enum TurnFault {
     /// A call of the link failed.
     Failed,

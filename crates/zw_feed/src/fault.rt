@@ -3,7 +3,7 @@
 use zx_base::Bytes;
 
 /// Why a follower gives no entries for a line. Each but `Memory` is for good.
-#[derive(Debug, Drop)]
+#[derive(Drop)]
 pub enum FeedFault {
     /// etcd ended the watch.
     Ended,

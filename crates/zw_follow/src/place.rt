@@ -1,7 +1,7 @@
 //! Where the updates stand.
 
 /// At this revision of etcd this is the number of the last update, which is the version that it gave the head.
-#[derive(Clone, Copy, Debug, PartialEq, Eq)]
+#[derive(Clone, Copy, PartialEq, Eq)]
 pub struct Place {
     pub number: i64,
     pub revision: i64,

@@ -9,7 +9,7 @@ pub trait Rings {
 }
 
 /// Nobody is woken.
-#[derive(Clone, Copy, Debug)]
+#[derive(Clone, Copy)]
 pub struct NoBells;
 
 impl Rings for NoBells {

@@ -31,7 +31,7 @@ pub trait Wakes: Source {
 }
 
 /// The bell of a source in memory, whose reads never wait: there is none to ring.
-#[derive(Clone, Copy, Debug, Drop)]
+#[derive(Clone, Copy, Drop)]
 pub struct NoBell;
 
 impl Bell for NoBell {

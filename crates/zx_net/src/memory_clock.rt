@@ -8,7 +8,7 @@ use crate::Clock;
 const LAST_MOMENT: u64 = (1 << 62) - 1;
 
 /// A clock that stands still.
-#[derive(Clone, Copy, Debug)]
+#[derive(Clone, Copy)]
 pub struct MemClock {
     moment: u64,
     ghost within: { moment < 2 ^ 62 },

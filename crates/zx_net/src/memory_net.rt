@@ -12,7 +12,7 @@ use std::marker::Model;
 use zx_outside::{MemSink, MemSource};
 
 /// A door in memory. Each accept at it gives a stream that ends at once.
-#[derive(Clone, Copy, Debug, Drop)]
+#[derive(Clone, Copy, Drop)]
 pub struct MemDoor;
 
 /// A net whose accepted streams end at once, and whose dialled streams give listed bytes. What is written to any of

@@ -7,7 +7,7 @@ use zx_outside::{Sink, Source};
 
 /// The net did not do what it was asked: the address cannot be listened on or dialled, the door is broken, or there is
 /// no room for one more stream.
-#[derive(Clone, Copy, Debug, Drop, PartialEq, Eq)]
+#[derive(Clone, Copy, Drop, PartialEq, Eq)]
 pub struct NetFailed;
 
 /// Where streams to peers come from: the system's sockets, or memory. Faults are answers, and are counted.
