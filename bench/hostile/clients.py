@@ -341,7 +341,7 @@ def updates_with_the_longest_entries(program, work):
         took, count, held = time.time() - since, sum(counts), it.meter.now()
         assert found == [None] * 16, (found, counts)
         kinds = {cause.split()[0] for cause in it.closed().values()}
-        assert kinds <= {"client", "link", "expired"}, kinds
+        assert kinds <= {"client", "read", "write", "link", "expired"}, kinds
         # 80 KB an entry, and 1 MB and more for each of the clients.
         it.bounds(20 + 330 * min(count, 4096) / 4096)
         return it.told(f"{count} updates in {took:.0f} s, and {sum(ends)} sessions or links ended", f"{held:.0f} MB after them")
