@@ -1,6 +1,6 @@
 -- What is cut from the front of a stream, and what is left.
 use Rattle.std.proofs.Common.{◌≡◌, ℕ, ◌+◌, ◌-◌, ◌<◌, ◌≤◌, min, List, [], ◌∷◌, ◌++◌, length, drop, get_or, refl, sym, ap, ◌∙◌, subst, arith, inl, inr, length-append}
-use Rattle.std.specs.Prelude.{Option, Some, None, ℤ, pos, sum_by, All}
+use Rattle.std.specs.Prelude.{Option, Some, None, ℤ, pos, sum_by, All, IsErr}
 use Rattle.std.specs.Int.{w32}
 use Rattle.std.specs.Int.RustNames.{FitsSigned}
 use Rattle.std.proofs.lemmas.Int.{ints}
@@ -9,7 +9,7 @@ use Rattle.std.proofs.lemmas.List.Sums.{sum_by-cons, sum_by-drop_more}
 use Rattle.zk_jute.proofs.Framing.{bad_rest, no_frame}
 use Rattle.zk_jute.proofs.JuteCanonical.{int_canonical}
 use Rattle.zk_jute.proofs.Lengths.{length-string_bytes}
-use Rattle.zk_jute.specs.Frames.{Framed, IsFrame, bad_length}
+use Rattle.zk_jute.specs.Frames.{Framed, IsFrame, bad_length, frame_at}
 use Rattle.zk_jute.specs.JuteValues.{Spelled}
 use Rattle.zk_jute.specs.JuteWriting.{int_bytes, with_length}
 use Rattle.zk_model.specs.Limits.{max_frame}
@@ -92,4 +92,17 @@ cuts-frame old new bytes short none rest_is place_is =
       held = λ h. rest_is;
       stays = ap bad_length rest_is;
       place = place_is ∙ ap (λ n. counted_up (old.place + n)) (let same = size in omega arith);
+    }
+
+-- a part of a frame, of a length in range: more has to come
+pub cuts-part : (old new : Stream) (bytes : List ℕ) (frames : List (List ℕ)) → frames ≡ [] → IsErr (frame_at new.rest) → bad_length new.rest ≡ None → new.rest ≡ old.rest ++ bytes → new.place ≡ old.place → old.place ≤ max_count
+    → CutsFrames old bytes frames None new
+cuts-part old new bytes frames none part good rest_is place_is most =
+    record {
+      rest = new.rest;
+      framed = ([], rw none refl, sym rest_is, no_frame new.rest part);
+      bad_is = good;
+      held = λ h. refl;
+      stays = good;
+      place = place_is ∙ (let same : length (old.rest ++ bytes) ≡ length new.rest = ap length (sym rest_is) in omega arith);
     }

@@ -9,7 +9,6 @@ mod Coming
 mod Grantable
 mod Numbered
 mod Refusing
-mod Receiving
 mod Shortness
 mod Framing
 mod HeadRange

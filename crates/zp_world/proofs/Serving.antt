@@ -178,6 +178,14 @@ fault_of o reaper = elim o [ None ↦ Some why.NoSuchConnection | Some x ↦ if_
 possible-of : (c : ℕ) (w : World) (o : Option Conn) → conn_at c w ≡ o → connection_fault c w None ≡ None → fault_of o (reaper_of o) ≡ None
 possible-of c w o there possible = subst (λ (p : Option Conn). fault_of p (reaper_of p) ≡ None) there possible
 
+-- where the tests of a line that brings bytes are passed, there is one of its number
+pub conn-there : (c : ℕ) (w : World) → connection_fault c w None ≡ None → (x : Conn) × (conn_at c w ≡ Some x)
+conn-there c w possible = go (conn_at c w) refl (possible-of c w (conn_at c w) refl possible)
+  where
+    go : (o : Option Conn) → conn_at c w ≡ o → fault_of o (reaper_of o) ≡ None → (x : Conn) × (conn_at c w ≡ Some x)
+    go None e p = absurd (some_none p)
+    go (Some x) e p = (x, e)
+
 pub connection-there : (c : ℕ) (w : World) (x : Conn) → connection_fault c w None ≡ None → conn_at c w ≡ Some x → (core : Core) × (x.actor ≡ Connection core)
 connection-there c w x possible there = go x.actor refl (possible-of c w (Some x) there possible)
   where

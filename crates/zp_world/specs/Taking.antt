@@ -1,9 +1,10 @@
 -- Frames come to a connection, one after the other.
-use Rattle.std.specs.Prelude.{◌≡◌, ◌⊎◌, ℕ, ◌+◌, ℤ, true, false, List, [], ◌∷◌, ◌++◌, if◌then◌else◌, Some}
+use Rattle.std.specs.Prelude.{◌≡◌, ◌⊎◌, ℕ, ◌+◌, ℤ, true, false, List, [], ◌∷◌, ◌++◌, if◌then◌else◌, Option, Some}
 use Rattle.zk_transcript.specs.declared.transcript.TranscriptLine.TheVariants.{Frame as FrameLine}
-use Rattle.zp_script.specs.Arriving.{frame_lines, shown_frame}
+use Rattle.zk_wire.specs.Cutting.{Stream}
+use Rattle.zp_script.specs.Arriving.{CutsFrames, frame_lines, shown_frame}
 use Rattle.zp_script.specs.Handing.{Handed}
-use Rattle.zp_script.specs.Worlds.{Conn, World, conn_at, is_closed_actor, is_open_conn, is_reaper, zxid_at}
+use Rattle.zp_script.specs.Worlds.{Conn, World, conn_at, is_closed_actor, is_open_conn, is_reaper, with_conn, zxid_at}
 use Rattle.zp_step.specs.Stages.{counted_up}
 use Rattle.zp_step.specs.declared.input.Input.TheVariants as input
 use Rattle.zp_world.specs.Doing.{left}
@@ -27,6 +28,16 @@ pub record Takes (c : ℕ) (w : World) (x : Conn) (bytes : List ℕ) (after : Li
 -- all the frames after it are left, or none is
 abbrev pub IsLeft : List (List ℕ) → List (List ℕ) → Type 0
 IsLeft old new = (new ≡ old) ⊎ (new ≡ [])
+
+-- ---- what is cut of what came
+
+-- these frames, and this length out of range, if there is one, are cut from a connection's stream with the bytes that came; the rest of
+-- the stream is kept, and so many bytes stand before it
+pub record IsCut (c : ℕ) (w : World) (x : Conn) (bytes : List ℕ) (frames : List (List ℕ)) (bad : Option ℤ) (place : ℕ) (w' : World) : Type 0 where
+  pub stream : Stream
+  pub cuts : CutsFrames x.stream bytes frames bad stream
+  pub at : place ≡ stream.place
+  pub kept : w' ≡ with_conn w c (record x { stream = stream })
 
 -- ---- several
 

@@ -1,20 +1,26 @@
 //! All connections and reapers, by their numbers.
 
-ghost use Rattle.std.specs.Prelude.{◌≡◌, IfOk, OnOk};
+ghost use Rattle.std.specs.Prelude.{◌≡◌, ◌≤ℤ◌, pos, IfOk, OnOk};
 ghost use Rattle.std.specs.Option.{option_map};
 ghost use Rattle.std.specs.FinMap.{get, insert, remove, empty};
+ghost use Rattle.zp_script.specs.Effects.{new_conn};
+ghost use Rattle.zp_script.specs.Worlds.{Connection};
+ghost use Rattle.zp_step.specs.Stages.{new_core};
 ghost use Rattle.zp_world.specs.Activities.{AreWithin, open_numbers};
 
 use crate::activity::Activity;
+use crate::place::Place;
 use std::alloc::Global;
 use std::collections::BTreeMap;
 use std::marker::Model;
+use zp_step::Fresh;
 use zx_base::Memory;
 
 /// Connections and reapers, open and closed. Contracts see a finite map.
 #[derive(Drop)]
 pub struct Activities {
-    by_number: BTreeMap<u32, Activity>,
+    alloc: Global,
+    by_number: BTreeMap<u32, Place>,
 }
 
 impl Model for Activities {
@@ -40,6 +46,7 @@ impl Activities {
         ensures { result ≡ empty }
     {
         Activities {
+            alloc,
             by_number: BTreeMap::new(alloc),
         }
     }
@@ -52,7 +59,7 @@ impl Activities {
     }
 
     /// The activity of a number. None: the number was never used, or its activity was taken out.
-    pub fn get(&self, number: u32) -> Option<&Activity>
+    pub fn get(&self, number: u32) -> Option<&Place>
         ensures { option_map (λ x. x.now) result ≡ get self.now number }
     {
         self.by_number.get(&number)
@@ -63,7 +70,18 @@ impl Activities {
         ensures taken { result ≡ get self.old number }
         ensures left { self.new ≡ remove self.old number }
     {
-        self.by_number.remove(&number)
+        let taken = self.by_number.remove(&number);
+        whole(self.alloc, taken)
+    }
+
+    /// Puts a connection that has opened at a proxy under its number. `fresh` is what a new session would be made with.
+    pub fn open(&mut self, number: u32, proxy: u32, fresh: Fresh) -> Result<(), Memory>
+        requires { pos 1 ≤ℤ fresh.id }
+        ensures { OnOk result (self.new ≡ insert self.old number (new_conn proxy (Connection (new_core fresh)))) }
+    {
+        let place = Place::opened(proxy, fresh);
+        self.by_number.insert(number, place)?;
+        Ok(())
     }
 
     /// Puts an activity under its number, in place of one that is there.
@@ -71,7 +89,8 @@ impl Activities {
         ensures { OnOk result (self.new ≡ insert self.old number activity) }
     {
         activity.know();
-        self.by_number.insert(number, activity)?;
+        let place = Place::taken(self.alloc, activity)?;
+        self.by_number.insert(number, place)?;
         Ok(())
     }
 
@@ -86,5 +105,15 @@ impl Activities {
             }
         }
         Ok(numbers)
+    }
+}
+
+/// What was taken out, with its core.
+fn whole(alloc: Global, taken: Option<Place>) -> Option<Activity>
+    ensures { result ≡ taken }
+{
+    match taken {
+        Some(place) => Some(place.whole(alloc)),
+        None => None,
     }
 }

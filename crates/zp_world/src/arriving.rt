@@ -17,7 +17,7 @@ ghost use Rattle.zp_world.specs.Activities.{actor_of};
 ghost use Rattle.zp_world.specs.Doing.{Stepped, left};
 ghost use Rattle.zp_world.specs.Flying.{IsFitFlight, IsServed};
 ghost use Rattle.zp_world.specs.Leaving.{Leaves};
-ghost use Rattle.zp_world.specs.Taking.{IsConnectionAt, IsLeft, IsServing, Takes, left_next, shown};
+ghost use Rattle.zp_world.specs.Taking.{IsConnectionAt, IsCut, IsLeft, IsServing, Takes, left_next, shown};
 
 use crate::activity::{Activity, Actor, Seat};
 use crate::formed::{are_bytes, is_number, is_signed};
@@ -50,12 +50,56 @@ impl World {
             id,
             passwd,
         })?;
-        let activity = Activity {
-            seat: Seat::new(self.alloc, proxy),
-            actor: Actor::Connection(Core::new(self.alloc, Fresh { id, passwd })),
-            flight: None,
+        self.activities
+            .open(connection, proxy, Fresh { id, passwd })
+    }
+
+    /// Bytes of a client come: what is whole with them is shown and handed in, frame by frame.
+    pub(crate) fn receive(&mut self, connection: u32, bytes: &[u8]) -> Result<(), Memory>
+        requires { connection_fault connection self.old None ≡ None }
+        ensures { OnOk result (Arrives connection self.old bytes.now self.new) }
+    {
+        let zxid = self.last_zxid()?;
+        let piece = self.cut(connection, bytes)?;
+        let Piece { frames, bad, place } = piece;
+        self.take_frames(connection, zxid, frames)?;
+        self.take_length(connection, place, bad)
+    }
+
+    /// Bytes are added to a connection's stream, and the frames that are whole with them are cut from it.
+    fn cut(&mut self, connection: u32, bytes: &[u8]) -> Result<Piece, Memory>
+        ensures short { IfOk result (λ piece. All (λ frame. length frame ≤ max_frame) piece.frames.items) }
+        ensures cuts { IfOk result (λ piece. (x : Conn) → conn_at connection self.old ≡ Some x → IsCut connection self.old x bytes.now piece.frames.items piece.bad piece.place self.new) }
+    {
+        let Some(activity) = self.activities.take(connection) else {
+            return Ok(Piece {
+                frames: Vec::new(self.alloc),
+                bad: None,
+                place: 0,
+            });
         };
-        self.activities.put(connection, activity)
+        let Activity {
+            seat,
+            actor,
+            flight,
+        } = activity;
+        let cut = seat.inbox.with(bytes)?;
+        let Cut { frames, bad, inbox } = cut;
+        let place = inbox.place();
+        let seat = Seat {
+            proxy: seat.proxy,
+            inbox,
+            frames: seat.frames,
+        };
+        self.activities.put(
+            connection,
+            Activity {
+                seat,
+                actor,
+                flight,
+            },
+        )?;
+        Ok(Piece { frames, bad, place })
     }
 
     /// What came is shown and handed in, frame by frame.
@@ -234,6 +278,16 @@ impl World {
             bytes,
         })
     }
+}
+
+/// What was cut from a connection's stream.
+#[derive(Drop)]
+struct Piece {
+    frames: Vec<Bytes>,
+    /// The length that follows those, if it is out of range.
+    bad: Option<i32>,
+    /// How many bytes came before those that are left.
+    place: u64,
 }
 
 /// A frame that a connection took, and what it does then.

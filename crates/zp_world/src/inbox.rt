@@ -1,16 +1,18 @@
 //! The bytes of a client's stream that are no whole frame yet.
 
-ghost use Rattle.std.specs.Prelude.{◌≡◌, ◌+◌, ◌≤◌, min, nat_lt, length, sum_by, IfOk, All};
-ghost use Rattle.zk_jute.specs.Frames.{bad_length};
+ghost use Rattle.std.specs.Prelude.{◌≡◌, ◌+◌, ◌++◌, ◌≤◌, ℕ, List, None, min, nat_lt, length, sum_by, IfOk, IsErr, IsTrue, All};
+ghost use Rattle.zk_jute.specs.Frames.{bad_length, frame_at};
 ghost use Rattle.zk_jute.specs.JuteWriting.{with_length};
 ghost use Rattle.zk_model.specs.Limits.{max_frame};
 ghost use Rattle.zp_script.specs.Arriving.{CutsFrames};
-ghost use Rattle.zk_wire.specs.Cutting.{CutStands, unread};
+ghost use Rattle.zk_wire.specs.Cutting.{CutStands, Stream, unread};
 ghost use Rattle.zp_step.specs.Stages.{counted_up};
 ghost use Rattle.zp_world.specs.Framing.{framed_size};
 
+use byteorder::{BigEndian, ByteOrder};
 use std::alloc::Global;
 use std::marker::Model;
+use zk_model::limit::MAX_FRAME;
 use zk_wire::{CutFault, Cutter};
 use zx_base::{Bytes, Memory};
 
@@ -96,28 +98,63 @@ impl Inbox {
         })
     }
 
-    /// These bytes come.
-    pub fn with(&self, bytes: &[u8]) -> Result<Cut, Memory>
-        ensures cuts { IfOk result (λ cut. CutsFrames self.now bytes.now cut.frames.items cut.bad cut.inbox) }
+    /// These bytes come. While they make no frame whole, the time is that of these bytes alone, however many came before them.
+    pub fn with(self, bytes: &[u8]) -> Result<Cut, Memory>
+        ensures cuts { IfOk result (λ cut. CutsFrames self bytes.now cut.frames.items cut.bad cut.inbox) }
         ensures short { IfOk result (λ cut. All (λ frame. length frame ≤ max_frame) cut.frames.items) }
     {
-        let mut stream = Vec::from_slice(self.alloc, self.rest.as_slice())?;
+        let mut stream = self.rest;
         stream.extend_from_slice(bytes)?;
-        let mut cutter = Cutter::new(self.alloc);
-        let frames = frames_in(self.alloc, &mut cutter, stream.as_slice())?;
-        let bad = bad_length_in(&mut cutter)?;
-        let used = size_of_all(frames.as_slice()).min(stream.len());
-        let rest = Vec::from_slice(self.alloc, &stream[used..])?;
-        Ok(Cut {
-            frames,
-            bad,
-            inbox: Inbox {
-                alloc: self.alloc,
-                place: self.place.saturating_add(used as u64),
-                rest,
-            },
-        })
+        if is_part(stream.as_slice()) {
+            return Ok(Cut {
+                frames: Vec::new(self.alloc),
+                bad: None,
+                inbox: Inbox {
+                    alloc: self.alloc,
+                    place: self.place,
+                    rest: stream,
+                },
+            });
+        }
+        cut_whole(self.alloc, self.place, stream)
     }
+}
+
+/// Whether a stream is a part of a frame of which more has to come, and its length, where it is there, is in range.
+fn is_part(stream: &[u8]) -> bool
+    ensures rest { IsTrue result → IsErr (frame_at stream.now) }
+    ensures good { IsTrue result → bad_length stream.now ≡ None }
+{
+    if stream.len() < 4 {
+        return true;
+    }
+    let length = BigEndian::read_i32(stream);
+    let rest = &stream[4..];
+    match usize::try_from(length) {
+        Ok(length) if length <= MAX_FRAME && rest.len() < length => true,
+        _ => false,
+    }
+}
+
+/// Cuts a stream, before which so many bytes came.
+fn cut_whole(alloc: Global, place: u64, stream: Vec<u8>) -> Result<Cut, Memory>
+    ensures cuts { IfOk result (λ cut. (old : Stream) (bytes : List ℕ) → old.place ≡ place → stream.items ≡ old.rest ++ bytes → CutsFrames old bytes cut.frames.items cut.bad cut.inbox) }
+    ensures short { IfOk result (λ cut. All (λ frame. length frame ≤ max_frame) cut.frames.items) }
+{
+    let mut cutter = Cutter::new(alloc);
+    let frames = frames_in(alloc, &mut cutter, stream.as_slice())?;
+    let bad = bad_length_in(&mut cutter)?;
+    let used = size_of_all(frames.as_slice()).min(stream.len());
+    let rest = Vec::from_slice(alloc, &stream[used..])?;
+    Ok(Cut {
+        frames,
+        bad,
+        inbox: Inbox {
+            alloc,
+            place: place.saturating_add(used as u64),
+            rest,
+        },
+    })
 }
 
 /// The whole frames from the front of a stream of which nothing came yet.

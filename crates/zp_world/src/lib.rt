@@ -11,10 +11,10 @@
 //! store and hands them what they wait for. It does not look into a request.
 //!
 //! A happening costs what its own lines and its asks cost: what was written is never copied or read again, and a connection is
-//! found by its number in the logarithm of their count. Bytes that come in pieces are copied once more with each piece until
-//! their frame is whole.
+//! found by its number in the logarithm of their count. Bytes that come in pieces are kept as they come, and cut once their frame
+//! is whole. A connection to which nothing has come is kept without a core.
 //!
-//! In `specs/`: `Applying` (what `apply` answers), `Activities` (a number's activity as `zp_script` sees it), `Flying` (what is
+//! In `specs/`: `Applying` (what `apply` answers), `Activities` and `Places` (a number's activity as `zp_script` sees it), `Flying` (what is
 //! known of an ask until its answer is delivered), `Doing` (a step of what is held apart from its world). The others say what one
 //! function of this crate hands to the next.
 //!
@@ -33,6 +33,7 @@ mod frames;
 mod head;
 mod inbox;
 mod lines;
+mod place;
 mod refusals;
 mod settling;
 mod strays;

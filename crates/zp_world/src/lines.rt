@@ -46,7 +46,7 @@ impl World {
                 let Some(activity) = self.activities.get(connection) else {
                     return Err(refused(Why::NoSuchConnection));
                 };
-                let cut = activity.inbox().with_frame(bytes)?;
+                let cut = activity.framed(self.alloc, bytes)?;
                 self.arrive(connection, cut)?;
                 Ok(())
             }
@@ -59,11 +59,7 @@ impl World {
         match self.connection_why(connection) {
             Some(why) => Err(refused(why)),
             None => {
-                let Some(activity) = self.activities.get(connection) else {
-                    return Err(refused(Why::NoSuchConnection));
-                };
-                let cut = activity.inbox().with(bytes.as_slice())?;
-                self.arrive(connection, cut)?;
+                self.receive(connection, bytes.as_slice())?;
                 Ok(())
             }
         }

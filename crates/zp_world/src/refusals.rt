@@ -7,7 +7,6 @@ ghost use Rattle.zp_script.specs.Entries.{cursor_at, next_entry, is_lagging};
 ghost use Rattle.zp_script.specs.Faults.{new_fault, open_fault, connection_fault, carry_fault, ask_fault, entry_fault, if_fails, has_part, flight_at, is_to_carry_out, left_at};
 ghost use Rattle.zp_script.specs.Worlds.{conn_at};
 
-use crate::activity::Activity;
 use crate::world::World;
 use zk_model::limit::MAX_FRAME;
 use zp_script::Flight;

@@ -14,6 +14,6 @@ invariant_of-self c =
 
 pub returns : goal.returns
 returns c = record {
-  taken = c.remove.ensures.value ∙ sym (get-lookup nat_cmp_total c.self.inside.by_number.entries c.args.number) ∙ ap (λ m. get m c.args.number) c.self.view_is;
+  taken = c.whole.ensures ∙ c.remove.ensures.value ∙ sym (get-lookup nat_cmp_total c.self.inside.by_number.entries c.args.number) ∙ ap (λ m. get m c.args.number) c.self.view_is;
   left = from_entries-without nat_cmp_total exact_unsigned c.self.inside.by_number.entries c.remove.new.self.entries c.args.number c.remove.ensures.updates.0 ∙ ap (λ m. remove m c.args.number) c.self.view_is;
 }

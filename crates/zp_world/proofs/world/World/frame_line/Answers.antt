@@ -1,7 +1,6 @@
-use Rattle.std.proofs.Common.{◌≡◌, Some, refl, sym, ◌∙◌, rules, length}
+use Rattle.std.proofs.Common.{◌≡◌, Some, sym, ◌∙◌, rules, length}
 use Rattle.zk_jute.specs.JuteWriting.{with_length}
 use Rattle.zp_script.specs.Worlds.{conn_at}
-use Rattle.zp_world.proofs.Receiving.{cut-at}
 use Rattle.zp_world.proofs.Refusing.{refuses, frame-of}
 use Rattle.zp_world.proofs.world.World.frame_line.Goals as goal
 
@@ -14,9 +13,8 @@ pub returns-in_ok-arrive-in-None : goal.returns-in_ok-arrive-in-None
 returns-in_ok-arrive-in-None c =
     let size : c.len.result ≡ length c.args.bytes = search rules in
     let there : conn_at c.args.connection c.args.self.now ≡ Some c.in-Some-get.activity.now = search rules in
-    let cut = c.in_ok-cut-in-None.cut in
     record {
       possible = frame-of c.args.self.now c.args.connection c.len.result c.args.bytes size ∙ sym c.frame_why.ensures ∙ c.in-None.is;
       effect = c.in_ok-arrive-in-None.ensures c.in-Some-get.activity.now (with_length c.args.bytes) there
-          (cut-at c.inbox.result.now c.in-Some-get.activity.now.stream cut.inbox (with_length c.args.bytes) (with_length c.args.bytes) cut.frames.items cut.bad c.inbox.ensures refl c.in_ok-cut-in-None.ensures.cuts);
+          c.in_ok-cut-in-None.ensures.cuts;
     }
