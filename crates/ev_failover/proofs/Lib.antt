@@ -2,3 +2,4 @@ pub mod Turning
 pub mod Outcome
 pub mod Storing
 pub mod Placing
+pub mod Repeating

@@ -1,7 +1,10 @@
 //! Asks that only read.
 
-ghost use Rattle.std.specs.Prelude.{◌≡◌, ◌&&◌};
+ghost use Rattle.std.specs.Prelude.{◌≡◌, ◌&&◌, true, Some};
 ghost use Rattle.std.specs.List.{list_all};
+ghost use Rattle.ev_types.specs.Denials.{carry};
+ghost use Rattle.ev_types.specs.Store.{Store};
+ghost use Rattle.ev_types.specs.declared.answer.Answer.{Answer as SomeAnswer};
 ghost use Rattle.ev_failover.specs.Reading.{are_reads, is_read, is_reading};
 
 use ev_types::{Act, Ask};
@@ -25,8 +28,11 @@ fn are_reads(acts: &[Act]) -> bool
 
 /// Whether an ask can be carried out twice and it is as if it was carried out once: a range, a keepalive, or a transaction whose two
 /// lists put and delete nothing.
+#[tactic(auto, using(crate::proofs::Repeating::changes_nothing))]
 pub fn is_reading(ask: &Ask) -> bool
-    ensures { result ≡ is_reading ask.now }
+    ensures exact { result ≡ is_reading ask.now }
+    // Whatever store carries it out stays as it is.
+    ensures changes_nothing { result ≡ true → (s t : Store) (a : SomeAnswer) → carry s ask.now ≡ Some (t, a) → t ≡ s }
 {
     match ask {
         Ask::Range(_) | Ask::Alive { .. } => true,
