@@ -100,7 +100,16 @@ fn request_of(alloc: Global, words: &mut Words<'_>) -> Result<Request, Fault> {
             let auth = words.text()?;
             Ok(Request::Auth { kind, scheme, auth })
         }
+        b"create2" => create2_of(alloc, words),
         b"setWatches" => watches_of(alloc, words),
+        b"checkWatches" => {
+            let (path, kind) = of_type(words)?;
+            Ok(Request::CheckWatches { path, kind })
+        }
+        b"removeWatches" => {
+            let (path, kind) = of_type(words)?;
+            Ok(Request::RemoveWatches { path, kind })
+        }
         b"multi" => {
             let parts = parts_of(alloc, words)?;
             Ok(Request::Multi { parts })
@@ -148,6 +157,33 @@ fn watching(words: &mut Words<'_>) -> Result<(Text, bool), Fault> {
     let path = words.text()?;
     let watch = words.takes(b"watch");
     Ok((path, watch))
+}
+
+/// A create whose reply has the new node's Stat.
+fn create2_of(alloc: Global, words: &mut Words<'_>) -> Result<Request, Fault> {
+    let path = words.text()?;
+    let content = words.text()?;
+    let flags = flags_of(words)?;
+    let acl = acl_of(alloc, words)?;
+    Ok(Request::Create2 {
+        path,
+        content,
+        acl,
+        flags,
+    })
+}
+
+/// A path, and the type of the watches there that are asked for or taken away.
+fn of_type(words: &mut Words<'_>) -> Result<(Text, i32), Fault> {
+    let path = words.text()?;
+    let kind = match words.word()? {
+        b"children" => 1,
+        b"data" => 2,
+        b"any" => 3,
+        b"type" => words.int()?,
+        _ => return Err(Fault::Unreadable),
+    };
+    Ok((path, kind))
 }
 
 /// A request that may be part of a multi, by its name. None: no such request has the name.

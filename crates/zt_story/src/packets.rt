@@ -138,6 +138,10 @@ fn push_body(line: &mut Vec<u8>, body: &Body) -> Result<(), Memory> {
             push_stat(line, stat)
         }
         Body::Parts(results) => push_results(line, results.as_slice()),
+        Body::PathStat(path, stat) => {
+            push_text_after(line, b"path", path.as_slice())?;
+            push_stat(line, stat)
+        }
     }
 }
 
@@ -212,6 +216,7 @@ fn push_code(line: &mut Vec<u8>, code: i32) -> Result<(), Memory> {
         code::INVALID_ACL => push_word(line, b"error InvalidACL"),
         code::AUTH_FAILED => push_word(line, b"error AuthFailed"),
         code::SESSION_MOVED => push_word(line, b"error SessionMoved"),
+        code::NO_WATCHER => push_word(line, b"error NoWatcher"),
         _ => {
             push_word(line, b"error ")?;
             push_signed(line, i64::from(code))

@@ -67,7 +67,27 @@ fn push_request(line: &mut Vec<u8>, request: &Request) -> Result<(), Memory> {
             content,
             acl,
             flags,
-        } => push_create(line, path, content.as_slice(), acl.as_slice(), *flags),
+        } => push_create(
+            line,
+            b"create",
+            path,
+            content.as_slice(),
+            acl.as_slice(),
+            *flags,
+        ),
+        Request::Create2 {
+            path,
+            content,
+            acl,
+            flags,
+        } => push_create(
+            line,
+            b"create2",
+            path,
+            content.as_slice(),
+            acl.as_slice(),
+            *flags,
+        ),
         Request::Delete { path, version } => push_versioned(line, b"delete", path, *version),
         Request::Exists { path, watch } => push_watching(line, b"exists", path, *watch),
         Request::GetData { path, watch } => push_watching(line, b"getData", path, *watch),
@@ -94,6 +114,8 @@ fn push_request(line: &mut Vec<u8>, request: &Request) -> Result<(), Memory> {
             datas,
             children,
         } => push_watches(line, *relative, datas, exists, children),
+        Request::CheckWatches { path, kind } => push_of_type(line, b"checkWatches", path, *kind),
+        Request::RemoveWatches { path, kind } => push_of_type(line, b"removeWatches", path, *kind),
         Request::Close => push_word(line, b"closeSession"),
     }
 }
@@ -116,7 +138,14 @@ fn push_part(line: &mut Vec<u8>, part: &Part) -> Result<(), Memory> {
             content,
             acl,
             flags,
-        } => push_create(line, path, content.as_slice(), acl.as_slice(), *flags),
+        } => push_create(
+            line,
+            b"create",
+            path,
+            content.as_slice(),
+            acl.as_slice(),
+            *flags,
+        ),
         Part::Delete { path, version } => push_versioned(line, b"delete", path, *version),
         Part::SetData {
             path,
@@ -129,12 +158,13 @@ fn push_part(line: &mut Vec<u8>, part: &Part) -> Result<(), Memory> {
 
 fn push_create(
     line: &mut Vec<u8>,
+    name: &[u8],
     path: &Text,
     content: &[u8],
     acl: &[Acl],
     flags: i32,
 ) -> Result<(), Memory> {
-    push_text_after(line, b"create", path.as_slice())?;
+    push_text_after(line, name, path.as_slice())?;
     push_text(line, content)?;
     push_flags(line, flags)?;
     if is_open(acl) {
@@ -196,6 +226,17 @@ fn push_watching(line: &mut Vec<u8>, name: &[u8], path: &Text, watch: bool) -> R
         push_word(line, b"watch")
     } else {
         Ok(())
+    }
+}
+
+/// Adds a request about the watches of a path, by their type (`Watcher.WatcherType`).
+fn push_of_type(line: &mut Vec<u8>, name: &[u8], path: &Text, kind: i32) -> Result<(), Memory> {
+    push_text_after(line, name, path.as_slice())?;
+    match kind {
+        1 => push_word(line, b"children"),
+        2 => push_word(line, b"data"),
+        3 => push_word(line, b"any"),
+        _ => push_number_after(line, b"type", i64::from(kind)),
     }
 }
 
