@@ -1,5 +1,6 @@
-use Rattle.std.proofs.Common.{◌≡◌, ℕ, None, Some, ap, sym, ◌∙◌}
+use Rattle.std.proofs.Common.{◌≡◌, ℕ, ℤ, None, Some, ap, sym, ◌∙◌, rules, w64, to_z, of_z}
 use Rattle.std.specs.Prelude.{option_map}
+use Rattle.std.proofs.lemmas.Int.{to_z-of_z}
 use Rattle.zk_transcript.specs.Answers.{xid_of, plain_reply}
 use Rattle.zk_transcript.specs.Walks.{plain_answer}
 use Rattle.zk_judge.specs.Seen.{frame_as, said_of, walker_of}
@@ -14,10 +15,13 @@ pub returns-in_ok-plain_answer-in-Some : goal.returns-in_ok-plain_answer-in-Some
 returns-in_ok-plain_answer-in-Some c =
     let w = walker_of c.args.walker in
     let x = frame_as c.in_ok-frame.frame in
-    let said : Some (said_of c.in-Some.said) ≡ plain_reply c.args.walker.watches x = sym (ap (option_map said_of) c.in-Some.is) ∙ c.in_ok-said.ensures in
+    let t = said_of c.in-Some.said in
+    let said : Some t ≡ plain_reply c.args.walker.watches x = sym (ap (option_map said_of) c.in-Some.is) ∙ c.in_ok-said.ensures in
+    let zxid : to_z w64 (of_z w64 c.args.walker.zxid) ≡ c.args.walker.zxid = to_z-of_z w64 c.args.walker.zxid (search rules) in
     c.in_ok-plain_answer-in-Some.ensures
-    ∙ ap (λ (k : ℕ). plain_answer w k (xid_of x) (Some (said_of c.in-Some.said))) c.later_of-first.ensures
-    ∙ plainly-said w c.args.place c.args.bytes.now x (said_of c.in-Some.said) c.in_ok-frame.ensures said
+    ∙ ap (λ (z : ℤ). plain_answer (record w { zxid = z }) c.later_of-first.result (xid_of x) (Some t)) zxid
+    ∙ ap (λ (k : ℕ). plain_answer w k (xid_of x) (Some t)) c.later_of-first.ensures
+    ∙ plainly-said w c.args.place c.args.bytes.now x t c.in_ok-frame.ensures said
 
 pub returns-in-None : goal.returns-in-None
 returns-in-None c =

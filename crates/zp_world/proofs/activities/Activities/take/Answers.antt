@@ -9,11 +9,11 @@ use Rattle.zp_world.proofs.activities.Activities.take.Goals as goal
 
 pub invariant_of-self : goal.invariant_of-self
 invariant_of-self c =
-    subst AreWithin (sym (from_entries-without nat_cmp_total exact_unsigned c.self.inside.by_number.entries c.remove.new.self.entries c.args.number c.remove.ensures.updates.0))
+    subst AreWithin (sym (from_entries-without nat_cmp_total exact_unsigned c.self.inside.by_number.entries c.remove-taken.new.self.entries c.args.number c.remove-taken.ensures.updates.0))
     (within-removed (from_entries c.self.inside.by_number.entries) c.args.number c.self.invariant)
 
 pub returns : goal.returns
 returns c = record {
-  taken = c.whole.ensures ∙ c.remove.ensures.value ∙ sym (get-lookup nat_cmp_total c.self.inside.by_number.entries c.args.number) ∙ ap (λ m. get m c.args.number) c.self.view_is;
-  left = from_entries-without nat_cmp_total exact_unsigned c.self.inside.by_number.entries c.remove.new.self.entries c.args.number c.remove.ensures.updates.0 ∙ ap (λ m. remove m c.args.number) c.self.view_is;
+  taken = c.whole.ensures ∙ c.remove-taken.ensures.value ∙ sym (get-lookup nat_cmp_total c.self.inside.by_number.entries c.args.number) ∙ ap (λ m. get m c.args.number) c.self.view_is;
+  left = from_entries-without nat_cmp_total exact_unsigned c.self.inside.by_number.entries c.remove-taken.new.self.entries c.args.number c.remove-taken.ensures.updates.0 ∙ ap (λ m. remove m c.args.number) c.self.view_is;
 }
