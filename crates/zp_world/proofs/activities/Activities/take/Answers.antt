@@ -12,8 +12,10 @@ invariant_of-self c =
     subst AreWithin (sym (from_entries-without nat_cmp_total exact_unsigned c.self.inside.by_number.entries c.remove-taken.new.self.entries c.args.number c.remove-taken.ensures.updates.0))
     (within-removed (from_entries c.self.inside.by_number.entries) c.args.number c.self.invariant)
 
-pub returns : goal.returns
-returns c = record {
-  taken = c.whole.ensures ∙ c.remove-taken.ensures.value ∙ sym (get-lookup nat_cmp_total c.self.inside.by_number.entries c.args.number) ∙ ap (λ m. get m c.args.number) c.self.view_is;
-  left = from_entries-without nat_cmp_total exact_unsigned c.self.inside.by_number.entries c.remove-taken.new.self.entries c.args.number c.remove-taken.ensures.updates.0 ∙ ap (λ m. remove m c.args.number) c.self.view_is;
-}
+pub returns-clause-taken : goal.returns-clause-taken
+returns-clause-taken c =
+    c.whole.ensures ∙ c.remove-taken.ensures.value ∙ sym (get-lookup nat_cmp_total c.self.inside.by_number.entries c.args.number) ∙ ap (λ m. get m c.args.number) c.self.view_is
+
+pub returns-clause-left : goal.returns-clause-left
+returns-clause-left c =
+    from_entries-without nat_cmp_total exact_unsigned c.self.inside.by_number.entries c.remove-taken.new.self.entries c.args.number c.remove-taken.ensures.updates.0 ∙ ap (λ m. remove m c.args.number) c.self.view_is
