@@ -9,7 +9,6 @@ ghost use Rattle.zk_wire.specs.Cutting.{CutStands, Stream, unread};
 ghost use Rattle.zp_step.specs.Stages.{counted_up};
 ghost use Rattle.zp_world.specs.Framing.{framed_size};
 
-use crate::formed::is_number;
 use byteorder::{BigEndian, ByteOrder};
 use std::alloc::Global;
 use std::marker::Model;
@@ -107,7 +106,6 @@ impl Inbox {
         let mut stream = self.rest;
         stream.extend_from_slice(bytes)?;
         if is_part(stream.as_slice()) {
-            is_number(self.place);
             return Ok(Cut {
                 frames: Vec::new(self.alloc),
                 bad: None,

@@ -11,11 +11,12 @@ pub returns-then-is_part-clause-cuts : goal.returns-then-is_part-clause-cuts
 returns-then-is_part-clause-cuts c =
     let stream : List ℕ = c.extend_from_slice.new.self.items in
     let longer : stream ≡ c.self.inside.rest.items ++ c.args.bytes.now = search rules in
-    let whole : stream ≡ c.args.self.rest ++ c.args.bytes.now = longer ∙ ap (λ (s : Stream). s.rest ++ c.args.bytes.now) c.self.view_is in
-    let place : c.self.inside.place ≡ c.args.self.place = ap (λ (s : Stream). s.place) c.self.view_is in
+    let whole = longer ∙ ap (λ (s : Stream). s.rest ++ c.args.bytes.now) c.self.view_is in
+    let place = ap (λ (s : Stream). s.place) c.self.view_is in
     let part : IsErr (frame_at stream) = search rules in
     let good : bad_length stream ≡ None = search rules in
-    let most : c.args.self.place ≤ max_count = omega (arith, place, c.is_number.ensures) in
+    let small : c.self.inside.place ≤ max_count = search rules in
+    let most : c.args.self.place ≤ max_count = omega (arith, place, small) in
     cuts-part c.args.self (record { place = c.self.inside.place; rest = stream }) c.args.bytes.now c.new.result.items c.new.ensures.items part good whole place most
 
 pub returns-clause-cuts : goal.returns-clause-cuts

@@ -1,4 +1,4 @@
-use Rattle.std.proofs.Common.{◌≡◌, Some, sym, ◌∙◌, rules, subst, List, ℕ}
+use Rattle.std.proofs.Common.{◌≡◌, sym, ◌∙◌, rules, subst, List, ℕ}
 use Rattle.zp_script.specs.Arriving.{Arrives}
 use Rattle.zp_world.proofs.Refusing.{refuses, bytes-line}
 use Rattle.zp_world.proofs.world.World.bytes_line.Goals as goal

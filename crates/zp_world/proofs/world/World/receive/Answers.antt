@@ -1,5 +1,5 @@
 use Rattle.std.proofs.Common.{◌≡◌, ap, ◌∙◌, subst, of_z, to_z, w64, rules}
-use Rattle.std.specs.Prelude.{ℤ, ℕ, Some}
+use Rattle.std.specs.Prelude.{ℤ, ℕ}
 use Rattle.std.proofs.lemmas.Int.{to_z-of_z}
 use Rattle.std.proofs.lemmas.Result.{on_ok_weaker}
 use Rattle.zp_script.specs.Arriving.{EndsBadly}
