@@ -4,8 +4,9 @@ import re
 import subprocess
 
 HERE = os.path.dirname(os.path.dirname(os.path.dirname(os.path.realpath(__file__))))
-# What the commands read, by the ending of their examples' names, and what they write.
+# What the commands read, by the ending of their examples' names, and what they write; and where these examples are.
 COMMANDS = {"replay": (".script", ".transcript"), "show": (".stream", ".lines"), "judge": (".transcript", ".verdict")}
+FOLDERS = {"replay": ("replay", "stories"), "show": ("show",), "judge": ("judge",)}
 # The entries of a hub, of which the oldest is gone.
 HUB = "hub 0\npublish 4097\nnext 0\nnext 1\nnext 4097\n"
 READ = "0: lagged 0 1\n1: entry 2 zxid 4\n4097: none\n"
@@ -67,8 +68,8 @@ def out_of_memory(status, relation, _said):
 def examples(run):
     """The worked examples of `replay`, `show` and `judge`."""
     for command, (ending, written) in COMMANDS.items():
-        folder = os.path.join(HERE, "examples", command)
-        for file in sorted(os.listdir(folder)):
+        folders = [os.path.join(HERE, "examples", it) for it in FOLDERS[command]]
+        for folder, file in sorted((folder, file) for folder in folders for file in os.listdir(folder)):
             name = file.removesuffix(ending)
             if name == file or not run.is_wanted(f"{command}/{name}"):
                 continue

@@ -2,7 +2,7 @@
 
 use crate::asks::call_all;
 use crate::hosts::Hosts;
-use ev_addresses::is_address;
+use ev_addresses::{is_address, next_of};
 use ev_failover::{Cluster, DialEndpoints, FailoverLink};
 use row_files::{push, push_number};
 use std::alloc::Global;
@@ -26,5 +26,19 @@ pub fn called(alloc: Global, given: &str) -> Result<Option<String>, Memory> {
     push(&mut found, "dialled")?;
     push(&mut found, link.ends().net().dialled())?;
     push_number(alloc, &mut found, ", next ", i64::from(link.current()))?;
+    Ok(Some(found))
+}
+
+/// The number of the address that is dialled after the one with this number.
+pub fn after(alloc: Global, given: &str) -> Result<Option<String>, Memory> {
+    let Some((list, at)) = given.split_once(' ') else {
+        return Ok(None);
+    };
+    let Some(at) = at.parse::<u32>().ok() else {
+        return Ok(None);
+    };
+    let next = next_of(list, at as usize);
+    let mut found = String::new(alloc);
+    push_number(alloc, &mut found, "", i64::from(next as u32))?;
     Ok(Some(found))
 }

@@ -7,6 +7,7 @@
 //! |---|---|
 //! | `mem SIZE UNSENT FAILING ASK ..` | what these asks came to, one after the other, over so many endpoints of one new store: `ok` with the revision, `failed` or `memory`, and then each try, as its endpoint's number with `ok`, `unsent`, `failed` or `memory`; at last `next` and the endpoint that is asked next. UNSENT and FAILING are the numbers, from 1, of the calls that are not sent and of those that fail, with commas, `-` for none |
 //! | `dial LIST ASK ..` | the same over addresses that are dialled; and `dialled` with each address that was, in turn. An address that begins with `u` answers three asks for the head, one with `e` ends its stream at once, and others cannot be dialled. Where LIST is `-` no address is named |
+//! | `after LIST NUMBER` | the number of the address that is dialled after the one with this number, both from 0 |
 //!
 //! An ask is `head` (a transaction that reads one key), `begin` (the first transaction of a new store), `range`, `alive`, `grant`, or
 //! `else` (a transaction whose failure list puts).
@@ -38,6 +39,9 @@ impl Rows for Calls {
         }
         if kind == "dial" {
             return dialling::called(alloc, given);
+        }
+        if kind == "after" {
+            return dialling::after(alloc, given);
         }
         Ok(None)
     }
