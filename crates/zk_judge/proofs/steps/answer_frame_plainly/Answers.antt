@@ -11,8 +11,8 @@ pub plain_answer-requires-clause-sent : goal.plain_answer-requires-clause-sent
 plain_answer-requires-clause-sent c =
     said-sent c.args.walker.watches (frame_as c.in_ok-frame.frame) (said_of c.in-Some.said) (sym (ap (option_map said_of) c.in-Some.is) ∙ c.in_ok-said.ensures)
 
-pub returns-in_ok-plain_answer-in-Some : goal.returns-in_ok-plain_answer-in-Some
-returns-in_ok-plain_answer-in-Some c =
+pub returns-in-Some : goal.returns-in-Some
+returns-in-Some c =
     let w = walker_of c.args.walker in
     let x = frame_as c.in_ok-frame.frame in
     let t = said_of c.in-Some.said in
@@ -23,8 +23,8 @@ returns-in_ok-plain_answer-in-Some c =
     ∙ ap (λ (k : ℕ). plain_answer w k (xid_of x) (Some t)) c.later_of-first.ensures
     ∙ plainly-said w c.args.place c.args.bytes.now x t c.in_ok-frame.ensures said
 
-pub returns-in-None : goal.returns-in-None
-returns-in-None c =
+pub returns : goal.returns
+returns c =
     let w = walker_of c.args.walker in
     let x = frame_as c.in_ok-frame.frame in
     let said : None ≡ plain_reply c.args.walker.watches x = sym (ap (option_map said_of) c.in-None.is) ∙ c.in_ok-said.ensures in
