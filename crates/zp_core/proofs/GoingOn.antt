@@ -1,14 +1,27 @@
 -- A step goes on with the frames that wait.
-use Rattle.std.proofs.Common.{◌≡◌, ℕ, List, [], ◌∷◌, ◌++◌, append-nil, append_assoc, refl, sym, ap, ◌∙◌, subst}
-use Rattle.std.specs.Prelude.{◌⊎◌, All, MatchBool}
+use Rattle.std.proofs.Common.{◌≡◌, ℕ, ℤ, Bool, true, false, List, [], ◌∷◌, ◌++◌, take, append-nil, append_assoc, refl, sym, ap, ◌∙◌, subst, inl, inr}
+use Rattle.std.specs.Prelude.{◌⊎◌, Option, Some, None, All, MatchBool, if◌then◌else◌}
 use Rattle.std.proofs.lemmas.List.Elements.{All-head, All-same, All-tail}
+use Rattle.zk_jute.specs.Requests.{Frame, NoHeader, Unreadable, Unknown, Asks, read_request}
+use Rattle.zk_model.specs.declared.request.Request.{Request}
+use Rattle.zk_transcript.specs.Answers.{Told, plain_reply, xid_of}
+use Rattle.zn_view.specs.Keeping.{update_path}
+use Rattle.zn_view.specs.Seen.{View, empty_view}
+use Rattle.zn_view.specs.declared.plan.Decision.{Decision}
+use Rattle.zn_view.specs.declared.plan.Decision.TheVariants.{Answered, Planned, Expired, Moved}
+use Rattle.zs_session.specs.Alive.{is_alive_due}
 use Rattle.zp_step.specs.declared.action.Action.{Action}
-use Rattle.zp_step.specs.Keepalives.{TakesUp}
-use Rattle.zp_step.specs.Stages.{Core, Stage, Ready, is_shut}
+use Rattle.zp_step.specs.Keepalives.{TakesUp, keeps_alive}
+use Rattle.zp_step.specs.Kept.{keeps}
+use Rattle.zp_step.specs.Looking.{Looks, asks_for, change_by, decided, expired, max_ranges, moved, pending}
+use Rattle.zp_step.specs.Replies.{Is, is_due, replied}
+use Rattle.zp_step.specs.Stages.{Core, Pending, Stage, Ready, Waiting, is_shut}
 use Rattle.zp_step.specs.Steps.{Goes, rests, takes}
+use Rattle.zp_step.specs.Taking.{TakesFrame, TakesReadable, plainly}
 use Rattle.zp_core.specs.Going.{GoesOn}
 use Rattle.zp_core.specs.Held.{IsFrame, IsHeld, IsHeldIn, IsReal, IsServing}
-use Rattle.zp_core.proofs.HeldAfter.{takes_up-held}
+use Rattle.zp_core.proofs.Beside.{PlansBeside, first-or-anew}
+use Rattle.zp_core.proofs.HeldAfter.{either, takes_up-held}
 
 pub goes_on-rests : (now : ℕ) (c : Core) (first : List Action) → (c.stage ≡ Ready → ⊥) ⊎ (c.waiting ≡ []) → GoesOn now c first c first
 goes_on-rests now c first why = record { later = []; goes = rests why refl refl; joined = sym (append-nil first) }
@@ -21,6 +34,43 @@ goes_on-takes now c d c' frame more before first out ready waits t g = record {
   goes = takes d frame more first g.later ready waits t g.goes refl;
   joined = g.joined ∙ append_assoc before first g.later;
 }
+
+-- ---- the frames that wait
+
+is-waits : (x : Core × List Action) (c c' : Core) (out : List Action) → x.0.waiting ≡ c.waiting → Is x c' out → c'.waiting ≡ c.waiting
+is-waits x c c' out e i = ap (λ (d : Core). d.waiting) i.0 ∙ e
+
+sent-waits : (c : Core) (b : Bool) (p : Pending) → (if b then replied c p else (record c { stage = Waiting p }, [])).0.waiting ≡ c.waiting
+sent-waits c true p = refl
+sent-waits c false p = refl
+
+decided-waits : (c : Core) (xid : ℤ) (r : Request) (v : View) (now : ℕ) (d : Decision) → (decided c xid r v now d).0.waiting ≡ c.waiting
+decided-waits c xid r v now (Answered answer arm) = let p = pending v xid answer (change_by r v arm) None in sent-waits c (is_due c p) p
+decided-waits c xid r v now (Planned plan) = refl
+decided-waits c xid r v now Expired = let p = expired v xid in sent-waits c (is_due c p) p
+decided-waits c xid r v now (Moved found) = let p = moved c.who v found xid in sent-waits c (is_due c p) p
+
+looks-waits : (c c' : Core) (xid : ℤ) (r : Request) (v : View) (now : ℕ) (out : List Action) → Looks c xid r v now c' out → c'.waiting ≡ c.waiting
+looks-waits c c' xid r v now out (inl y) = is-waits (asks_for c xid r v (take max_ranges y.lacking)) c c' out refl y.is
+looks-waits c c' xid r v now out (inr y) = is-waits (decided (keeps c r v) xid r v now y.decision) c c' out (decided-waits (keeps c r v) xid r v now y.decision) y.is
+
+readable-waits : (c c' : Core) (now : ℕ) (out : List Action) (x : Frame) (o : Option Told) → TakesReadable c now c' out x o → c'.waiting ≡ c.waiting
+readable-waits c c' now out x (Some t) h = is-waits (plainly c (xid_of x) t) c c' out refl h
+readable-waits c c' now out NoHeader None h = absurd h
+readable-waits c c' now out (Unreadable xid place) None h = absurd h
+readable-waits c c' now out (Unknown xid kind) None h = absurd h
+readable-waits c c' now out (Asks xid r) None h = go (first-or-anew c c' xid r now out (update_path r) h)
+  where
+    go : PlansBeside c xid r now c' out ⊎ Looks c xid r empty_view now c' out → c'.waiting ≡ c.waiting
+    go (inl y) = is-waits (decided (record c { views = y.views }) xid r y.view now (Planned y.plan)) c c' out refl y.is
+    go (inr y) = looks-waits c c' xid r empty_view now out y
+
+-- a frame that is taken up leaves those that wait
+pub takes_up-waits : (c c' : Core) (bytes : List ℕ) (now : ℕ) (out : List Action) → TakesUp c bytes now c' out → c'.waiting ≡ c.waiting
+takes_up-waits c c' bytes now out h =
+    either (is_alive_due c.kept now c.timeout) (Is (keeps_alive c bytes now) c' out) (TakesFrame c bytes now c' out) (c'.waiting ≡ c.waiting) h
+    (is-waits (keeps_alive c bytes now) c c' out refl)
+    (readable-waits c c' now out (read_request bytes) (plain_reply c.watches (read_request bytes)))
 
 -- ---- what it keeps
 

@@ -86,7 +86,7 @@ revision-parts v (want.Children p ∷ ws) (a ∷ more) = revision-parts (with_pa
 pub is-held : (x : Core × List Action) (c' : Core) (out : List Action) → Is x c' out → IsHeld x.0 → IsHeld c'
 is-held x c' out i h = subst IsHeld (sym i.0) h
 
-either : (b : Bool) (P Q R : Type 0) → MatchBool b P Q → (P → R) → (Q → R) → R
+pub either : (b : Bool) (P Q R : Type 0) → MatchBool b P Q → (P → R) → (Q → R) → R
 either true P Q R h f g = f h
 either false P Q R h f g = g h
 

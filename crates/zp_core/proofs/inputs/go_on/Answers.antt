@@ -1,10 +1,10 @@
 -- Each frame that waits is taken up in turn, and at last none is to be.
-use Rattle.std.proofs.Common.{sym, ap, subst}
+use Rattle.std.proofs.Common.{◌≡◌, ◌<◌, ℕ, List, length, arith, sym, ap, subst}
 use Rattle.zp_step.specs.Keepalives.{TakesUp}
 use Rattle.zp_step.specs.Stages.{Core}
 use Rattle.zp_core.specs.Going.{GoesOn, IsAtRest, IsNext}
-use Rattle.zp_core.specs.Meanings.{core_of, stage_of}
-use Rattle.zp_core.proofs.GoingOn.{continues-ends, continues-takes}
+use Rattle.zp_core.specs.Meanings.{core_of, ready, stage_of}
+use Rattle.zp_core.proofs.GoingOn.{continues-ends, continues-takes, takes_up-waits}
 use Rattle.zp_core.proofs.inputs.go_on.Goals as goal
 
 pub frames-preserved : goal.frames-preserved
@@ -16,6 +16,16 @@ frames-preserved c =
     rw c.in_ok-append.ensures
     (continues-takes c.args.now (core_of c.args.client.now (stage_of c.args.stage.now)) here after c.args.actions.now.items c.frames.actions.items c.in_ok-more.more c.in-Some.frame c.next_frame.new.client.waiting.items
     c.frames.invariant next.is_ready next.first taken)
+
+pub frames-smaller : goal.frames-smaller
+frames-smaller c =
+    let next : IsNext c.frames.client (stage_of c.frames.stage) c.next_frame.new.client c.in-Some.frame = c.in-Some.ensures in
+    let after = core_of c.take_next.new.client (stage_of c.take_next.new.stage) in
+    let left : c.take_next.new.client.waiting.items ≡ c.next_frame.new.client.waiting.items =
+    takes_up-waits (ready c.next_frame.new.client) after c.in-Some.frame c.args.now c.in_ok-more.more c.in_ok-more.ensures in
+    let less : length c.take_next.new.client.waiting.items < length c.frames.client.waiting.items =
+    omega (arith, ap (λ (l : List (List ℕ)). length l) left, ap (λ (l : List (List ℕ)). length l) next.first) in
+    less
 
 pub returns : goal.returns
 returns c =
