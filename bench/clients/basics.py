@@ -75,6 +75,8 @@ def kazoo_reads_writes_and_watches(program, work):
         parts.create("/k/m")
         parts.delete("/k/m")
         assert [type(it).__name__ for it in parts.commit()] == ["bool", "ZnodeStat", "str", "bool"]
+        path, stat = a.create("/s", b"abc", include_data=True)
+        assert (path, stat, stat.dataLength) == ("/s", a.exists("/s"), 3)
         a.stop()
         assert until(lambda: names[-1] == [])
 

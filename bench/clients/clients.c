@@ -113,6 +113,38 @@ static void failover(const char *hosts) {
   zookeeper_close(zh);
 }
 
+static volatile int heard[2];
+static char second;
+
+static void hears(zhandle_t *zh, int type, int state, const char *path, void *context) {
+  if (type != ZOO_SESSION_EVENT) heard[context != NULL]++;
+}
+
+/* A create tells the Stat of the node that it made, and of two watches the one that was taken away is told of nothing. */
+static void unwatch(zhandle_t *a, zhandle_t *b) {
+  char path[256], room[256];
+  struct Stat made, seen;
+  int length = sizeof room;
+  check("create2", zoo_create2(a, "/c-unwatch", "abc", 3, &ZOO_OPEN_ACL_UNSAFE, 0, path, sizeof path, &made) == ZOK);
+  check("its path", !strcmp(path, "/c-unwatch"));
+  check("exists", zoo_exists(a, "/c-unwatch", 0, &seen) == ZOK);
+  check("its stat", made.czxid == seen.czxid && made.mzxid == seen.mzxid && made.ctime == seen.ctime && made.dataLength == 3);
+  check("again", zoo_create2(b, "/c-unwatch", "", 0, &ZOO_OPEN_ACL_UNSAFE, 0, path, sizeof path, &made) == ZNODEEXISTS);
+  check("no watch", zoo_remove_watches(a, "/c-unwatch", ZWATCHTYPE_DATA, hears, NULL, 0) == ZNOWATCHER);
+  check("one", zoo_wget(a, "/c-unwatch", hears, NULL, room, &length, &seen) == ZOK);
+  check("other", zoo_wexists(a, "/c-unwatch", hears, &second, &seen) == ZOK);
+  check("one is gone", zoo_remove_watches(a, "/c-unwatch", ZWATCHTYPE_DATA, hears, NULL, 0) == ZOK);
+  check("set", zoo_set(b, "/c-unwatch", "x", 1, -1) == ZOK);
+  for (int turn = 0; turn < 250 && heard[1] == 0; turn++) usleep(20000);
+  check("the other is told", heard[0] == 0 && heard[1] == 1);
+  check("again", zoo_wget(a, "/c-unwatch", hears, &second, room, &length, &seen) == ZOK);
+  check("all are gone", zoo_remove_all_watches(a, "/c-unwatch", ZWATCHTYPE_DATA, 0) == ZOK);
+  check("none is left", zoo_remove_all_watches(a, "/c-unwatch", ZWATCHTYPE_ANY, 0) == ZNOWATCHER);
+  check("delete", zoo_delete(b, "/c-unwatch", -1) == ZOK);
+  check("no node", zoo_exists(a, "/c-unwatch", 0, &seen) == ZNONODE);
+  check("nothing is told", heard[0] == 0 && heard[1] == 1);
+}
+
 int main(int count, char **words) {
   zoo_set_debug_level(ZOO_LOG_LEVEL_ERROR);
   if (!strcmp(words[1], "failover")) {
@@ -141,6 +173,7 @@ int main(int count, char **words) {
   zoo_create_op_init(&parts[2], "/c/m", "", 0, &ZOO_OPEN_ACL_UNSAFE, 0, path, sizeof path);
   check("multi", zoo_multi(b, 3, parts, results) == ZOK);
 
+  unwatch(a, b);
   lock(a, b);
   check("root", zoo_create(a, "/c-leader", "", 0, &ZOO_OPEN_ACL_UNSAFE, 0, path, sizeof path) == ZOK);
   int flags = ZOO_EPHEMERAL | ZOO_SEQUENCE;
