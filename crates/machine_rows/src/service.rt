@@ -9,7 +9,8 @@ use zk_answers::{Told, Watches, plain_request, tree_reply};
 use zk_history::{Applied, Commit, Past, Session, State, apply, commit};
 use zk_machine::{Fault, Turn, begin};
 use zk_model::{ConnectRequest, Reply, Request};
-use zk_transcript::{TranscriptLine, UpdateKind, UpdateRec};
+use zk_service::{UpdateKind, UpdateRec};
+use zk_transcript::TranscriptLine;
 use zx_base::{Bytes, Memory, Seq};
 
 /// The state, what the connection has armed, its session, and how many ephemeral nodes a session may own.

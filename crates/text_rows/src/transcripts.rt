@@ -2,7 +2,8 @@
 
 use row_files::{Words, bytes_of};
 use std::alloc::Global;
-use zk_transcript::{Cause, Ended, TranscriptLine, UpdateKind, UpdateRec};
+use zk_service::{Cause, Ended, UpdateKind, UpdateRec};
+use zk_transcript::TranscriptLine;
 use zt_text::{Unread, Why, push_done, push_fault, push_line, push_unread};
 use zx_base::{Bytes, Memory};
 

@@ -1,7 +1,7 @@
 -- What the program answers, as the definitions' data.
 use Rattle.std.specs.Prelude.{List}
 use Rattle.zk_model.specs.declared.reply.Notice.{Notice}
-use Rattle.zk_transcript.specs.Answers.{Told}
+use Rattle.zk_service.specs.Answers.{Told}
 use Rattle.zk_model.specs.Watches.{Watches, Seen}
 use Rattle.zk_answers.specs.declared.watches.Seen.{Seen as SeenSoFar}
 use Rattle.zk_answers.specs.declared.told.Told.{Told as Reported}

@@ -1,6 +1,6 @@
 //! What the service answers, as a program over a tree and the watches of one connection.
 //!
-//! Each function's contract is the definition of `zk_transcript` that it computes. The judge of transcripts stands on this crate;
+//! Each function's contract is the definition of `zk_service` that it computes. The judge of transcripts stands on this crate;
 //! the service, which keeps its tree as keys of etcd, does not.
 #![tactic(auto)]
 

@@ -2,7 +2,7 @@
 
 ghost use Rattle.std.specs.Prelude.{◌≡◌, ◌+◌, length, nat_le, sum_by};
 ghost use Rattle.zk_model.specs.declared.reply.Body.TheVariants as body;
-ghost use Rattle.zk_transcript.specs.Answers.{fits_reply};
+ghost use Rattle.zk_service.specs.Answers.{fits_reply};
 
 use zk_model::Stat;
 use zx_base::Text;

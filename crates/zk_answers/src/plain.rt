@@ -4,7 +4,7 @@ ghost use Rattle.std.specs.Prelude.{◌≡◌, ◌&&◌, not, Some, None, if◌t
 ghost use Rattle.zx_base.specs.Maps.{same};
 ghost use Rattle.zk_model.specs.declared.reply.Body.TheVariants as body;
 ghost use Rattle.zk_model.specs.declared.reply.Reply.TheVariants as reply;
-ghost use Rattle.zk_transcript.specs.Answers.{names_watches, plain_request, told, told_of_path, told_of_watches, told_refusal};
+ghost use Rattle.zk_service.specs.Answers.{names_watches, plain_request, told, told_of_path, told_of_watches, told_refusal};
 ghost use Rattle.zk_model.specs.Codes.{bad_arguments, invalid_acl};
 ghost use Rattle.zk_model.specs.Paths.{is_path, is_sequence_prefix, root};
 ghost use Rattle.zk_model.specs.Single.{or_else, path_refusal, is_create_mode, is_sequential};
@@ -126,7 +126,7 @@ fn told_of_watches(
 
 /// The answer to a request where the tree does not decide it: to a ping, to an auth, to a request about watches, and
 /// to a request whose form is not valid.
-#[tactic(auto, unfolding(zk_transcript::specs::Answers::plain_request, zk_model::specs::Single::form_refusal))]
+#[tactic(auto, unfolding(zk_service::specs::Answers::plain_request, zk_model::specs::Single::form_refusal))]
 pub fn plain_request(
     alloc: Global,
     watches: &Watches,

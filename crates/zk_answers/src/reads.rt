@@ -3,7 +3,7 @@
 ghost use Rattle.std.specs.Prelude.{◌≡◌, Some, IfOk, IfErr};
 ghost use Rattle.std.specs.FinMap.{get};
 ghost use Rattle.zk_model.specs.declared.reply.Body.TheVariants as body;
-ghost use Rattle.zk_transcript.specs.Answers.{about, listing, armed_data, armed_children};
+ghost use Rattle.zk_service.specs.Answers.{about, listing, armed_data, armed_children};
 ghost use Rattle.zk_model.specs.Znodes.{stat_of, child_names};
 ghost use Rattle.zk_machine.specs.Faults.{BeyondUnless, IsWithin};
 ghost use Rattle.zk_answers.specs.Outcomes.{told_of};

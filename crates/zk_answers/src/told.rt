@@ -2,7 +2,7 @@
 
 ghost use Rattle.std.specs.Prelude.{◌≡◌, Some};
 ghost use Rattle.zk_model.specs.declared.reply.Reply.TheVariants as reply;
-ghost use Rattle.zk_transcript.specs.Answers.{told};
+ghost use Rattle.zk_service.specs.Answers.{told};
 ghost use Rattle.zk_answers.specs.Outcomes.{told_of};
 
 use crate::watches::Watches;

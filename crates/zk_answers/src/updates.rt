@@ -3,7 +3,7 @@
 ghost use Rattle.std.specs.Prelude.{◌≡◌, Some, option_map, pos, IfOk, IfErr};
 ghost use Rattle.zk_model.specs.declared.reply.Body.TheVariants as body;
 ghost use Rattle.zk_model.specs.declared.reply.Reply.TheVariants as reply;
-ghost use Rattle.zk_transcript.specs.Answers.{told, checked, refusal_of, refusal_of_several, rearmed, tree_reply};
+ghost use Rattle.zk_service.specs.Answers.{told, checked, refusal_of, refusal_of_several, rearmed, tree_reply};
 ghost use Rattle.zk_model.specs.Znodes.{Tree as Nodes};
 ghost use Rattle.zk_machine.specs.Faults.{BeyondUnless};
 ghost use Rattle.zk_machine.specs.Outcomes.{outcome_of, several_as};
@@ -88,7 +88,7 @@ fn looking(limit: usize, session: i64) -> Turn
 
 /// The tree's answer to a session that may own `limit` ephemeral nodes: to a read, to a setWatches, and to an update that is
 /// refused. One that succeeds has no answer here, and neither has a request that needs no tree.
-#[tactic(auto, unfolding(zk_transcript::specs::Answers::tree_reply))]
+#[tactic(auto, unfolding(zk_service::specs::Answers::tree_reply))]
 pub fn tree_reply(
     alloc: Global,
     tree: &Tree,

@@ -1,7 +1,7 @@
 //! What each update of a transcript did, worked out once. Of the other lines nothing is kept but where the next update stands.
 
 ghost use Rattle.std.specs.Prelude.{◌≡◌, ◌≢◌, ◌+◌, ◌<◌, ◌≤◌, ℕ, List, Some, length, option_map, slice_get, take, true, IfErr, IfOk};
-ghost use Rattle.zk_transcript.specs.declared.transcript.UpdateRec.{UpdateRec as Updated};
+ghost use Rattle.zk_service.specs.declared.update.UpdateRec.{UpdateRec as Updated};
 ghost use Rattle.zk_transcript.specs.declared.transcript.TranscriptLine.{TranscriptLine as Line};
 ghost use Rattle.zk_transcript.specs.declared.transcript.TranscriptLine.TheVariants.{Update};
 ghost use Rattle.zk_transcript.specs.History.{state_at};

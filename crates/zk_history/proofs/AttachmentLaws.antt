@@ -16,7 +16,7 @@ use Rattle.std.specs.List.{list_any}
 use Rattle.std.specs.BTreeSet.{BTreeSet, contains, IsKeyInRange, IsKeyRangeOf}
 use Rattle.std.specs.FinMap.{find, is_sorted, get, insert, remove, entries, entries_sorted, get-entries, get-insert, get-remove}
 use Rattle.std.specs.FinMap.Entries.{below_all}
-use Rattle.zk_transcript.specs.History.{Session, Sessions, attached_in, is_attached_to}
+use Rattle.zk_service.specs.States.{Session, Sessions, attached_in, is_attached_to}
 use Rattle.zk_history.specs.Attachments.{Pair, pair_order, has, is_on, least_id, AreAttached, IsLeastAttached}
 use Rattle.zk_history.proofs.SessionLaws.{Entries, numbered, get-numbered}
 

@@ -2,9 +2,10 @@
 use Rattle.std.proofs.Common.{ℤ, ◌+◌, ◌≤◌, Option, Some, None, List, arith}
 use Rattle.zk_transcript.specs.declared.transcript.TranscriptLine.{TranscriptLine}
 use Rattle.zk_transcript.specs.declared.transcript.TranscriptLine.TheVariants.{Update, Open, Frame, Send, Lapse, Close}
-use Rattle.zk_transcript.specs.declared.transcript.UpdateKind.{UpdateKind}
-use Rattle.zk_transcript.specs.declared.transcript.UpdateKind.TheVariants.{Begin, Session as NewSession, Attach, Asked, Closed, Reaped}
-use Rattle.zk_transcript.specs.History.{State, Session, Commit, asked_commit, change, committed, lapsed_in, session_at, updated}
+use Rattle.zk_service.specs.declared.update.UpdateKind.{UpdateKind}
+use Rattle.zk_service.specs.declared.update.UpdateKind.TheVariants.{Begin, Session as NewSession, Attach, Asked, Closed, Reaped}
+use Rattle.zk_service.specs.States.{State, Session, Commit, committed, lapsed_in, session_at}
+use Rattle.zk_transcript.specs.History.{asked_commit, change, updated}
 
 committed-updates : (s : State) (zxid : ℤ) (o : Option Commit) → (committed s zxid o).updates ≤ s.updates + 1
 committed-updates s zxid None = omega arith

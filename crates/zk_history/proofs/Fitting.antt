@@ -1,7 +1,8 @@
 -- Lines whose numbers are within their fields.
 use Rattle.std.proofs.Common.{◌≡◌, ◌<◌, ◌∷◌, ◌++◌, List, sym, subst}
 use Rattle.zk_transcript.specs.declared.transcript.TranscriptLine.{TranscriptLine}
-use Rattle.zk_transcript.specs.History.{State, after}
+use Rattle.zk_service.specs.States.{State}
+use Rattle.zk_transcript.specs.History.{after}
 use Rattle.zk_history.specs.Fits.{AllFit, Fits, IsCountable}
 
 -- where all lines fit, a line fits in the state that the lines before it lead to

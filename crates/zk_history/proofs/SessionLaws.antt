@@ -11,7 +11,7 @@ use Rattle.std.specs.Cmp.{int_cmp_total, eq_by_cmp_equiv}
 use Rattle.std.specs.Map.{lookup, keys_of}
 use Rattle.std.specs.BTreeMap.{is_at}
 use Rattle.std.specs.FinMap.{find, is_sorted, get, insert, remove, from_entries, same_map, int_cmp-IsAntisymmetric, get-from_entries, get-insert, get-remove}
-use Rattle.zk_transcript.specs.History.{Session, Sessions}
+use Rattle.zk_service.specs.States.{Session, Sessions}
 
 abbrev pub Entries : Type 0
 Entries = List (ℤ × Session)

@@ -4,7 +4,7 @@ use Rattle.std.specs.BTreeSet.{BTreeSet, contains}
 use Rattle.std.specs.Ordering.{int_cmp, nat_cmp, ordering_then}
 use Rattle.std.specs.declared.cmp.Ordering.{Ordering}
 use Rattle.std.specs.FinMap.{get}
-use Rattle.zk_transcript.specs.History.{Session, Sessions}
+use Rattle.zk_service.specs.States.{Session, Sessions}
 
 -- a connection and the number of a session
 abbrev pub Pair : Type 0

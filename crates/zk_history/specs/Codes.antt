@@ -6,7 +6,7 @@ use Rattle.zx_base.specs.Maps.{Bytes}
 use Rattle.zk_model.specs.declared.node.Trigger.{Trigger}
 use Rattle.zk_model.specs.declared.node.Trigger.TheVariants.{Created, Deleted, Changed, Children}
 use Rattle.zk_model.specs.Znodes.{Tree}
-use Rattle.zk_transcript.specs.History.{Session, Sessions, State}
+use Rattle.zk_service.specs.States.{Session, Sessions, State}
 use Rattle.zk_machine.specs.Entries.{coded_tree}
 
 abbrev pub coded_session : Coded Session

@@ -7,11 +7,12 @@ use Rattle.zk_machine.specs.Writes.{written_all}
 use Rattle.zk_history.specs.declared.outcome.Change.{Change}
 use Rattle.zk_history.specs.declared.outcome.Change.TheVariants.{Edited, Written}
 use Rattle.zk_history.specs.declared.outcome.Commit.{Commit as Answer}
-use Rattle.zk_transcript.specs.declared.transcript.UpdateKind.{UpdateKind}
-use Rattle.zk_transcript.specs.declared.transcript.UpdateKind.TheVariants.{Asked}
+use Rattle.zk_service.specs.declared.update.UpdateKind.{UpdateKind}
+use Rattle.zk_service.specs.declared.update.UpdateKind.TheVariants.{Asked}
 use Rattle.zk_transcript.specs.declared.transcript.TranscriptLine.{TranscriptLine}
 use Rattle.zk_transcript.specs.declared.transcript.TranscriptLine.TheVariants.{Update}
-use Rattle.zk_transcript.specs.History.{Commit, State, asked_commit}
+use Rattle.zk_service.specs.States.{Commit, State}
+use Rattle.zk_transcript.specs.History.{asked_commit}
 
 abbrev pub changed : Tree → Change → Tree
 changed t (Edited e) = edited_if t e

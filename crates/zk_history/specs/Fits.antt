@@ -4,11 +4,12 @@ use Rattle.zk_model.specs.declared.request.Part.{Part}
 use Rattle.zk_model.specs.declared.request.Part.TheVariants as part
 use Rattle.zk_model.specs.declared.request.Request.{Request}
 use Rattle.zk_model.specs.declared.request.Request.TheVariants as req
-use Rattle.zk_transcript.specs.declared.transcript.UpdateKind.{UpdateKind}
-use Rattle.zk_transcript.specs.declared.transcript.UpdateKind.TheVariants.{Begin, Asked}
+use Rattle.zk_service.specs.declared.update.UpdateKind.{UpdateKind}
+use Rattle.zk_service.specs.declared.update.UpdateKind.TheVariants.{Begin, Asked}
 use Rattle.zk_transcript.specs.declared.transcript.TranscriptLine.{TranscriptLine}
 use Rattle.zk_transcript.specs.declared.transcript.TranscriptLine.TheVariants.{Update}
-use Rattle.zk_transcript.specs.History.{State, after, request, session_of}
+use Rattle.zk_service.specs.States.{State, session_of}
+use Rattle.zk_transcript.specs.History.{after, request}
 use Rattle.zk_model.specs.Multi.{data_len}
 use Rattle.zk_model.specs.Znodes.{Tree}
 use Rattle.zk_machine.specs.Faults.{IsWithin, StaysWithin}

@@ -2,7 +2,7 @@
 
 ghost use Rattle.std.specs.Prelude.{◌≡◌, option_map, IfOk};
 ghost use Rattle.std.specs.FinMap.{get, insert, remove};
-ghost use Rattle.zk_transcript.specs.History.{Session as Opened, Sessions as Numbered};
+ghost use Rattle.zk_service.specs.States.{Session as Opened, Sessions as Numbered};
 ghost use Rattle.zk_history.specs.Attachments.{AreAttached, IsLeastAttached};
 
 use crate::session::Session;

@@ -2,7 +2,7 @@
 
 ghost use Rattle.std.specs.Prelude.{◌≡◌, ◌++◌, flat_map, IfOk, IfErr, OnOk};
 ghost use Rattle.zk_model.specs.Single.{removal};
-ghost use Rattle.zk_transcript.specs.History.{removed_all, session_ended};
+ghost use Rattle.zk_service.specs.States.{removed_all, session_ended};
 ghost use Rattle.zk_machine.specs.Faults.{BeyondUnless};
 ghost use Rattle.zk_history.specs.Fits.{IsCountable};
 

@@ -1,6 +1,6 @@
 //! The state of the service after the lines of a transcript.
 //!
-//! [`change`] takes one line, in place, and a [`Cursor`] goes over them; their contracts are the definitions in `zk_transcript`.
+//! [`change`] takes one line, in place, and a [`Cursor`] goes over them; their contracts are the definitions in `zk_service` and `zk_transcript`.
 //! What a line needs of the lines before it is looked up in the tables of [`Past`]. The judge of transcripts stands on this
 //! crate, the service does not.
 #![tactic(auto)]

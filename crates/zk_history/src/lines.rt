@@ -1,8 +1,9 @@
 //! What one line of a transcript does to the state.
 
 ghost use Rattle.std.specs.Prelude.{◌≡◌, ℕ, List, None, option_map, IfOk, IfErr};
-ghost use Rattle.zk_transcript.specs.declared.transcript.UpdateKind.TheVariants as kind;
-ghost use Rattle.zk_transcript.specs.History.{State, attached_anew, asked_commit, change, committed, lapsed_in, request, session_at, session_of, updated};
+ghost use Rattle.zk_service.specs.declared.update.UpdateKind.TheVariants as kind;
+ghost use Rattle.zk_service.specs.States.{State, attached_anew, committed, lapsed_in, session_at, session_of};
+ghost use Rattle.zk_transcript.specs.History.{asked_commit, change, request, updated};
 ghost use Rattle.zk_machine.specs.Faults.{BeyondUnless};
 ghost use Rattle.zk_history.specs.Commits.{commit_of, response_in, response_to};
 ghost use Rattle.zk_history.specs.Pasts.{lines_of};
@@ -18,7 +19,8 @@ use std::alloc::Global;
 use zk_machine::{Fault, Turn, begin};
 use zk_model::Body;
 use zk_model::limit::MAX_OWNED;
-use zk_transcript::{TranscriptLine, UpdateKind, UpdateRec};
+use zk_service::{UpdateKind, UpdateRec};
+use zk_transcript::TranscriptLine;
 use zx_base::{Memory, Seq};
 
 /// The latest time that a node can hold, in milliseconds: the greatest `long`.

@@ -11,7 +11,8 @@ use crate::firsts::{Firsts, Mark};
 use crate::shown::{attach_shown, close_shown, frame_shown, open_shown, own_update_shown};
 use crate::zxids::Zxids;
 use std::alloc::Global;
-use zk_transcript::{TranscriptLine, UpdateKind, UpdateRec};
+use zk_service::{UpdateKind, UpdateRec};
+use zk_transcript::TranscriptLine;
 use zx_base::Memory;
 
 fn open_mark(line: &TranscriptLine) -> Option<Mark>

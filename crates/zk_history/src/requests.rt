@@ -1,7 +1,7 @@
 //! What a request does to the tree.
 
 ghost use Rattle.std.specs.Prelude.{◌≡◌, ◌≤◌, pos, length, option_map, if◌then◌else◌, IfOk, IfErr};
-ghost use Rattle.zk_transcript.specs.History.{response_of, body_with_stat, commit_single, commit_several, commit_with_stat, commit, made_stat};
+ghost use Rattle.zk_service.specs.States.{response_of, body_with_stat, commit_single, commit_several, commit_with_stat, commit, made_stat};
 ghost use Rattle.zk_model.specs.Single.{is_ephemeral as is_ephemeral_by, single};
 ghost use Rattle.zk_model.specs.Multi.{several};
 ghost use Rattle.zk_model.specs.Znodes.{Tree as Nodes};
@@ -166,7 +166,7 @@ fn commit_several(
 
 /// What a create, create2, delete, setData or multi does, where it is not refused; any other request does nothing. Faults as
 /// [`crate::change`] does.
-#[tactic(auto, unfolding(zk_transcript::specs::History::commit))]
+#[tactic(auto, unfolding(zk_service::specs::States::commit))]
 pub fn commit(
     alloc: Global,
     tree: &Tree,

@@ -1,7 +1,7 @@
 //! Open sessions (Programmer's Guide, "ZooKeeper Sessions").
 
 ghost use Rattle.std.specs.Prelude.{◌≡◌, [], pos, option_map, IfOk, true};
-ghost use Rattle.zk_transcript.specs.History.{new_session, or_nothing};
+ghost use Rattle.zk_service.specs.States.{new_session, or_nothing};
 
 use std::alloc::Global;
 use std::marker::Model;
@@ -22,7 +22,7 @@ pub struct Session {
 }
 
 impl Model for Session {
-    ghost use Rattle.zk_transcript.specs.History.{Session as Opened};
+    ghost use Rattle.zk_service.specs.States.{Session as Opened};
     ghost use Rattle.zk_history.specs.Codes.{coded_session};
 
     ghost Value = { Opened };

@@ -2,7 +2,7 @@
 
 ghost use Rattle.std.specs.Prelude.{◌≡◌, option_map, IfOk};
 ghost use Rattle.std.specs.FinMap.{empty, entries, get, insert, remove};
-ghost use Rattle.zk_transcript.specs.History.{attached_in};
+ghost use Rattle.zk_service.specs.States.{attached_in};
 
 use crate::attachments::{Attachments, attached, detached, first_attached};
 use crate::session::Session;
@@ -20,7 +20,7 @@ pub struct Sessions {
 
 impl Model for Sessions {
     ghost use Rattle.std.specs.FinMap as map;
-    ghost use Rattle.zk_transcript.specs.History.{Sessions as Numbered};
+    ghost use Rattle.zk_service.specs.States.{Sessions as Numbered};
     ghost use Rattle.zk_history.specs.Attachments.{AreAttached};
     ghost use Rattle.zk_history.specs.Codes.{coded_sessions};
 

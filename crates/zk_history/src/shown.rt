@@ -12,7 +12,8 @@ ghost use Rattle.zk_jute.specs.Requests.{read_request};
 use crate::past::Past;
 use std::alloc::Global;
 use zk_model::{ConnectRequest, Request};
-use zk_transcript::{TranscriptLine, UpdateKind, UpdateRec};
+use zk_service::{UpdateKind, UpdateRec};
+use zk_transcript::TranscriptLine;
 use zk_wire::{WireFault, read_connect, read_request};
 use zx_base::Memory;
 

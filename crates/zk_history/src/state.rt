@@ -2,7 +2,7 @@
 
 ghost use Rattle.std.specs.Prelude.{◌≡◌, [], ◌+◌, ◌<◌, option_map, IfOk, IfErr};
 ghost use Rattle.std.specs.FinMap.{empty, insert, remove};
-ghost use Rattle.zk_transcript.specs.History.{advanced, attached_session, nothing_yet, removed_all, session_at};
+ghost use Rattle.zk_service.specs.States.{advanced, attached_session, nothing_yet, removed_all, session_at};
 ghost use Rattle.zk_history.specs.Commits.{changed};
 ghost use Rattle.zk_machine.specs.Faults.{BeyondUnless};
 
@@ -27,7 +27,7 @@ pub struct State {
 }
 
 impl Model for State {
-    ghost use Rattle.zk_transcript.specs.History.{State as Reached};
+    ghost use Rattle.zk_service.specs.States.{State as Reached};
     ghost use Rattle.zk_history.specs.Codes.{coded_state};
 
     ghost Value = { Reached };

@@ -3,11 +3,11 @@ use Rattle.std.proofs.Common.{◌≡◌, ℕ, ℤ, Bool, true, false, ◌&&◌, 
 use Rattle.std.specs.Prelude.{if◌then◌else◌, nat_le, length, ◌<◌, ◌≤◌}
 use Rattle.std.proofs.lemmas.Bool.Decides.{nat_tests}
 use Rattle.zk_jute.specs.Requests.{Frame, read_request}
-use Rattle.zk_transcript.specs.declared.transcript.UpdateRec.{UpdateRec}
+use Rattle.zk_service.specs.declared.update.UpdateRec.{UpdateRec}
 use Rattle.zk_transcript.specs.declared.transcript.TranscriptLine.{TranscriptLine}
 use Rattle.zk_model.specs.Watches.{Watches}
-use Rattle.zk_transcript.specs.Answers.{Told, xid_of}
-use Rattle.zk_transcript.specs.Walks.{Answer, Due, Walker, answer_as_of, fired_above, has_header, may_answer_at, move, own_update, placed_frame, reply_step, reply_step_if, told_as_of}
+use Rattle.zk_service.specs.Answers.{Told, xid_of, has_header}
+use Rattle.zk_transcript.specs.Walks.{Answer, Due, Walker, answer_as_of, fired_above, may_answer_at, move, own_update, placed_frame, reply_step, reply_step_if, told_as_of}
 use Rattle.zk_judge.specs.NextFrames.{before_frame}
 use Rattle.zk_judge.specs.Seen.{answer_after}
 

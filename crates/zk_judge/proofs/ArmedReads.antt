@@ -15,7 +15,7 @@ use Rattle.zk_model.specs.Multi.{Several, Denied, Codes, All as AllDone, several
 use Rattle.zk_model.specs.Single.{Outcome, Refused, Done, single}
 use Rattle.zk_model.specs.Watches.{Watches, no_watches}
 use Rattle.zk_model.specs.Znodes.{Tree, child_names, stat_of}
-use Rattle.zk_transcript.specs.Answers.{about, armed_children, armed_data, checked, fits_reply, listing, only, refusal_of, refusal_of_several, told, tree_reply}
+use Rattle.zk_service.specs.Answers.{about, armed_children, armed_data, checked, fits_reply, listing, only, refusal_of, refusal_of_several, told, tree_reply}
 use Rattle.zk_judge.specs.Arming.{armed_by, is_set_watches, with_armed}
 
 exists-arms : (w : Watches) (p : Bytes) (b : Bool) (o : Option Node) (f : Node → Body)

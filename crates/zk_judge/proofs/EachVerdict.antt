@@ -7,10 +7,12 @@ use Rattle.zk_jute.specs.Packets.{connect_packet}
 use Rattle.zk_model.specs.declared.connect.ConnectRequest.{ConnectRequest}
 use Rattle.zk_transcript.specs.declared.transcript.TranscriptLine.{TranscriptLine}
 use Rattle.zk_transcript.specs.declared.transcript.TranscriptLine.TheVariants as line
-use Rattle.zk_transcript.specs.History.{Session, connect, session_at, state_at}
+use Rattle.zk_service.specs.States.{Session, session_at}
+use Rattle.zk_transcript.specs.History.{connect, state_at}
 use Rattle.zk_transcript.specs.Legal.{Attachment, attach_of}
 use Rattle.zk_transcript.specs.Walks.{Due, packets, placed_frame}
-use Rattle.zk_transcript.specs.Conversations.{IsConnectAnswered, IsLawfulAndFresh, IsRefused, IsWelcomed, are_before_close, later_packets, may_refuse, refusal, welcome}
+use Rattle.zk_transcript.specs.Conversations.{IsConnectAnswered, IsLawfulAndFresh, IsRefused, IsWelcomed, are_before_close, later_packets}
+use Rattle.zk_service.specs.Answers.{may_refuse, refusal, welcome}
 use Rattle.zk_least.specs.LeastWalk.{least_walk}
 use Rattle.zk_legal.specs.Faults.{history_fault, order_fault}
 use Rattle.zk_judge.specs.declared.verdict.Verdict.{Verdict}

@@ -9,11 +9,12 @@ use Rattle.zk_model.specs.declared.reply.Reply.{Reply}
 use Rattle.zk_model.specs.declared.request.Request.{Request}
 use Rattle.zk_model.specs.declared.request.Request.TheVariants as req
 use Rattle.zx_base.specs.Maps.{Bytes}
-use Rattle.zk_transcript.specs.Answers.{Told, asks_of_watches, only, plain_reply, told_of_watcher, tree_reply, xid_of}
-use Rattle.zk_transcript.specs.History.{State, asked_in}
+use Rattle.zk_service.specs.Answers.{Told, asks_of_watches, only, plain_reply, told_of_watcher, tree_reply, xid_of}
+use Rattle.zk_service.specs.States.{State}
+use Rattle.zk_transcript.specs.History.{asked_in}
 use Rattle.zk_transcript.specs.Walks.{Walker, answer_plainly, later_of, looked, plain_answer}
 use Rattle.zk_least.specs.LeastWalk.{is_answer, is_plain, is_watch_answer}
-use Rattle.zk_transcript.proofs.PlainReplies.{plain-none, plain-only, plain-some}
+use Rattle.zk_service.proofs.PlainReplies.{plain-none, plain-only, plain-some}
 use Rattle.zk_judge.specs.Seen.{reply_in}
 use Rattle.zk_judge.proofs.Sendable.{IfTold, plain-told}
 

@@ -12,11 +12,12 @@ use Rattle.zk_jute.specs.Records.{contents_of}
 use Rattle.zk_jute.specs.Requests.{Asks}
 use Rattle.zk_transcript.specs.declared.transcript.TranscriptLine.{TranscriptLine}
 use Rattle.zk_transcript.specs.declared.transcript.TranscriptLine.TheVariants.{Update, Open, Frame as FrameLine, Send, Lapse, Close}
-use Rattle.zk_transcript.specs.History.{State, after, frame_shown, open_shown, opening, when}
+use Rattle.zk_service.specs.States.{State}
+use Rattle.zk_transcript.specs.History.{after, frame_shown, open_shown, opening, when}
 use Rattle.zk_transcript.specs.Walks.{placed_frame}
 use Rattle.zk_transcript.proofs.Histories.{first_shown-push}
 use Rattle.zk_transcript.proofs.Lookups.{first_shown-new}
-use Rattle.zk_transcript.proofs.SoundEffects.{IsShort}
+use Rattle.zk_service.proofs.SoundEffects.{IsShort}
 use Rattle.zk_least.proofs.FirstPlaces.{first_place-at}
 use Rattle.zk_machine.specs.Faults.{BeyondUnless, IsWhole}
 use Rattle.zk_machine.specs.declared.fault.Fault.{Fault}

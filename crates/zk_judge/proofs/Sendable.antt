@@ -39,7 +39,7 @@ use Rattle.zk_jute.specs.Results.{last_result, result_values}
 use Rattle.zk_jute.proofs.Lengths.{length-boolean_bytes, length-int_bytes, length-long_bytes, length-open_acl, length-string_bytes}
 use Rattle.zk_jute.proofs.Lists.{both_of}
 use Rattle.zk_jute.proofs.RequestLaws.{found}
-use Rattle.zk_transcript.specs.Answers.{Told, about, checked, fits_reply, listing, names_watches, only, plain_reply, plain_request, refusal_of, refusal_of_several, told, told_of_watcher, told_refusal, tree_reply}
+use Rattle.zk_service.specs.Answers.{Told, about, checked, fits_reply, listing, names_watches, only, plain_reply, plain_request, refusal_of, refusal_of_several, told, told_of_watcher, told_refusal, tree_reply}
 use Rattle.zk_transcript.specs.Legal.{is_within_parts}
 use Rattle.zk_machine.specs.Faults.{IsWhole}
 use Rattle.zk_legal.specs.Short.{AreShort, IsShortBody, IsShortResult}

@@ -7,10 +7,11 @@ use Rattle.std.proofs.lemmas.Bool.Decides.{nat_tests}
 use Rattle.std.proofs.lemmas.Int.{ints}
 use Rattle.zk_transcript.specs.declared.transcript.TranscriptLine.{TranscriptLine}
 use Rattle.zk_transcript.specs.declared.transcript.TranscriptLine.TheVariants.{Update, Open, Frame as FrameLine, Send, Lapse, Close}
-use Rattle.zk_transcript.specs.declared.transcript.UpdateRec.{UpdateRec}
-use Rattle.zk_transcript.specs.declared.transcript.UpdateKind.{UpdateKind}
-use Rattle.zk_transcript.specs.declared.transcript.UpdateKind.TheVariants as kind
-use Rattle.zk_transcript.specs.History.{State, connect, first_place, session_at, state_at, when}
+use Rattle.zk_service.specs.declared.update.UpdateRec.{UpdateRec}
+use Rattle.zk_service.specs.declared.update.UpdateKind.{UpdateKind}
+use Rattle.zk_service.specs.declared.update.UpdateKind.TheVariants as kind
+use Rattle.zk_service.specs.States.{State, session_at}
+use Rattle.zk_transcript.specs.History.{connect, first_place, state_at, when}
 use Rattle.zk_transcript.specs.Legal.{Attachment, attach_in, attach_of, attach_shown}
 use Rattle.zk_transcript.specs.Walks.{Due, at_start, packets, packets_from, placed_frame}
 use Rattle.zk_transcript.specs.Conversations.{IsConnectAnswered, IsLawfulAndFresh, IsRefused, IsWelcomed, are_before_close, close_shown, is_before, later_packets}

@@ -9,13 +9,14 @@ use Rattle.zk_model.specs.declared.reply.Reply.{Reply}
 use Rattle.zk_model.specs.declared.reply.Reply.TheVariants as reply
 use Rattle.zk_jute.specs.Packets.{CanBeSent}
 use Rattle.zk_jute.specs.Requests.{Frame, NoHeader, Unreadable, Unknown, Asks}
-use Rattle.zk_transcript.specs.declared.transcript.UpdateRec.{UpdateRec}
-use Rattle.zk_transcript.specs.declared.transcript.UpdateKind.{UpdateKind}
-use Rattle.zk_transcript.specs.declared.transcript.UpdateKind.TheVariants.{Begin, Session as NewSession, Attach, Asked, Closed, Reaped}
+use Rattle.zk_service.specs.declared.update.UpdateRec.{UpdateRec}
+use Rattle.zk_service.specs.declared.update.UpdateKind.{UpdateKind}
+use Rattle.zk_service.specs.declared.update.UpdateKind.TheVariants.{Begin, Session as NewSession, Attach, Asked, Closed, Reaped}
 use Rattle.zk_transcript.specs.declared.transcript.TranscriptLine.{TranscriptLine}
 use Rattle.zk_transcript.specs.declared.transcript.TranscriptLine.TheVariants.{Update}
-use Rattle.zk_transcript.specs.Answers.{Told, owned_limit_in, plain_reply, session_refusal}
-use Rattle.zk_transcript.specs.History.{Commit, Session, State, after, asked_commit, session_at}
+use Rattle.zk_service.specs.Answers.{Told, owned_limit_in, plain_reply, session_refusal}
+use Rattle.zk_service.specs.States.{Commit, Session, State, session_at}
+use Rattle.zk_transcript.specs.History.{after, asked_commit}
 use Rattle.zk_transcript.specs.Walks.{closes_session, looked, response_at, seen_told, told_as_of, told_by_state, told_response, with_end}
 use Rattle.zk_machine.specs.Faults.{IsWhole}
 use Rattle.zk_answers.specs.Outcomes.{told_of}

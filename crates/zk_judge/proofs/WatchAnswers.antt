@@ -5,7 +5,7 @@ use Rattle.zk_jute.specs.Requests.{Frame}
 use Rattle.zk_model.specs.Codes.{no_watcher}
 use Rattle.zk_model.specs.declared.reply.Body.TheVariants as body
 use Rattle.zk_model.specs.declared.reply.Reply.TheVariants as reply
-use Rattle.zk_transcript.specs.Answers.{asks_of_watches}
+use Rattle.zk_service.specs.Answers.{asks_of_watches}
 use Rattle.zk_least.specs.LeastWalk.{is_answer, is_watch_answer}
 
 pub unasked : (x : Frame) (bytes : List ℕ) → asks_of_watches x ≡ false → false ≡ is_watch_answer x bytes (asks_of_watches x)

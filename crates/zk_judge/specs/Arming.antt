@@ -5,7 +5,7 @@ use Rattle.zk_model.specs.declared.reply.Reply.TheVariants as reply
 use Rattle.zk_model.specs.declared.request.Request.{Request}
 use Rattle.zk_model.specs.declared.request.Request.TheVariants as req
 use Rattle.zk_model.specs.Watches.{Watches}
-use Rattle.zk_transcript.specs.Answers.{Told, armed_children, armed_data}
+use Rattle.zk_service.specs.Answers.{Told, armed_children, armed_data}
 
 -- the reply is no refusal
 abbrev pub is_good : Reply → Bool

@@ -4,9 +4,9 @@ use Rattle.zk_jute.specs.Requests.{Frame, NoHeader, Unreadable, Unknown, Asks, r
 use Rattle.zk_model.specs.Limits.{max_frame}
 use Rattle.zk_model.specs.Watches.{Watches}
 use Rattle.zk_model.specs.declared.reply.Reply.{Reply}
-use Rattle.zk_transcript.specs.declared.transcript.UpdateRec.{UpdateRec}
+use Rattle.zk_service.specs.declared.update.UpdateRec.{UpdateRec}
 use Rattle.zk_transcript.specs.declared.transcript.TranscriptLine.{TranscriptLine}
-use Rattle.zk_transcript.specs.Answers.{Told, only, xid_of}
+use Rattle.zk_service.specs.Answers.{Told, only, xid_of}
 use Rattle.zk_transcript.specs.Walks.{Due, Walker, fired_above, reply_step_if, told_as_of}
 use Rattle.zk_answers.specs.Outcomes.{told_of}
 use Rattle.zk_judge.specs.declared.frames.FrameRead.{FrameRead}

@@ -6,7 +6,8 @@ use Rattle.zk_transcript.specs.declared.transcript.TranscriptLine.{TranscriptLin
 use Rattle.zk_transcript.specs.declared.transcript.TranscriptLine.TheVariants.{Open}
 use Rattle.zk_transcript.specs.History.{opening, state_at}
 use Rattle.zk_transcript.specs.Legal.{attach_of}
-use Rattle.zk_transcript.specs.Conversations.{IsLawfulAndFresh, may_refuse}
+use Rattle.zk_transcript.specs.Conversations.{IsLawfulAndFresh}
+use Rattle.zk_service.specs.Answers.{may_refuse}
 use Rattle.zk_judge.specs.Faults.{IsBelow, IsFault}
 use Rattle.zk_judge.specs.Waiting.{IsWaiting, is_walked}
 use Rattle.zk_judge.specs.declared.conversations.Conversation.{Conversation}

@@ -3,9 +3,10 @@
 ghost use Rattle.std.specs.Prelude.{◌≡◌, ◌<◌, ℕ, ℤ, Some, length, option_map, slice_get, IfOk};
 ghost use Rattle.zk_transcript.specs.declared.transcript.TranscriptLine.TheVariants.{Update};
 ghost use Rattle.zk_model.specs.declared.reply.Reply.TheVariants as reply;
-ghost use Rattle.zk_transcript.specs.History.{after, session_at};
+ghost use Rattle.zk_transcript.specs.History.{after};
+ghost use Rattle.zk_service.specs.States.{session_at};
 ghost use Rattle.zk_jute.specs.Requests.{Frame};
-ghost use Rattle.zk_transcript.specs.Answers.{owned_limit_in, only, plain_reply as plain_reply_of, session_refusal as session_refusal_of};
+ghost use Rattle.zk_service.specs.Answers.{owned_limit_in, only, plain_reply as plain_reply_of, session_refusal as session_refusal_of};
 ghost use Rattle.zk_transcript.specs.Walks.{closes_session as closes_session_of, looked as looked_of, response_at as response_at_of, told_as_of as told_as_of_of, told_by_state as told_by_state_of};
 ghost use Rattle.zk_model.specs.Limits.{max_owned};
 ghost use Rattle.zk_machine.specs.Faults.{IsWhole};
@@ -25,7 +26,8 @@ use zk_answers::{Told, Watches};
 use zk_history::State;
 use zk_model::code::{SESSION_EXPIRED, SESSION_MOVED};
 use zk_model::{Body, Reply};
-use zk_transcript::{TranscriptLine, UpdateKind, UpdateRec};
+use zk_service::{UpdateKind, UpdateRec};
+use zk_transcript::TranscriptLine;
 use zx_base::{Memory, Seq};
 
 /// What is told, and whether no request is answered after it.

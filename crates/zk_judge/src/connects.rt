@@ -2,8 +2,10 @@
 
 ghost use Rattle.std.specs.Prelude.{◌≡◌, ◌+◌, ◌<◌, ◌↔◌, length, option_map, IfOk, IsTrue};
 ghost use Rattle.zk_jute.specs.Packets.{connect_packet};
-ghost use Rattle.zk_transcript.specs.History.{connect as connect_of, session_at, state_at};
-ghost use Rattle.zk_transcript.specs.Conversations.{IsWelcomed, answered_read_only as answered_read_only_of, is_other_session as is_other_session_of, may_refuse as may_refuse_of, refusal, welcome};
+ghost use Rattle.zk_transcript.specs.History.{connect as connect_of, state_at};
+ghost use Rattle.zk_service.specs.States.{session_at};
+ghost use Rattle.zk_transcript.specs.Conversations.{IsWelcomed};
+ghost use Rattle.zk_service.specs.Answers.{answered_read_only as answered_read_only_of, is_other_session as is_other_session_of, may_refuse as may_refuse_of, refusal, welcome};
 
 use crate::index::Index;
 use crate::walker::Party;

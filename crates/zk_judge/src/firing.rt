@@ -1,7 +1,7 @@
 //! The updates that a client has not been told of fire its watches.
 
 ghost use Rattle.std.specs.Prelude.{◌≡◌, ◌<◌, Some, true, length, slice_get, IfOk};
-ghost use Rattle.zk_transcript.specs.declared.transcript.UpdateRec.{UpdateRec as Updated};
+ghost use Rattle.zk_service.specs.declared.update.UpdateRec.{UpdateRec as Updated};
 ghost use Rattle.zk_transcript.specs.declared.transcript.TranscriptLine.{TranscriptLine as Line};
 ghost use Rattle.zk_transcript.specs.declared.transcript.TranscriptLine.TheVariants.{Update};
 ghost use Rattle.zk_transcript.specs.Walks.{fired_above as fired_above_of, is_above as is_above_of, then_fired};

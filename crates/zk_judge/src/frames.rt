@@ -3,8 +3,7 @@
 ghost use Rattle.std.specs.Prelude.{◌≡◌, ℤ, false, Some, option_map, IfOk};
 ghost use Rattle.zk_model.specs.Watches.{no_watches};
 ghost use Rattle.zk_jute.specs.Requests.{Asks, read_request as read_request_of};
-ghost use Rattle.zk_transcript.specs.Answers.{asks_of_watches as asks_of_watches_of, told_of_watches, plain_reply as plain_reply_of, plain_request as plain_request_of, xid_of as xid_of_of};
-ghost use Rattle.zk_transcript.specs.Walks.{has_header as has_header_of};
+ghost use Rattle.zk_service.specs.Answers.{asks_of_watches as asks_of_watches_of, told_of_watches, plain_reply as plain_reply_of, plain_request as plain_request_of, xid_of as xid_of_of, has_header as has_header_of};
 ghost use Rattle.zk_judge.specs.Seen.{frame_as, reply_in, said_of};
 
 use std::alloc::Global;
@@ -136,7 +135,7 @@ fn other_said(alloc: Global, request: &Request, watches: Watches) -> Result<Opti
     }
 }
 
-#[tactic(auto, unfolding(zk_transcript::specs::Answers::plain_request))]
+#[tactic(auto, unfolding(zk_service::specs::Answers::plain_request))]
 fn request_said(alloc: Global, request: &Request, watches: Watches) -> Result<Option<Said>, Memory>
     ensures { IfOk result (λ o. option_map said_of o ≡ plain_request_of watches request.now) }
 {

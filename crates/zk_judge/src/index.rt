@@ -1,7 +1,7 @@
 //! The lines of a transcript, with tables of what they show and of what its updates did.
 
 ghost use Rattle.std.specs.Prelude.{◌≡◌, ◌+◌, ◌<◌, ◌≤◌, ℕ, ℤ, List, None, Some, length, option_map, slice_get, take, IfOk, IfSome};
-ghost use Rattle.zk_transcript.specs.declared.transcript.UpdateRec.{UpdateRec as Updated};
+ghost use Rattle.zk_service.specs.declared.update.UpdateRec.{UpdateRec as Updated};
 ghost use Rattle.zk_transcript.specs.declared.transcript.TranscriptLine.TheVariants.{Update};
 ghost use Rattle.zk_transcript.specs.History.{connect as connect_of, first_place, open_shown, state_at};
 ghost use Rattle.zk_transcript.specs.Walks.{after_update as after_update_of, own_update as own_update_of, packets, placed_frame as placed_frame_of, update_shown as update_shown_of};
@@ -20,7 +20,8 @@ use std::alloc::Global;
 use zk_effects::Effects;
 use zk_history::{Fault, Past};
 use zk_model::{Body, ConnectRequest, Trigger};
-use zk_transcript::{TranscriptLine, UpdateRec};
+use zk_service::UpdateRec;
+use zk_transcript::TranscriptLine;
 use zx_base::Memory;
 
 /// Proof only: an array of 16 bytes has 16 bytes.

@@ -7,7 +7,7 @@ ghost use Rattle.zk_judge.specs.NextFrames.{IsNextFrame};
 use crate::frames::{FrameRead, frame_of};
 use crate::index::Index;
 use std::alloc::Global;
-use zk_transcript::UpdateRec;
+use zk_service::UpdateRec;
 use zx_base::Memory;
 
 /// A frame of a connection.

@@ -1,9 +1,9 @@
 //! The steps of a connection's walk that answer a frame.
 
 ghost use Rattle.std.specs.Prelude.{◌≡◌, ◌&&◌, ◌+◌, ◌<◌, ◌++◌, ◌∷◌, ◌^◌, [], Some, option_map, IfOk};
-ghost use Rattle.zk_transcript.specs.Answers.{only, xid_of as xid_of_of};
+ghost use Rattle.zk_service.specs.Answers.{only, xid_of as xid_of_of, has_header as has_header_of, is_auth_refusal as is_auth_refusal_of};
 ghost use Rattle.zk_transcript.specs.History.{after, state_at};
-ghost use Rattle.zk_transcript.specs.Walks.{Answer, Plain, after_update as after_update_of, answer_as_of as answer_as_of_of, answer_plainly as answer_plainly_of, due_notices, has_header as has_header_of, is_auth_refusal as is_auth_refusal_of, later_of as later_of_of, may_answer_at, move, placed_frame as placed_frame_of, plain_answer as plain_answer_of, reply_step as reply_step_of, reply_step_if as reply_step_if_of, told_as_of as told_as_of_of};
+ghost use Rattle.zk_transcript.specs.Walks.{Answer, Plain, after_update as after_update_of, answer_as_of as answer_as_of_of, answer_plainly as answer_plainly_of, due_notices, later_of as later_of_of, may_answer_at, move, placed_frame as placed_frame_of, plain_answer as plain_answer_of, reply_step as reply_step_of, reply_step_if as reply_step_if_of, told_as_of as told_as_of_of};
 ghost use Rattle.zk_judge.specs.Fronts.{IsFront, IsTold};
 ghost use Rattle.std.specs.List.{All};
 ghost use Rattle.zk_jute.specs.Packets.{CanBeSent, NoticeCanBeSent};

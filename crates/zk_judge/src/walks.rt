@@ -4,7 +4,7 @@ ghost use Rattle.std.specs.Prelude.{◌≡◌, ◌||◌, ◌<◌, ◌≤◌, ◌
 ghost use Rattle.std.specs.Ordering.{int_eq};
 ghost use Rattle.zk_jute.specs.Packets.{CanBeSent, reply_packet as reply_packet_of};
 ghost use Rattle.zk_model.specs.Codes.{session_expired};
-ghost use Rattle.zk_transcript.specs.Answers.{asks_of_watches as asks_of_watches_of, xid_of as xid_of_of};
+ghost use Rattle.zk_service.specs.Answers.{asks_of_watches as asks_of_watches_of, xid_of as xid_of_of};
 ghost use Rattle.zk_transcript.specs.History.{state_at};
 ghost use Rattle.zk_transcript.specs.Walks.{later_of as later_of_of, own_update as own_update_of, placed_frame as placed_frame_of};
 ghost use Rattle.zk_least.specs.LeastMoments.{code_in as code_in_of, lapsed_from as lapsed_from_of, moments_for, moments_to_try};

@@ -15,19 +15,20 @@ use Rattle.zk_model.specs.Limits.{max_long}
 use Rattle.zk_model.specs.Watches.{Watches, no_watches}
 use Rattle.zk_jute.specs.Requests.{Frame, read_request}
 use Rattle.zk_jute.specs.Packets.{reply_packet}
-use Rattle.zk_transcript.specs.declared.transcript.UpdateRec.{UpdateRec}
+use Rattle.zk_service.specs.declared.update.UpdateRec.{UpdateRec}
 use Rattle.zk_transcript.specs.declared.transcript.TranscriptLine.{TranscriptLine}
-use Rattle.zk_transcript.specs.Answers.{Told, asks_of_watches, only, plain_reply, xid_of, session_refusal, owned_limit_in}
-use Rattle.zk_transcript.specs.History.{State, state_at, session_at}
+use Rattle.zk_service.specs.Answers.{Told, asks_of_watches, only, plain_reply, xid_of, session_refusal, owned_limit_in, is_auth_refusal}
+use Rattle.zk_service.specs.States.{State, session_at}
+use Rattle.zk_transcript.specs.History.{state_at}
 use Rattle.zk_transcript.specs.Legal.{is_legal}
-use Rattle.zk_transcript.specs.Walks.{Walker, Choice, Tell, Plain, Answer, Due, move, walk, then_due, are_sent, is_walked, placed_frame, own_update, fired_above, later_of, with_end, looked, seen_told, told_by_state, told_as_of, answer_plainly, plain_answer, due_notices, is_auth_refusal, all_choices, next_index, is_fresh, are_fresh}
+use Rattle.zk_transcript.specs.Walks.{Walker, Choice, Tell, Plain, Answer, Due, move, walk, then_due, are_sent, is_walked, placed_frame, own_update, fired_above, later_of, with_end, looked, seen_told, told_by_state, told_as_of, answer_plainly, plain_answer, due_notices, all_choices, next_index, is_fresh, are_fresh}
 use Rattle.zk_transcript.proofs.Longer.{if_Some, move-index}
 use Rattle.zk_least.specs.LeastWalk.{zxid_in, is_notice, next_reply, rest_after, is_answer, is_watch_answer, is_plain, repeats, plain_choice, HasZxids}
 use Rattle.zk_least.specs.LeastMoments.{code_in}
 use Rattle.zk_least.proofs.Rising.{at-line, state-long, IsLong}
 use Rattle.zk_least.proofs.Sound.{IsGood, IsFresh}
 use Rattle.zk_least.proofs.ShortCodes.{is_fine, code_of, fine_told, plain-fine, IsShortCode, fine-short}
-use Rattle.zk_transcript.proofs.PlainReplies.{plain-either, plain-quiet, plain-some, IsEither}
+use Rattle.zk_service.proofs.PlainReplies.{plain-either, plain-quiet, plain-some, IsEither}
 use Rattle.zk_least.proofs.Headers.{reply-zxid, reply-code, not-notice}
 use Rattle.zk_least.proofs.Answering.{IsMade, made, are_notices, due-notices, fired-notices, reply-next, shown-reply}
 use Rattle.zk_least.proofs.SameAnswer.{refused-codes}

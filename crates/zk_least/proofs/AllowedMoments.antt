@@ -7,9 +7,9 @@ use Rattle.std.proofs.lemmas.Int.{ints}
 use Rattle.zk_model.specs.Watches.{Watches}
 use Rattle.zk_jute.specs.Requests.{Frame, read_request}
 use Rattle.zk_jute.specs.Packets.{reply_packet}
-use Rattle.zk_transcript.specs.declared.transcript.UpdateRec.{UpdateRec}
+use Rattle.zk_service.specs.declared.update.UpdateRec.{UpdateRec}
 use Rattle.zk_transcript.specs.declared.transcript.TranscriptLine.{TranscriptLine}
-use Rattle.zk_transcript.specs.Answers.{Told, xid_of}
+use Rattle.zk_service.specs.Answers.{Told, xid_of}
 use Rattle.zk_transcript.specs.History.{state_at}
 use Rattle.zk_transcript.specs.Legal.{is_legal}
 use Rattle.zk_transcript.specs.Walks.{Walker, Answer, Due, move, next_update, placed_frame, own_update, fired_above, told_as_of, is_past, is_fresh}

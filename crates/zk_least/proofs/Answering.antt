@@ -11,9 +11,9 @@ use Rattle.zk_model.specs.Watches.{Watches}
 use Rattle.zk_jute.specs.Requests.{read_request}
 use Rattle.zk_jute.specs.Packets.{reply_packet}
 use Rattle.zk_transcript.specs.declared.transcript.TranscriptLine.{TranscriptLine}
-use Rattle.zk_transcript.specs.Answers.{Told, xid_of}
+use Rattle.zk_service.specs.Answers.{Told, xid_of, has_header}
 use Rattle.zk_transcript.specs.History.{after}
-use Rattle.zk_transcript.specs.Walks.{Walker, Answer, Due, move, due_notices, fired_at, is_above, then_fired, fired_from, fired_above, placed_frame, own_update, later_of, told_as_of, reply_step, reply_step_if, has_header, may_answer_at, answer_as_of, after_update}
+use Rattle.zk_transcript.specs.Walks.{Walker, Answer, Due, move, due_notices, fired_at, is_above, then_fired, fired_from, fired_above, placed_frame, own_update, later_of, told_as_of, reply_step, reply_step_if, may_answer_at, answer_as_of, after_update}
 use Rattle.zk_transcript.proofs.Longer.{if_Some, then_Some}
 use Rattle.zk_least.specs.LeastWalk.{is_notice, next_reply, rest_after}
 use Rattle.zk_least.proofs.EarlierMoments.{if-both}

@@ -13,13 +13,14 @@ use Rattle.zk_model.specs.Znodes.{Tree}
 use Rattle.zk_model.specs.Single.{Outcome, single, form_refusal, effect, unless_refused}
 use Rattle.zk_model.specs.Watches.{Watches, no_watches}
 use Rattle.zk_jute.specs.Requests.{Frame, NoHeader, Unreadable, Unknown, Asks, read_request}
-use Rattle.zk_transcript.specs.declared.transcript.UpdateRec.{UpdateRec}
-use Rattle.zk_transcript.specs.declared.transcript.UpdateKind.{UpdateKind}
-use Rattle.zk_transcript.specs.declared.transcript.UpdateKind.TheVariants.{Begin, Session as NewSession, Attach, Asked, Closed, Reaped}
+use Rattle.zk_service.specs.declared.update.UpdateRec.{UpdateRec}
+use Rattle.zk_service.specs.declared.update.UpdateKind.{UpdateKind}
+use Rattle.zk_service.specs.declared.update.UpdateKind.TheVariants.{Begin, Session as NewSession, Attach, Asked, Closed, Reaped}
 use Rattle.zk_transcript.specs.declared.transcript.TranscriptLine.{TranscriptLine}
 use Rattle.zk_transcript.specs.declared.transcript.TranscriptLine.TheVariants.{Update, Open, Frame as FrameLine, Send, Lapse, Close}
-use Rattle.zk_transcript.specs.Answers.{Told, plain_reply, plain_request, told_refusal}
-use Rattle.zk_transcript.specs.History.{State, Session, state_at, asked_in, frame_shown, frame, request, commit, commit_single, commit_with_stat, made_stat, asked_commit, attached_session, limit_of}
+use Rattle.zk_service.specs.Answers.{Told, plain_reply, plain_request, told_refusal}
+use Rattle.zk_service.specs.States.{State, Session, commit, commit_single, commit_with_stat, made_stat, attached_session, limit_of}
+use Rattle.zk_transcript.specs.History.{state_at, asked_in, frame_shown, frame, request, asked_commit}
 use Rattle.zk_transcript.specs.Legal.{is_legal, is_legal_line, is_next_zxid, may_update, is_close, is_within_parts}
 use Rattle.zk_transcript.specs.Walks.{own_update_in, own_update_shown, placed_frame}
 use Rattle.zk_transcript.proofs.Appending.{first_place-push}

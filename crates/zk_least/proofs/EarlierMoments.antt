@@ -2,13 +2,13 @@
 use Rattle.std.proofs.Common.{◌≡◌, ℕ, ◌+◌, ◌≤◌, List, [], ◌∷◌, length, take, refl, sym, ap, ◌∙◌, subst, arith, Bool, true, false, ℤ}
 use Rattle.std.specs.Prelude.{Option, Some, None, nat_le, int_le, ◌&&◌, if◌then◌else◌}
 use Rattle.std.proofs.lemmas.Bool.Decides.{nat_tests}
-use Rattle.zk_transcript.specs.declared.transcript.UpdateRec.{UpdateRec}
+use Rattle.zk_service.specs.declared.update.UpdateRec.{UpdateRec}
 use Rattle.zk_transcript.specs.declared.transcript.TranscriptLine.{TranscriptLine}
 use Rattle.zk_jute.specs.Requests.{read_request}
-use Rattle.zk_transcript.specs.Answers.{Told, plain_reply, xid_of}
+use Rattle.zk_service.specs.Answers.{Told, plain_reply, xid_of, has_header}
 use Rattle.zk_transcript.specs.History.{after}
 use Rattle.zk_model.specs.Watches.{is_unarmed}
-use Rattle.zk_transcript.specs.Walks.{Walker, Choice, Tell, Plain, Answer, Due, move, walk, entry_step, told_update, next_update, then_due, placed_frame, own_update, answer_plainly, plain_answer, later_of, reply_step_if, told_as_of, has_header, may_answer_at, answer_as_of, fired_above}
+use Rattle.zk_transcript.specs.Walks.{Walker, Choice, Tell, Plain, Answer, Due, move, walk, entry_step, told_update, next_update, then_due, placed_frame, own_update, answer_plainly, plain_answer, later_of, reply_step_if, told_as_of, may_answer_at, answer_as_of, fired_above}
 use Rattle.std.proofs.lemmas.Bool.{and_from, and_parts}
 use Rattle.zk_transcript.proofs.Longer.{then_due-next}
 

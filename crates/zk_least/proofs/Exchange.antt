@@ -3,18 +3,18 @@ use Rattle.std.proofs.Common.{◌≡◌, ℕ, zero, suc, ◌+◌, ◌≤◌, ◌
 use Rattle.std.specs.Prelude.{Option, Some, None, ◌<ℤ◌, ◌≤ℤ◌, slice_get, nat_le, nat_lt, int_lt, int_le, if◌then◌else◌}
 use Rattle.std.proofs.lemmas.Int.{ints}
 use Rattle.std.proofs.lemmas.Bool.Decides.{nat_tests}
-use Rattle.zk_transcript.specs.declared.transcript.UpdateRec.{UpdateRec}
+use Rattle.zk_service.specs.declared.update.UpdateRec.{UpdateRec}
 use Rattle.zk_transcript.specs.declared.transcript.TranscriptLine.{TranscriptLine}
 use Rattle.zk_transcript.specs.declared.transcript.TranscriptLine.TheVariants.{Update, Open, Frame as FrameLine, Send, Lapse, Close}
 use Rattle.zk_jute.specs.Requests.{read_request}
 use Rattle.zk_jute.specs.Packets.{reply_packet}
 use Rattle.zk_model.specs.Watches.{Watches, is_unarmed}
-use Rattle.zk_transcript.specs.Answers.{xid_of}
+use Rattle.zk_service.specs.Answers.{xid_of}
 use Rattle.zk_transcript.specs.History.{after, state_at, first_place}
 use Rattle.zk_transcript.specs.Legal.{is_legal}
 use Rattle.zk_transcript.specs.Walks.{Walker, Tell, Answer, Due, move, told_update, next_update, above_shown, is_above, fired_at, fired_above, due_notices, own_update, later_of, told_as_of, reply_step, after_update}
 use Rattle.std.proofs.lemmas.Bool.{and_from, and_parts}
-use Rattle.zk_transcript.proofs.Ordered.{slice_get-take}
+use Rattle.zx_base.proofs.Lists.{slice_get-take}
 use Rattle.zk_transcript.proofs.Zxids.{zxids-rise}
 use Rattle.zk_least.proofs.Rising.{rising, at-line, not-below, started}
 use Rattle.zk_least.proofs.Firing.{IsFirst, first-fires, fired-within}

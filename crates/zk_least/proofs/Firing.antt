@@ -6,13 +6,14 @@ use Rattle.std.specs.Ordering.{int_eq}
 use Rattle.std.proofs.lemmas.Int.{ints}
 use Rattle.std.proofs.lemmas.Bool.Decides.{nat_tests}
 use Rattle.zk_model.specs.Watches.{Watches, fire_all}
-use Rattle.zk_transcript.specs.declared.transcript.UpdateRec.{UpdateRec}
+use Rattle.zk_service.specs.declared.update.UpdateRec.{UpdateRec}
 use Rattle.zk_transcript.specs.declared.transcript.TranscriptLine.{TranscriptLine}
 use Rattle.zk_transcript.specs.declared.transcript.TranscriptLine.TheVariants.{Update, Open, Frame as FrameLine, Send, Lapse, Close}
-use Rattle.zk_transcript.specs.History.{State, after, first_place, when}
+use Rattle.zk_service.specs.States.{State}
+use Rattle.zk_transcript.specs.History.{after, first_place, when}
 use Rattle.zk_transcript.specs.Legal.{is_legal}
 use Rattle.zk_transcript.specs.Walks.{Due, due_notices, fired_at, is_above, then_fired, fired_from, fired_above, update_shown, after_update, after_place}
-use Rattle.zk_transcript.proofs.Ordered.{slice_get-take}
+use Rattle.zx_base.proofs.Lists.{slice_get-take}
 use Rattle.zk_transcript.proofs.Walks.{state_at-push}
 use Rattle.zk_transcript.proofs.Zxids.{zxids-rise}
 use Rattle.zk_least.proofs.SameZxid.{NoUpdate, NoUpdates, get-take}

@@ -8,8 +8,9 @@ use Rattle.zk_model.specs.Watches.{Watches}
 use Rattle.zk_jute.specs.Requests.{Frame, read_request}
 use Rattle.zk_jute.specs.Packets.{reply_packet}
 use Rattle.zk_transcript.specs.declared.transcript.TranscriptLine.{TranscriptLine}
-use Rattle.zk_transcript.specs.Answers.{Told, xid_of}
-use Rattle.zk_transcript.specs.History.{state_at, session_at}
+use Rattle.zk_service.specs.Answers.{Told, xid_of}
+use Rattle.zk_transcript.specs.History.{state_at}
+use Rattle.zk_service.specs.States.{session_at}
 use Rattle.zk_transcript.specs.Legal.{is_legal}
 use Rattle.zk_transcript.specs.Walks.{Walker, Answer, Due, move, due_notices, fired_above, own_update, later_of, told_as_of, reply_step, after_update, is_fresh}
 use Rattle.zk_least.specs.LeastWalk.{rest_after, given, is_allowed}

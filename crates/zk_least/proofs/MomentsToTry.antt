@@ -7,11 +7,12 @@ use Rattle.zk_model.specs.declared.reply.Reply.TheVariants as reply
 use Rattle.zk_model.specs.Codes.{session_expired}
 use Rattle.zk_jute.specs.Requests.{read_request}
 use Rattle.zk_jute.specs.Packets.{reply_packet}
-use Rattle.zk_transcript.specs.declared.transcript.UpdateRec.{UpdateRec}
+use Rattle.zk_service.specs.declared.update.UpdateRec.{UpdateRec}
 use Rattle.zk_transcript.specs.declared.transcript.TranscriptLine.{TranscriptLine}
 use Rattle.zk_transcript.specs.declared.transcript.TranscriptLine.TheVariants.{Update, Open, Frame as FrameLine, Send, Lapse, Close}
-use Rattle.zk_transcript.specs.Answers.{Told, only, xid_of, session_refusal, owned_limit_in}
-use Rattle.zk_transcript.specs.History.{State, session_at, state_at, first_place, when}
+use Rattle.zk_service.specs.Answers.{Told, only, xid_of, session_refusal, owned_limit_in}
+use Rattle.zk_service.specs.States.{State, session_at}
+use Rattle.zk_transcript.specs.History.{state_at, first_place, when}
 use Rattle.zk_transcript.specs.Legal.{is_legal}
 use Rattle.zk_transcript.specs.Walks.{Walker, Due, placed_frame, own_update, fired_above, later_of, seen_told, told_as_of, after_place, after_update, is_past}
 use Rattle.zk_least.specs.LeastWalk.{zxid_in, next_reply, is_allowed, first_passing, least_moment, HasZxids}

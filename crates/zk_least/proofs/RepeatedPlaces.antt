@@ -7,10 +7,10 @@ use Rattle.std.proofs.lemmas.Int.{ints}
 use Rattle.zk_model.specs.Watches.{Watches, is_unarmed}
 use Rattle.zk_jute.specs.Requests.{read_request}
 use Rattle.zk_jute.specs.Packets.{reply_packet}
-use Rattle.zk_transcript.specs.declared.transcript.UpdateRec.{UpdateRec}
+use Rattle.zk_service.specs.declared.update.UpdateRec.{UpdateRec}
 use Rattle.zk_transcript.specs.declared.transcript.TranscriptLine.{TranscriptLine}
 use Rattle.zk_transcript.specs.declared.transcript.TranscriptLine.TheVariants.{Update, Open, Frame as FrameLine, Send, Lapse, Close}
-use Rattle.zk_transcript.specs.Answers.{xid_of}
+use Rattle.zk_service.specs.Answers.{xid_of}
 use Rattle.zk_transcript.specs.History.{first_place, when}
 use Rattle.zk_transcript.specs.Legal.{is_legal}
 use Rattle.zk_transcript.specs.Walks.{Walker, Tell, Plain, Answer, Due, move, placed_frame, fired_at, fired_above, later_of, next_update, above_shown, update_shown, told_update, then_due}

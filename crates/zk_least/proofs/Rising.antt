@@ -5,12 +5,13 @@ use Rattle.std.proofs.lemmas.Bool.{and_parts}
 use Rattle.std.proofs.lemmas.Bool.Decides.{nat_tests}
 use Rattle.std.proofs.lemmas.Int.{ints}
 use Rattle.zk_model.specs.Limits.{max_long}
-use Rattle.zk_transcript.specs.declared.transcript.UpdateRec.{UpdateRec}
-use Rattle.zk_transcript.specs.declared.transcript.UpdateKind.{UpdateKind}
-use Rattle.zk_transcript.specs.declared.transcript.UpdateKind.TheVariants.{Begin, Session as NewSession, Attach, Asked, Closed, Reaped}
+use Rattle.zk_service.specs.declared.update.UpdateRec.{UpdateRec}
+use Rattle.zk_service.specs.declared.update.UpdateKind.{UpdateKind}
+use Rattle.zk_service.specs.declared.update.UpdateKind.TheVariants.{Begin, Session as NewSession, Attach, Asked, Closed, Reaped}
 use Rattle.zk_transcript.specs.declared.transcript.TranscriptLine.{TranscriptLine}
 use Rattle.zk_transcript.specs.declared.transcript.TranscriptLine.TheVariants.{Update, Open, Frame as FrameLine, Send, Lapse, Close}
-use Rattle.zk_transcript.specs.History.{State, Session, Commit, after, change, updated, committed, asked_commit, lapsed_in, session_at, state_at}
+use Rattle.zk_service.specs.States.{State, Session, Commit, committed, lapsed_in, session_at}
+use Rattle.zk_transcript.specs.History.{after, change, updated, asked_commit, state_at}
 use Rattle.zk_transcript.specs.Legal.{is_legal, is_legal_line, is_next_zxid, may_update}
 use Rattle.zk_transcript.proofs.Appending.{after-push}
 use Rattle.zk_transcript.proofs.Histories.{above-next, long-next}

@@ -13,11 +13,12 @@ use Rattle.zk_model.specs.Codes.{session_expired, session_moved}
 use Rattle.zk_model.specs.Watches.{Watches}
 use Rattle.zk_jute.specs.Requests.{Frame, read_request}
 use Rattle.zk_jute.specs.Packets.{reply_packet}
-use Rattle.zk_transcript.specs.declared.transcript.UpdateRec.{UpdateRec}
+use Rattle.zk_service.specs.declared.update.UpdateRec.{UpdateRec}
 use Rattle.zk_transcript.specs.declared.transcript.TranscriptLine.{TranscriptLine}
-use Rattle.zk_transcript.specs.History.{State, Session, state_at, asked_in, session_at}
+use Rattle.zk_service.specs.States.{State, Session, session_at}
+use Rattle.zk_transcript.specs.History.{state_at, asked_in}
 use Rattle.zk_transcript.specs.Legal.{is_legal}
-use Rattle.zk_transcript.specs.Answers.{Told, only, plain_reply, xid_of, tree_reply, session_refusal, owned_limit_in}
+use Rattle.zk_service.specs.Answers.{Told, only, plain_reply, xid_of, tree_reply, session_refusal, owned_limit_in}
 use Rattle.zk_transcript.specs.Walks.{Walker, Answer, Due, move, due_notices, fired_above, placed_frame, own_update, later_of, with_end, looked, seen_told, told_by_state, told_as_of, closes_session, told_response, response_at, reply_step, may_answer_at, after_update}
 use Rattle.zk_least.specs.LeastWalk.{zxid_in, next_reply, rest_after, HasZxids}
 use Rattle.zk_least.specs.LeastMoments.{code_in}

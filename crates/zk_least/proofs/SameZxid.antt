@@ -2,10 +2,11 @@
 use Rattle.std.proofs.Common.{◌≡◌, ◌≢◌, ℕ, zero, suc, ◌+◌, ◌≤◌, ◌<◌, List, [], ◌∷◌, ◌++◌, take, drop, take-take, take-append-drop, refl, sym, ap, ◌∙◌, subst, arith, append_assoc, append-nil, true, ℤ, inl, inr}
 use Rattle.std.specs.Prelude.{Option, Some, None, ◌≤ℤ◌, slice_get}
 use Rattle.std.proofs.lemmas.Int.{ints}
-use Rattle.zk_transcript.specs.declared.transcript.UpdateRec.{UpdateRec}
+use Rattle.zk_service.specs.declared.update.UpdateRec.{UpdateRec}
 use Rattle.zk_transcript.specs.declared.transcript.TranscriptLine.{TranscriptLine}
 use Rattle.zk_transcript.specs.declared.transcript.TranscriptLine.TheVariants.{Update, Open, Frame as FrameLine, Send, Lapse, Close}
-use Rattle.zk_transcript.specs.History.{State, Session, after, change, lapsed_in, session_at, state_at}
+use Rattle.zk_service.specs.States.{State, Session, lapsed_in, session_at}
+use Rattle.zk_transcript.specs.History.{after, change, state_at}
 use Rattle.zk_transcript.specs.Legal.{is_legal}
 use Rattle.zk_transcript.proofs.Appending.{after-push}
 use Rattle.zk_least.proofs.Rising.{IsRaised, not-below, at-line, rising, Rises}

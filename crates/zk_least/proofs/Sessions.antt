@@ -3,9 +3,9 @@ use Rattle.std.proofs.Common.{◌≡◌, ◌≢◌, ℕ, refl, sym, ap, ◌∙�
 use Rattle.std.specs.Prelude.{Option, Some, None, ◌⊎◌, ◌==◌, not, if◌then◌else◌}
 use Rattle.zk_model.specs.declared.reply.Reply.TheVariants as reply
 use Rattle.zk_model.specs.Codes.{session_expired, session_moved}
-use Rattle.zk_transcript.specs.History.{State, Session, session_at, lapsed_in}
-use Rattle.zk_transcript.specs.Answers.{session_refusal}
-use Rattle.zk_transcript.proofs.SessionMaps.{either_id, at-insert_same, at-insert_other}
+use Rattle.zk_service.specs.States.{State, Session, session_at, lapsed_in}
+use Rattle.zk_service.specs.Answers.{session_refusal}
+use Rattle.zk_service.proofs.SessionMaps.{either_id, at-insert_same, at-insert_other}
 
 -- an open session that has lapsed
 pub record IsLapsed (o : Option Session) : Type 0 where

@@ -23,7 +23,7 @@ use Rattle.zk_model.specs.Single.{Outcome, Refused, Done, single, form_refusal, 
 use Rattle.zk_model.specs.Multi.{Parts, Stopped, Passed, several, settled, parts_of}
 use Rattle.zk_model.specs.Watches.{Watches, is_watched, unwatched}
 use Rattle.zk_jute.specs.Requests.{Frame, NoHeader, Unreadable, Unknown, Asks}
-use Rattle.zk_transcript.specs.Answers.{Told, about, listing, refusal_of, checked, refusal_of_several, armed_data, armed_children, tree_reply, plain_request, plain_reply, told_refusal, told_of_path, told_of_watcher, names_watches}
+use Rattle.zk_service.specs.Answers.{Told, about, listing, refusal_of, checked, refusal_of_several, armed_data, armed_children, tree_reply, plain_request, plain_reply, told_refusal, told_of_path, told_of_watcher, names_watches}
 
 -- a code that is no session's, in a short range
 abbrev pub is_fine : ℤ → Bool

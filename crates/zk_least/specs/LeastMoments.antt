@@ -4,7 +4,7 @@ use Rattle.std.specs.Prelude.{◌≡◌, ℕ, ℤ, pos, ◌+◌, ◌<◌, ◌≤
 use Rattle.std.specs.Int.{from_be_bytes, cast_signed, w32}
 use Rattle.std.specs.Ordering.{int_eq}
 use Rattle.zk_model.specs.Codes.{session_expired}
-use Rattle.zk_transcript.specs.declared.transcript.UpdateRec.{UpdateRec}
+use Rattle.zk_service.specs.declared.update.UpdateRec.{UpdateRec}
 use Rattle.zk_transcript.specs.declared.transcript.TranscriptLine.{TranscriptLine}
 use Rattle.zk_transcript.specs.History.{state_at, first_place, when}
 use Rattle.zk_transcript.specs.Legal.{is_legal, lapses_session}

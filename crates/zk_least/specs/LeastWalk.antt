@@ -11,11 +11,11 @@ use Rattle.zk_model.specs.Codes.{no_watcher}
 use Rattle.zk_model.specs.declared.reply.Body.TheVariants as body
 use Rattle.zk_model.specs.declared.reply.Reply.{Reply}
 use Rattle.zk_model.specs.declared.reply.Reply.TheVariants as reply
-use Rattle.zk_transcript.specs.declared.transcript.UpdateRec.{UpdateRec}
+use Rattle.zk_service.specs.declared.update.UpdateRec.{UpdateRec}
 use Rattle.zk_transcript.specs.declared.transcript.TranscriptLine.{TranscriptLine}
 use Rattle.zk_transcript.specs.declared.transcript.TranscriptLine.TheVariants.{Update}
 use Rattle.zk_transcript.specs.Legal.{Attachment, is_legal, attach_of}
-use Rattle.zk_transcript.specs.Answers.{Told, asks_of_watches, plain_reply, xid_of}
+use Rattle.zk_service.specs.Answers.{Told, asks_of_watches, plain_reply, xid_of}
 use Rattle.zk_transcript.specs.Walks.{Walker, Choice, Tell, Plain, Answer, Due, move, placed_frame, at_start, is_fresh, IsFreshWalk}
 use Rattle.zk_transcript.specs.Conversations.{IsInConnection, later_packets, IsLawfulAndFresh}
 

@@ -17,14 +17,15 @@ use Rattle.zk_jute.specs.Records.{contents_of, part_contents}
 use Rattle.zk_jute.specs.Requests.{Frame, NoHeader, Unreadable, Unknown, Asks, read_request}
 use Rattle.zk_jute.proofs.Contents.{contents_within}
 use Rattle.zk_jute.proofs.Lists.{first_of_both, second_of_both}
-use Rattle.zk_transcript.specs.declared.transcript.UpdateKind.{UpdateKind}
-use Rattle.zk_transcript.specs.declared.transcript.UpdateKind.TheVariants as kind
+use Rattle.zk_service.specs.declared.update.UpdateKind.{UpdateKind}
+use Rattle.zk_service.specs.declared.update.UpdateKind.TheVariants as kind
 use Rattle.zk_transcript.specs.declared.transcript.TranscriptLine.{TranscriptLine}
 use Rattle.zk_transcript.specs.declared.transcript.TranscriptLine.TheVariants as line
-use Rattle.zk_transcript.specs.History.{State, after, after_from, asked_commit, asked_in, change, frame, nothing_yet, request, session_of}
+use Rattle.zk_service.specs.States.{State, nothing_yet, session_of}
+use Rattle.zk_transcript.specs.History.{after, after_from, asked_commit, asked_in, change, frame, request}
 use Rattle.zk_transcript.specs.Legal.{is_next_zxid, is_small_frame, is_within_parts, may_update}
 use Rattle.zk_transcript.proofs.Appending.{after-push}
-use Rattle.zk_transcript.proofs.SoundEffects.{IsShort, IsSmallPart}
+use Rattle.zk_service.proofs.SoundEffects.{IsShort, IsSmallPart}
 use Rattle.zk_transcript.proofs.SoundHistories.{legal-sound}
 use Rattle.zk_machine.specs.Faults.{IsWhole}
 use Rattle.zk_machine.proofs.WholeTrees.{empty-whole, parts-within, sound-whole}

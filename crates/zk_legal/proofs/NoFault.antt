@@ -4,7 +4,8 @@ use Rattle.std.proofs.lemmas.Bool.{and_from, cases_Bool}
 use Rattle.std.proofs.lemmas.Grind.{common_steps}
 use Rattle.zk_transcript.specs.declared.transcript.TranscriptLine.{TranscriptLine}
 use Rattle.zk_transcript.specs.declared.transcript.TranscriptLine.TheVariants as line
-use Rattle.zk_transcript.specs.History.{State, change, nothing_yet}
+use Rattle.zk_service.specs.States.{State, nothing_yet}
+use Rattle.zk_transcript.specs.History.{change}
 use Rattle.zk_transcript.specs.Legal.{begins, is_begin, is_in_order, is_legal, is_legal_from, is_legal_line, is_ordered, is_ordered_from}
 use Rattle.zk_legal.specs.Formed.{has_begun}
 use Rattle.zk_legal.specs.Faults.{comes_after_begin, has_event, history_fault, history_fault_from, is_history_line, or_empty, order_fault, order_fault_from}

@@ -7,14 +7,15 @@ use Rattle.std.specs.FinMap.{empty, get-empty}
 use Rattle.std.proofs.lemmas.Bool.{and_parts, cases_Bool}
 use Rattle.zx_base.proofs.Options.{some_none}
 use Rattle.zk_model.specs.Limits.{max_long}
-use Rattle.zk_transcript.specs.declared.transcript.UpdateKind.{UpdateKind}
-use Rattle.zk_transcript.specs.declared.transcript.UpdateKind.TheVariants.{Begin, Session as NewSession, Attach, Asked, Closed, Reaped}
+use Rattle.zk_service.specs.declared.update.UpdateKind.{UpdateKind}
+use Rattle.zk_service.specs.declared.update.UpdateKind.TheVariants.{Begin, Session as NewSession, Attach, Asked, Closed, Reaped}
 use Rattle.zk_transcript.specs.declared.transcript.TranscriptLine.{TranscriptLine}
 use Rattle.zk_transcript.specs.declared.transcript.TranscriptLine.TheVariants.{Update, Open, Frame, Send, Lapse, Close}
-use Rattle.zk_transcript.specs.History.{State, Session, Commit, after, asked_commit, attached_anew, change, committed, connect, lapsed_in, new_session, nothing_yet, open_shown, opening, or_nothing, session_at, state_at, updated}
+use Rattle.zk_service.specs.States.{State, Session, Commit, attached_anew, committed, lapsed_in, new_session, nothing_yet, or_nothing, session_at}
+use Rattle.zk_transcript.specs.History.{after, asked_commit, change, connect, open_shown, opening, state_at, updated}
 use Rattle.zk_transcript.specs.Legal.{asks_anew, is_legal_line, is_next_zxid, may_attach, may_update, offers}
 use Rattle.zk_transcript.proofs.Histories.{begin_line, first_shown-push, is_still, legal-induct}
-use Rattle.zk_transcript.proofs.SessionMaps.{EachSession, each_session-gone, each_session-put}
+use Rattle.zk_service.proofs.SessionMaps.{EachSession, each_session-gone, each_session-put}
 use Rattle.zk_legal.specs.Faults.{IsRunTo, has_event, history_fault, or_empty}
 use Rattle.zk_legal.specs.Passwords.{OfferPasswords}
 use Rattle.zk_legal.proofs.Fitting.{run-front, uneventful}

@@ -27,7 +27,7 @@ use Rattle.zk_model.specs.Znodes.{Tree, num_children}
 use Rattle.zk_model.proofs.SequencePaths.{sequence-valid}
 use Rattle.zk_model.proofs.ValidPaths.{parent-valid, valid-from}
 use Rattle.zk_jute.proofs.Lists.{both_of}
-use Rattle.zk_transcript.specs.History.{Commit, commit, commit_several, commit_single, body_with_stat, commit_with_stat, response_of}
+use Rattle.zk_service.specs.States.{Commit, commit, commit_several, commit_single, body_with_stat, commit_with_stat, response_of}
 use Rattle.zk_transcript.specs.Legal.{is_within_parts}
 use Rattle.zk_machine.proofs.WholeTrees.{parent-made}
 use Rattle.zk_legal.specs.Short.{AreShort, IsShortBody, IsShortResult}

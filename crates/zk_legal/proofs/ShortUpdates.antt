@@ -16,15 +16,16 @@ use Rattle.zk_model.specs.Paths.{is_path}
 use Rattle.zk_model.specs.Single.{removal}
 use Rattle.zk_model.specs.Znodes.{Tree, owned, owned_by}
 use Rattle.zk_jute.proofs.Lists.{both_of}
-use Rattle.zk_transcript.specs.declared.transcript.UpdateRec.{UpdateRec}
-use Rattle.zk_transcript.specs.declared.transcript.UpdateKind.{UpdateKind}
-use Rattle.zk_transcript.specs.declared.transcript.UpdateKind.TheVariants.{Begin, Session as NewSession, Attach, Asked, Closed, Reaped}
+use Rattle.zk_service.specs.declared.update.UpdateRec.{UpdateRec}
+use Rattle.zk_service.specs.declared.update.UpdateKind.{UpdateKind}
+use Rattle.zk_service.specs.declared.update.UpdateKind.TheVariants.{Begin, Session as NewSession, Attach, Asked, Closed, Reaped}
 use Rattle.zk_transcript.specs.declared.transcript.TranscriptLine.{TranscriptLine}
 use Rattle.zk_transcript.specs.declared.transcript.TranscriptLine.TheVariants.{Update, Open, Frame as FrameLine, Send, Lapse, Close}
-use Rattle.zk_transcript.specs.History.{Session, State, Commit, after, asked_commit, attached_session, commit, committed, first_shown, frame, limit_of, nothing_yet, request, session_ended, state_at, update_in, updated}
+use Rattle.zk_service.specs.States.{Session, State, Commit, attached_session, commit, committed, limit_of, nothing_yet, session_ended}
+use Rattle.zk_transcript.specs.History.{after, asked_commit, first_shown, frame, request, state_at, update_in, updated}
 use Rattle.zk_transcript.specs.Legal.{begins, is_legal, is_live, is_next_zxid, is_small_frame, is_within_parts, may_update}
 use Rattle.zk_transcript.proofs.Appending.{after-push}
-use Rattle.zk_transcript.proofs.Owned.{get-owned_as, if_owned}
+use Rattle.zk_service.proofs.Owned.{get-owned_as, if_owned}
 use Rattle.zk_transcript.proofs.Prefixes.{is_legal-begins}
 use Rattle.zk_transcript.proofs.SoundHistories.{legal-bounded}
 use Rattle.zk_legal.specs.Faults.{IsRunTo, has_event, history_fault, is_history_line, or_empty}

@@ -3,7 +3,8 @@ use Rattle.std.proofs.Common.{◌≡◌, ℕ, ◌+◌, ◌<◌, true, false, Lis
 use Rattle.std.specs.Prelude.{Some, if◌then◌else◌}
 use Rattle.std.proofs.lemmas.List.{drop_more, take_more}
 use Rattle.zk_transcript.specs.declared.transcript.TranscriptLine.{TranscriptLine}
-use Rattle.zk_transcript.specs.History.{State, change}
+use Rattle.zk_service.specs.States.{State}
+use Rattle.zk_transcript.specs.History.{change}
 use Rattle.zk_transcript.specs.Legal.{is_in_order}
 use Rattle.zk_legal.specs.Faults.{history_fault_from, is_history_line, order_fault, order_fault_from}
 

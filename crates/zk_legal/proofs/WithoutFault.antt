@@ -7,11 +7,12 @@ use Rattle.std.proofs.lemmas.Bool.{and_parts}
 use Rattle.std.proofs.lemmas.Bool.Decides.{nat_tests}
 use Rattle.std.proofs.lemmas.Int.{ints}
 use Rattle.std.proofs.lemmas.Grind.{common_steps}
-use Rattle.zk_transcript.specs.declared.transcript.UpdateRec.{UpdateRec}
+use Rattle.zk_service.specs.declared.update.UpdateRec.{UpdateRec}
 use Rattle.zk_transcript.specs.declared.transcript.TranscriptLine.{TranscriptLine}
 use Rattle.zk_transcript.specs.declared.transcript.TranscriptLine.TheVariants as line
 use Rattle.zk_transcript.specs.Conversations.{IsShownFresh, IsSilentUnopened}
-use Rattle.zk_transcript.specs.History.{State, after, change, nothing_yet, opening, open_shown}
+use Rattle.zk_service.specs.States.{State, nothing_yet}
+use Rattle.zk_transcript.specs.History.{after, change, opening, open_shown}
 use Rattle.zk_transcript.specs.Walks.{Due, packets_from}
 use Rattle.zk_transcript.proofs.Appending.{after-push}
 use Rattle.zk_transcript.proofs.Histories.{first_shown-push}

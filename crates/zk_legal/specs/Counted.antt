@@ -1,13 +1,13 @@
 -- What the tables of the program hold.
 use Rattle.std.specs.Prelude.{◌≡◌, ℕ, Bool, true, false, max, List, Option, Some, None}
 use Rattle.std.specs.List.{list_all}
-use Rattle.zk_transcript.specs.declared.transcript.UpdateKind.{UpdateKind}
-use Rattle.zk_transcript.specs.declared.transcript.UpdateKind.TheVariants.{Asked, Closed}
+use Rattle.zk_service.specs.declared.update.UpdateKind.{UpdateKind}
+use Rattle.zk_service.specs.declared.update.UpdateKind.TheVariants.{Asked, Closed}
 use Rattle.std.specs.BTreeMap as tree
 use Rattle.std.specs.Ordering.{nat_cmp}
 use Rattle.zk_transcript.specs.declared.transcript.TranscriptLine.{TranscriptLine}
 use Rattle.zk_transcript.specs.declared.transcript.TranscriptLine.TheVariants.{Frame, Update}
-use Rattle.zk_transcript.specs.History.{or_nothing}
+use Rattle.zk_service.specs.States.{or_nothing}
 use Rattle.zk_transcript.specs.Legal.{index_shown, is_below_place}
 use Rattle.zk_legal.specs.Formed.{frames_of}
 use Rattle.zk_legal.specs.declared.counts.Counts.{Counts}

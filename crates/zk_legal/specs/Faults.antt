@@ -2,11 +2,12 @@
 -- connection's requests.
 use Rattle.std.specs.Prelude.{◌≡◌, ℕ, ◌+◌, Bool, true, false, ◌&&◌, ◌||◌, List, [], ◌∷◌, ◌++◌, length, nat_le, int_le, pos, Option, Some, None, if◌then◌else◌}
 use Rattle.zk_model.specs.Limits.{max_time}
-use Rattle.zk_transcript.specs.declared.transcript.UpdateKind.{UpdateKind}
-use Rattle.zk_transcript.specs.declared.transcript.UpdateKind.TheVariants.{Begin, Asked}
+use Rattle.zk_service.specs.declared.update.UpdateKind.{UpdateKind}
+use Rattle.zk_service.specs.declared.update.UpdateKind.TheVariants.{Begin, Asked}
 use Rattle.zk_transcript.specs.declared.transcript.TranscriptLine.{TranscriptLine}
 use Rattle.zk_transcript.specs.declared.transcript.TranscriptLine.TheVariants as line
-use Rattle.zk_transcript.specs.History.{State, after, nothing_yet, change}
+use Rattle.zk_service.specs.States.{State, nothing_yet}
+use Rattle.zk_transcript.specs.History.{after, change}
 use Rattle.zk_transcript.specs.Legal.{is_begin, is_legal_line, is_in_order}
 use Rattle.zk_legal.specs.Formed.{has_begun, is_formed_line}
 

@@ -1,11 +1,12 @@
 -- Formed lines: each stands where a run of the service can have written it, whatever the tree.
 use Rattle.std.specs.Prelude.{ℕ, ◌+◌, Bool, true, false, not, ◌&&◌, List, [], ◌∷◌, length, nat_le, ◌==◌, is_some, if◌then◌else◌}
 use Rattle.std.specs.Ordering.{int_eq}
-use Rattle.zk_transcript.specs.declared.transcript.UpdateKind.{UpdateKind}
-use Rattle.zk_transcript.specs.declared.transcript.UpdateKind.TheVariants.{Session as NewSession, Attach, Asked, Closed}
+use Rattle.zk_service.specs.declared.update.UpdateKind.{UpdateKind}
+use Rattle.zk_service.specs.declared.update.UpdateKind.TheVariants.{Session as NewSession, Attach, Asked, Closed}
 use Rattle.zk_transcript.specs.declared.transcript.TranscriptLine.{TranscriptLine}
 use Rattle.zk_transcript.specs.declared.transcript.TranscriptLine.TheVariants as line
-use Rattle.zk_transcript.specs.History.{State, opening, first_shown}
+use Rattle.zk_service.specs.States.{State}
+use Rattle.zk_transcript.specs.History.{opening, first_shown}
 use Rattle.zk_transcript.specs.Conversations.{close_shown}
 use Rattle.zk_model.specs.Limits.{max_frame}
 

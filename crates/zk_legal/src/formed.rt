@@ -8,7 +8,8 @@ ghost use Rattle.zk_legal.specs.Formed.{has_begun as has_begun_of, is_closed as 
 use crate::counts::Counts;
 use zk_history::{Past, State};
 use zk_model::limit::MAX_FRAME;
-use zk_transcript::{TranscriptLine, UpdateKind};
+use zk_service::UpdateKind;
+use zk_transcript::TranscriptLine;
 
 #[tactic(auto, unfolding(crate::specs::Formed::is_opened))]
 fn is_opened(before: &Past, connection: u32) -> bool

@@ -2,7 +2,8 @@
 
 ghost use Rattle.std.specs.Prelude.{◌≡◌, [], IfOk};
 ghost use Rattle.zk_history.specs.Fits.{Fits, IsCountable};
-ghost use Rattle.zk_transcript.specs.History.{change as change_of, nothing_yet};
+ghost use Rattle.zk_transcript.specs.History.{change as change_of};
+ghost use Rattle.zk_service.specs.States.{nothing_yet};
 ghost use Rattle.zk_transcript.specs.Legal.{is_begin as is_begin_of};
 ghost use Rattle.zk_history.specs.Pasts.{lines_of};
 ghost use Rattle.zk_legal.specs.Counted.{AreCounts};
@@ -14,7 +15,8 @@ use crate::legal::is_legal_line;
 use std::alloc::Global;
 use zk_history::{Fault, Past, State, change};
 use zk_model::limit::MAX_TIME;
-use zk_transcript::{TranscriptLine, UpdateKind};
+use zk_service::UpdateKind;
+use zk_transcript::TranscriptLine;
 use zx_base::Memory;
 
 fn is_timely(kind: UpdateKind) -> bool

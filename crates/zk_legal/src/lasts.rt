@@ -6,7 +6,8 @@ ghost use Rattle.zk_legal.specs.Counted.{AreLasts, last_in, later, carried as ca
 
 use std::alloc::Global;
 use std::collections::BTreeMap;
-use zk_transcript::{TranscriptLine, UpdateKind};
+use zk_service::UpdateKind;
+use zk_transcript::TranscriptLine;
 use zx_base::Memory;
 
 /// The greatest index of a request that was carried out for each connection.

@@ -1,10 +1,11 @@
 //! What holds of every transcript without a fault.
 
 ghost use Rattle.std.specs.Prelude.{◌≡◌, ◌+◌, ◌≤ℤ◌, true, ℕ, ℤ, pos, List, Some, None, length, slice_get, take};
-ghost use Rattle.zk_transcript.specs.declared.transcript.UpdateRec.{UpdateRec};
+ghost use Rattle.zk_service.specs.declared.update.UpdateRec.{UpdateRec};
 ghost use Rattle.zk_transcript.specs.declared.transcript.TranscriptLine.TheVariants.{Update};
-ghost use Rattle.zk_transcript.specs.declared.transcript.UpdateKind.TheVariants.{Asked};
-ghost use Rattle.zk_transcript.specs.History.{Commit, Session, asked_commit, session_at, state_at};
+ghost use Rattle.zk_service.specs.declared.update.UpdateKind.TheVariants.{Asked};
+ghost use Rattle.zk_service.specs.States.{Commit, Session, session_at};
+ghost use Rattle.zk_transcript.specs.History.{asked_commit, state_at};
 ghost use Rattle.zk_transcript.specs.Conversations.{IsShownFresh, IsSilentUnopened};
 ghost use Rattle.zk_transcript.specs.declared.transcript.TranscriptLine.{TranscriptLine};
 ghost use Rattle.zk_transcript.specs.Legal.{is_legal, is_ordered};

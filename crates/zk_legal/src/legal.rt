@@ -2,9 +2,10 @@
 
 ghost use Rattle.std.specs.Prelude.{◌≡◌, ◌≤◌, ◌&&◌, true, is_none, is_some, IfOk};
 ghost use Rattle.zk_model.specs.Limits.{max_time};
-ghost use Rattle.zk_transcript.specs.History.{asked_commit as asked_commit_of, attached_session, frame as frame_of, opening as opening_of, request as request_of, session_at, session_of};
+ghost use Rattle.zk_transcript.specs.History.{asked_commit as asked_commit_of, frame as frame_of, opening as opening_of, request as request_of};
+ghost use Rattle.zk_service.specs.States.{attached_session, session_at, session_of};
 ghost use Rattle.zk_transcript.specs.Legal.{asks_anew as asks_anew_of, is_close as is_close_of, is_id as is_id_of, is_lapsed as is_lapsed_of, is_legal_line as is_legal_line_of, is_live as is_live_of, is_live_as as is_live_as_of, is_next_zxid as is_next_zxid_of, is_resumed_by as is_resumed_by_of, is_small_frame as is_small_frame_of, is_within_parts as is_within_parts_of, may_attach as may_attach_of, may_update as may_update_of, offers as offers_of};
-ghost use Rattle.zk_transcript.specs.declared.transcript.UpdateKind.TheVariants as kind;
+ghost use Rattle.zk_service.specs.declared.update.UpdateKind.TheVariants as kind;
 ghost use Rattle.zk_history.specs.Fits.{AskedFits, IsTime};
 ghost use Rattle.zk_history.specs.Pasts.{lines_of};
 ghost use Rattle.zk_legal.specs.Faults.{IsRunTo, is_in_range, is_timely};
@@ -13,7 +14,8 @@ use std::alloc::Global;
 use zk_history::{Fault, Past, State, planned_commit};
 use zk_model::limit::{MAX_FRAME, MAX_PARTS};
 use zk_model::{ConnectRequest, Request};
-use zk_transcript::{TranscriptLine, UpdateKind};
+use zk_service::UpdateKind;
+use zk_transcript::TranscriptLine;
 use zx_base::Memory;
 
 /// Whether a frame is there, and is no longer than a frame may be.

@@ -7,12 +7,11 @@ use Rattle.zx_base.proofs.MapLaws.{either, same-refl, same-false, get-retain, ge
 use Rattle.zk_model.specs.declared.node.Node.{Node}
 use Rattle.zk_model.specs.Paths.{is_child}
 use Rattle.zk_model.specs.Znodes.{Tree, below, num_children, owned, owned_by, is_owner}
-use Rattle.zk_transcript.proofs.Owned.{get-owned_as, num_owned}
+use Rattle.zk_service.proofs.Owned.{get-owned_as, num_owned, owned_by-gone}
 use Rattle.zk_machine.specs.declared.write.Write.{Write}
 use Rattle.zk_machine.specs.Tallies.{tallied, tallied_all, was_child, is_child_now, is_own, was_owned, is_owned_now, found_after}
 use Rattle.zk_machine.specs.Writes.{put_or_taken, written, written_all, owner_at, AreTold}
 use Rattle.zk_machine.proofs.GroupLaws.{owned_by-put, owned_by-put_out, none_below}
-use Rattle.zk_transcript.proofs.Owned.{owned_by-gone}
 
 -- ---- one write more
 

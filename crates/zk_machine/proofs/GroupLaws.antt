@@ -17,11 +17,10 @@ use Rattle.zk_model.specs.declared.node.Node.{Node}
 use Rattle.zk_model.specs.Paths.{parent, is_child, is_at_path}
 use Rattle.zk_model.specs.Znodes.{Tree, below, children, num_children, owned, owned_by, is_owner}
 use Rattle.zk_model.proofs.Paths.{is_child-yes, is_child-no}
-use Rattle.zk_transcript.proofs.Owned.{get-owned, get-owned_as}
+use Rattle.zk_service.proofs.Owned.{get-owned, get-owned_as, owned_by-gone}
 use Rattle.zk_machine.specs.Entries.{order, Entries, map_of}
 use Rattle.zk_machine.specs.Groups.{Group, Families, Owners, family, group_of, owned_group, HasFamilies, HasOwners, HasFamily, HasOwner}
 use Rattle.zk_machine.proofs.EntryLaws.{entries-empty, entries-map, others, remove-map, sorted-where}
-use Rattle.zk_transcript.proofs.Owned.{owned_by-gone}
 
 -- ---- keys after a change
 

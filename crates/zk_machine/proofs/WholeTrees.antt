@@ -20,10 +20,10 @@ use Rattle.zk_model.specs.Single.{Outcome, Refused, Done, with_child, without_ch
 use Rattle.zk_model.specs.Znodes.{Tree, num_children, owned, new_node}
 use Rattle.zk_model.proofs.Paths.{apart_from_parent, is_child-no}
 use Rattle.zk_model.proofs.SequenceParents.{parent-sequence}
-use Rattle.zk_transcript.specs.History.{Sessions, IsSoundTree}
-use Rattle.zk_transcript.proofs.Children.{no_children, none-from_count, not_root, num_children-change, num_children-gone, num_children-new, num_children-new_other, some_or_none}
-use Rattle.zk_transcript.proofs.SoundEffects.{Leads}
-use Rattle.zk_transcript.proofs.SoundTrees.{each-put, same_node, still_there}
+use Rattle.zk_service.specs.States.{Sessions, IsSoundTree}
+use Rattle.zk_service.proofs.Children.{no_children, none-from_count, not_root, num_children-change, num_children-gone, num_children-new, num_children-new_other, some_or_none}
+use Rattle.zk_service.proofs.SoundEffects.{Leads}
+use Rattle.zk_service.proofs.SoundTrees.{each-put, same_node, still_there}
 use Rattle.zk_machine.specs.Faults.{After, IsClosed, IsCounted, IsWhole, IsWithin, StaysWithin}
 
 -- ---- trees that are whole

@@ -6,7 +6,7 @@ ghost use Rattle.zk_model.specs.declared.request.Part.{Part};
 ghost use Rattle.zk_model.specs.Limits.{max_frame};
 ghost use Rattle.zk_model.specs.Multi.{data_len};
 ghost use Rattle.zk_model.specs.Znodes.{Tree};
-ghost use Rattle.zk_transcript.specs.History.{State, IsSound};
+ghost use Rattle.zk_service.specs.States.{State, IsSound};
 ghost use Rattle.zk_machine.specs.Faults.{IsWhole, IsWithin, StaysWithin};
 
 /// The numbers of a sound state's tree are within their fields.

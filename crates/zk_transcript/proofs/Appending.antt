@@ -5,7 +5,8 @@ use Rattle.std.proofs.lemmas.Bool.{and_parts}
 use Rattle.std.proofs.Math.Bool.{and-true, and_assoc}
 use Rattle.zk_transcript.specs.declared.transcript.TranscriptLine.{TranscriptLine}
 use Rattle.zk_transcript.specs.declared.transcript.TranscriptLine.TheVariants.{Update, Open, Frame, Send, Lapse, Close}
-use Rattle.zk_transcript.specs.History.{State, after, after_from, change, nothing_yet, first_place}
+use Rattle.zk_service.specs.States.{State, nothing_yet}
+use Rattle.zk_transcript.specs.History.{after, after_from, change, first_place}
 use Rattle.zk_transcript.specs.Legal.{begins, is_legal, is_legal_from, is_legal_line, is_ordered, is_ordered_from, is_in_order}
 
 after_from-push : (before : List TranscriptLine) (s : State) (ls : List TranscriptLine) (l : TranscriptLine)

@@ -10,16 +10,17 @@ use Rattle.std.specs.FinMap.{insert, entries, get-entries, find, get-empty}
 use Rattle.zx_base.proofs.Options.{none_some}
 use Rattle.zk_model.specs.declared.connect.ConnectRequest.{ConnectRequest}
 use Rattle.zk_model.specs.Limits.{max_long}
-use Rattle.zk_transcript.specs.declared.transcript.UpdateKind.{UpdateKind}
-use Rattle.zk_transcript.specs.declared.transcript.UpdateKind.TheVariants.{Begin, Session as NewSession, Attach, Asked, Closed, Reaped}
+use Rattle.zk_service.specs.declared.update.UpdateKind.{UpdateKind}
+use Rattle.zk_service.specs.declared.update.UpdateKind.TheVariants.{Begin, Session as NewSession, Attach, Asked, Closed, Reaped}
 use Rattle.zk_transcript.specs.declared.transcript.TranscriptLine.{TranscriptLine}
 use Rattle.zk_transcript.specs.declared.transcript.TranscriptLine.TheVariants.{Update, Open, Frame as FrameLine, Send, Lapse, Close}
-use Rattle.zk_transcript.specs.History.{State, Session, Sessions, Commit, when, nothing_yet, session_at, is_attached_to, attached_in, attached_session, frame, opening, connect, asked_commit, committed, new_session, attached_anew, session_ended, lapsed_in, updated, change, after}
+use Rattle.zk_service.specs.States.{State, Session, Sessions, Commit, nothing_yet, session_at, is_attached_to, attached_in, attached_session, committed, new_session, attached_anew, session_ended, lapsed_in}
+use Rattle.zk_transcript.specs.History.{when, frame, opening, connect, asked_commit, updated, change, after}
 use Rattle.zk_transcript.specs.Legal.{Attachment, changes_session, lapses_session, attach_of, attach_shown, may_attach, is_small_frame, is_resumed_by, may_update, is_next_zxid, is_legal, is_legal_line}
 use Rattle.zk_transcript.proofs.Appending.{first_place-push}
 use Rattle.zk_transcript.proofs.Lookups.{first_place-skip, first_place-new, Within, front, back, within, slice_get-front, slice_get-back}
 use Rattle.zk_transcript.proofs.Histories.{above-next, not-begin, is_still, begin_line, first_place-still, legal-induct}
-use Rattle.zk_transcript.proofs.SessionMaps.{EachSession, each_session-put_apart, still_open, attached_session-open}
+use Rattle.zk_service.proofs.SessionMaps.{EachSession, each_session-put_apart, still_open, attached_session-open}
 
 -- ---- the session that is attached to a connection
 

@@ -7,6 +7,16 @@ use Rattle.zk_transcript.specs.declared.transcript.TranscriptLine.{TranscriptLin
 use Rattle.zk_transcript.specs.declared.transcript.TranscriptLine.TheVariants.{Open, Lapse}
 use Rattle.zk_transcript.specs.Legal.{is_legal, may_update}
 use Rattle.zk_transcript.proofs.Histories.{begin_line}
+use Rattle.zk_transcript.specs.History.{updated, after, begin_lines}
+use Rattle.zk_service.specs.States.{first_state}
+
+-- ---- the state after the first update
+
+pub after-begin : (now : ℕ) → after (begin_lines now) ≡ first_state now
+unfolding after updated
+after-begin now = refl
+
+-- ---- where Begin may stand
 
 pub begin-after : (c proxy : ℕ) (id : ℤ) (passwd : List ℕ) (z : ℤ) (now : ℕ) → z ≤ℤ max_long → is_legal (Open c proxy id passwd ∷ begin_line z now ∷ []) ≡ true
 unfolding is_legal may_update

@@ -8,10 +8,11 @@ use Rattle.std.proofs.lemmas.Int.{ints}
 use Rattle.std.proofs.Common.{arith}
 use Rattle.std.proofs.lemmas.Slice.Eq.{bytes_eq-Decides}
 use Rattle.zk_model.specs.declared.connect.ConnectRequest.{ConnectRequest}
-use Rattle.zk_transcript.specs.declared.transcript.UpdateKind.TheVariants.{Session as NewSession, Attach, Reaped}
+use Rattle.zk_service.specs.declared.update.UpdateKind.TheVariants.{Session as NewSession, Attach, Reaped}
 use Rattle.zk_transcript.specs.declared.transcript.TranscriptLine.{TranscriptLine}
 use Rattle.zk_transcript.specs.declared.transcript.TranscriptLine.TheVariants.{Update}
-use Rattle.zk_transcript.specs.History.{Session, session_at, opening, connect, frame, state_at}
+use Rattle.zk_service.specs.States.{Session, session_at}
+use Rattle.zk_transcript.specs.History.{opening, connect, frame, state_at}
 use Rattle.zk_transcript.specs.Legal.{attach_of, asks_anew, is_id, is_legal, is_lapsed, is_next_zxid, is_resumed_by, is_small_frame, may_attach, may_update, offers}
 use Rattle.zk_transcript.proofs.Placed.{is_legal-at}
 

@@ -6,11 +6,12 @@ use Rattle.std.proofs.lemmas.Bool.{and_parts}
 use Rattle.std.proofs.lemmas.Bool.Decides.{nat_tests}
 use Rattle.std.proofs.lemmas.Int.{ints}
 use Rattle.zk_model.specs.Limits.{max_long}
-use Rattle.zk_transcript.specs.declared.transcript.UpdateKind.{UpdateKind}
-use Rattle.zk_transcript.specs.declared.transcript.UpdateKind.TheVariants.{Begin, Session as NewSession, Attach, Asked, Closed, Reaped}
+use Rattle.zk_service.specs.declared.update.UpdateKind.{UpdateKind}
+use Rattle.zk_service.specs.declared.update.UpdateKind.TheVariants.{Begin, Session as NewSession, Attach, Asked, Closed, Reaped}
 use Rattle.zk_transcript.specs.declared.transcript.TranscriptLine.{TranscriptLine}
 use Rattle.zk_transcript.specs.declared.transcript.TranscriptLine.TheVariants.{Update, Open, Frame as FrameLine, Send, Lapse, Close}
-use Rattle.zk_transcript.specs.History.{State, Session, Commit, nothing_yet, session_at, asked_commit, committed, lapsed_in, updated, change, after, after_from, first_place, first_shown, update_in}
+use Rattle.zk_service.specs.States.{State, Session, Commit, nothing_yet, session_at, committed, lapsed_in}
+use Rattle.zk_transcript.specs.History.{asked_commit, updated, change, after, after_from, first_place, first_shown, update_in}
 use Rattle.zk_transcript.specs.Legal.{may_update, is_next_zxid, is_legal, is_legal_from, is_legal_line, begins}
 use Rattle.zk_transcript.proofs.Lookups.{first_shown-new}
 

@@ -1,12 +1,12 @@
 -- Walks over more lines, and one choice longer.
 use Rattle.std.proofs.Common.{◌≡◌, ℕ, ◌+◌, ◌≤◌, ◌<◌, List, [], ◌∷◌, ◌++◌, take, refl, sym, ap, subst, arith, Bool, true, false, ℤ}
 use Rattle.std.specs.Prelude.{Option, Some, None, ◌&&◌, if◌then◌else◌}
-use Rattle.zk_transcript.specs.declared.transcript.UpdateRec.{UpdateRec}
+use Rattle.zk_service.specs.declared.update.UpdateRec.{UpdateRec}
 use Rattle.zk_transcript.specs.declared.transcript.TranscriptLine.{TranscriptLine}
 use Rattle.zk_jute.specs.Requests.{read_request}
 use Rattle.zk_model.specs.Watches.{is_unarmed}
-use Rattle.zk_transcript.specs.Answers.{Told, plain_reply, xid_of}
-use Rattle.zk_transcript.specs.Walks.{own_update, own_update_shown, Walker, Choice, Tell, Plain, Answer, Due, move, walk, told_update, next_update, placed_frame, plain_answer, later_of, answer_plainly, reply_step, reply_step_if, may_answer_at, has_header, answer_as_of, fired_above, then_due, next_index}
+use Rattle.zk_service.specs.Answers.{Told, plain_reply, xid_of, has_header}
+use Rattle.zk_transcript.specs.Walks.{own_update, own_update_shown, Walker, Choice, Tell, Plain, Answer, Due, move, walk, told_update, next_update, placed_frame, plain_answer, later_of, answer_plainly, reply_step, reply_step_if, may_answer_at, answer_as_of, fired_above, then_due, next_index}
 use Rattle.zk_transcript.proofs.Lookups.{first_place-skip}
 use Rattle.zk_transcript.proofs.Walks.{move-push, entry-push, plain-push, unless-push}
 

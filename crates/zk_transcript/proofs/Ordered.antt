@@ -4,12 +4,13 @@ use Rattle.std.specs.Prelude.{slice_get, ◌==◌}
 use Rattle.std.specs.List.{list_all}
 use Rattle.std.proofs.lemmas.Bool.{and_parts}
 use Rattle.std.proofs.lemmas.Bool.Decides.{nat_tests}
-use Rattle.zk_transcript.specs.declared.transcript.UpdateKind.{UpdateKind}
-use Rattle.zk_transcript.specs.declared.transcript.UpdateKind.TheVariants.{Begin, Session as NewSession, Attach, Asked, Closed, Reaped}
+use Rattle.zk_service.specs.declared.update.UpdateKind.{UpdateKind}
+use Rattle.zk_service.specs.declared.update.UpdateKind.TheVariants.{Begin, Session as NewSession, Attach, Asked, Closed, Reaped}
 use Rattle.zk_transcript.specs.declared.transcript.TranscriptLine.{TranscriptLine}
 use Rattle.zk_transcript.specs.declared.transcript.TranscriptLine.TheVariants.{Update, Open, Frame as FrameLine, Send, Lapse, Close}
 use Rattle.zk_transcript.specs.History.{when}
 use Rattle.zk_transcript.specs.Legal.{index_in, index_shown, is_below_place, follows, carrier, is_in_order, is_ordered, is_ordered_from}
+use Rattle.zx_base.proofs.Lists.{slice_get-take}
 
 in_order-at : (before ls : List TranscriptLine) (k : ℕ) (l : TranscriptLine) → is_ordered_from before ls ≡ true → slice_get ls k ≡ Some l → is_in_order (before ++ take k ls) l ≡ true
 in_order-at before [] k l h g = absurd (cc)
@@ -24,12 +25,6 @@ in_order-at before (x ∷ ls) (suc k) l h g =
 pub ordered-at : (lines : List TranscriptLine) (k : ℕ) (l : TranscriptLine) → is_ordered lines ≡ true → slice_get lines k ≡ Some l → is_in_order (take k lines) l ≡ true
 unfolding is_ordered
 ordered-at lines k l h g = in_order-at [] lines k l h g
-
-pub slice_get-take : {A : Type 0} (xs : List A) (k j : ℕ) → j < k → slice_get (take k xs) j ≡ slice_get xs j
-slice_get-take xs zero j h = absurd (omega arith)
-slice_get-take [] (suc k) j h = refl
-slice_get-take (x ∷ xs) (suc k) zero h = refl
-slice_get-take (x ∷ xs) (suc k) (suc j) h = slice_get-take xs k j (omega arith)
 
 pub all-at : {A : Type 0} (p : A → Bool) (xs : List A) (j : ℕ) (x : A) → list_all p xs ≡ true → slice_get xs j ≡ Some x → p x ≡ true
 all-at p [] j x h g = absurd (cc)

@@ -5,8 +5,9 @@ use Rattle.std.proofs.lemmas.Bool.{and_parts}
 use Rattle.std.proofs.lemmas.List.{take-append-drop}
 use Rattle.zk_transcript.specs.declared.transcript.TranscriptLine.{TranscriptLine}
 use Rattle.zk_transcript.specs.declared.transcript.TranscriptLine.TheVariants.{Update}
-use Rattle.zk_transcript.specs.declared.transcript.UpdateKind.TheVariants.{Asked}
-use Rattle.zk_transcript.specs.History.{State, after, after_from, change, nothing_yet, state_at, first_place, first_shown, frame_shown, frame, request, asked_commit}
+use Rattle.zk_service.specs.declared.update.UpdateKind.TheVariants.{Asked}
+use Rattle.zk_service.specs.States.{State, nothing_yet}
+use Rattle.zk_transcript.specs.History.{after, after_from, change, state_at, first_place, first_shown, frame_shown, frame, request, asked_commit}
 use Rattle.zk_transcript.specs.Legal.{begins, is_legal, is_legal_from, is_legal_line, is_small_frame, may_update, is_within_parts}
 use Rattle.zk_transcript.proofs.Appending.{first_place-push}
 

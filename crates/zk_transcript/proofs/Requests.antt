@@ -3,13 +3,14 @@
 use Rattle.std.proofs.Common.{◌≡◌, ℕ, suc, ◌+◌, ◌<◌, List, [], ◌∷◌, take, drop, Option, Some, None, refl, sym, ap, ◌∙◌, subst, arith, true, false, ℤ}
 use Rattle.std.specs.Prelude.{slice_get}
 use Rattle.std.proofs.lemmas.List.{take-append-drop}
-use Rattle.zk_transcript.specs.declared.transcript.UpdateRec.{UpdateRec}
+use Rattle.zk_service.specs.declared.update.UpdateRec.{UpdateRec}
 use Rattle.zk_transcript.specs.declared.transcript.TranscriptLine.{TranscriptLine}
 use Rattle.zk_transcript.specs.declared.transcript.TranscriptLine.TheVariants.{Update, Open, Frame as FrameLine, Send, Lapse, Close}
-use Rattle.zk_transcript.specs.History.{Session, first_place, state_at, attached_session}
+use Rattle.zk_service.specs.States.{Session, attached_session}
+use Rattle.zk_transcript.specs.History.{first_place, state_at}
 use Rattle.zk_transcript.specs.Legal.{Attachment, attach_of, attach_shown, is_legal, changes_session, lapses_session}
 use Rattle.zk_transcript.proofs.Attachments.{attach_of-push, attached-by_own_line, attached-unmoved, attached-alive}
-use Rattle.zk_transcript.proofs.Ordered.{slice_get-take}
+use Rattle.zx_base.proofs.Lists.{slice_get-take}
 use Rattle.zk_transcript.proofs.Prefixes.{begins-take, is_legal-take, is_legal-begins}
 
 updates_by : (c : ℕ) (a : Attachment) (l : TranscriptLine) → attach_shown c l ≡ Some a → (u : UpdateRec) × (l ≡ Update u)

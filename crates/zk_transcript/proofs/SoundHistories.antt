@@ -20,9 +20,9 @@ use Rattle.zk_model.specs.declared.node.Trigger.{Trigger}
 use Rattle.zk_model.specs.declared.request.Request.{Request}
 use Rattle.zk_model.specs.declared.request.Request.TheVariants as req
 use Rattle.zk_model.specs.declared.request.Part.TheVariants as part
-use Rattle.zk_transcript.specs.declared.transcript.UpdateRec.{UpdateRec}
-use Rattle.zk_transcript.specs.declared.transcript.UpdateKind.{UpdateKind}
-use Rattle.zk_transcript.specs.declared.transcript.UpdateKind.TheVariants.{Begin, Session as NewSession, Attach, Asked, Closed, Reaped}
+use Rattle.zk_service.specs.declared.update.UpdateRec.{UpdateRec}
+use Rattle.zk_service.specs.declared.update.UpdateKind.{UpdateKind}
+use Rattle.zk_service.specs.declared.update.UpdateKind.TheVariants.{Begin, Session as NewSession, Attach, Asked, Closed, Reaped}
 use Rattle.zk_transcript.specs.declared.transcript.TranscriptLine.{TranscriptLine}
 use Rattle.zk_transcript.specs.declared.transcript.TranscriptLine.TheVariants.{Update, Open, Frame as FrameLine, Send, Lapse, Close}
 use Rattle.zk_model.specs.Paths.{root, is_child, is_at_path}
@@ -31,17 +31,18 @@ use Rattle.zk_jute.specs.Requests.{Frame, NoHeader, Unreadable, Unknown, Asks, r
 use Rattle.zk_model.specs.Znodes.{Tree, num_children, owned, new_node, root_alone}
 use Rattle.zk_model.specs.Single.{Outcome, Refused, Done}
 use Rattle.zk_model.specs.Multi.{Several, Denied, Codes, All as AllDone}
-use Rattle.zk_transcript.specs.History.{State, Session, Sessions, Commit, IsSoundTree, IsSound, IsPast, IsBoundedNode, IsBoundedSession, IsBounded, IsCounted, HasParent, limit_of, session_at, attached_session, frame, request, asked_in, commit, commit_single, commit_with_stat, commit_several, asked_commit, committed, advanced, new_session, opening, connect, with_session, attached_anew, session_ended, removed_all, updated, lapsed_in, change, after, nothing_yet, first_shown, update_in, granted_timeout, or_nothing}
+use Rattle.zk_service.specs.States.{State, Session, Sessions, Commit, IsSoundTree, IsSound, IsPast, IsBoundedNode, IsBoundedSession, IsBounded, IsCounted, HasParent, limit_of, session_at, attached_session, commit, commit_single, commit_with_stat, commit_several, committed, advanced, new_session, with_session, attached_anew, session_ended, removed_all, lapsed_in, nothing_yet, granted_timeout, or_nothing}
+use Rattle.zk_transcript.specs.History.{frame, request, asked_in, asked_commit, opening, connect, updated, change, after, first_shown, update_in}
 use Rattle.zk_transcript.specs.Legal.{may_update, is_id, is_next_zxid, is_legal_line, is_legal, is_small_frame, is_within_parts, is_live_as, is_close, is_lapsed, offers, asks_anew, may_attach}
 use Rattle.zk_model.proofs.Paths.{parent-root}
 use Rattle.zk_model.proofs.ValidPaths.{root-valid}
 use Rattle.zk_jute.proofs.Contents.{contents_within}
 use Rattle.zk_transcript.proofs.Histories.{above-next, long-next, not-begin, is_still, begin_line, legal-induct, first_shown-push, first_update-begins}
-use Rattle.zk_transcript.proofs.Children.{no_children, num_children-new_other}
-use Rattle.zk_transcript.proofs.SessionMaps.{EachSession, each_session-put, each_session-gone, attached_session-open}
-use Rattle.zk_transcript.proofs.SoundTrees.{Each, each-put}
-use Rattle.zk_transcript.proofs.SoundEffects.{past_now, Stands, Acts, Leads, IsShort, SeveralLead, single-leads, several-lead}
-use Rattle.zk_transcript.proofs.SoundSessions.{sound-session, owns_none, stands-ended}
+use Rattle.zk_service.proofs.Children.{no_children, num_children-new_other}
+use Rattle.zk_service.proofs.SessionMaps.{EachSession, each_session-put, each_session-gone, attached_session-open}
+use Rattle.zk_service.proofs.SoundTrees.{Each, each-put}
+use Rattle.zk_service.proofs.SoundEffects.{past_now, Stands, Acts, Leads, IsShort, SeveralLead, single-leads, several-lead}
+use Rattle.zk_service.proofs.SoundSessions.{sound-session, owns_none, stands-ended}
 
 -- what is kept from line to line
 pub record Fine (first : ℤ) (s : State) : Type 0 where

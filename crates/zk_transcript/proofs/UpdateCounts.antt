@@ -6,11 +6,12 @@ use Rattle.std.proofs.lemmas.Bool.{and_parts}
 use Rattle.std.proofs.lemmas.List.{length-append}
 use Rattle.std.proofs.lemmas.List.Elements.{filter_map-append}
 use Rattle.zk_model.specs.Limits.{max_long}
-use Rattle.zk_transcript.specs.declared.transcript.UpdateKind.{UpdateKind}
-use Rattle.zk_transcript.specs.declared.transcript.UpdateKind.TheVariants.{Begin, Session as NewSession, Attach, Asked, Closed, Reaped}
+use Rattle.zk_service.specs.declared.update.UpdateKind.{UpdateKind}
+use Rattle.zk_service.specs.declared.update.UpdateKind.TheVariants.{Begin, Session as NewSession, Attach, Asked, Closed, Reaped}
 use Rattle.zk_transcript.specs.declared.transcript.TranscriptLine.{TranscriptLine}
 use Rattle.zk_transcript.specs.declared.transcript.TranscriptLine.TheVariants.{Update, Open, Frame as FrameLine, Send, Lapse, Close}
-use Rattle.zk_transcript.specs.History.{State, Session, Commit, nothing_yet, session_at, asked_commit, committed, lapsed_in, updated, change, after, update_in, updates}
+use Rattle.zk_service.specs.States.{State, Session, Commit, nothing_yet, session_at, committed, lapsed_in}
+use Rattle.zk_transcript.specs.History.{asked_commit, updated, change, after, update_in, updates}
 use Rattle.zk_transcript.specs.Legal.{may_update, is_next_zxid, is_legal, is_legal_line}
 use Rattle.zk_transcript.proofs.Histories.{not-begin, is_still, begin_line, legal-induct}
 

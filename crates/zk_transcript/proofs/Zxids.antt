@@ -5,16 +5,18 @@ use Rattle.std.specs.List.{list_all}
 use Rattle.std.proofs.lemmas.Bool.{and_parts}
 use Rattle.std.proofs.lemmas.Int.{ints}
 use Rattle.zk_model.specs.Limits.{max_long}
-use Rattle.zk_transcript.specs.declared.transcript.UpdateKind.{UpdateKind}
-use Rattle.zk_transcript.specs.declared.transcript.UpdateKind.TheVariants.{Begin, Session as NewSession, Attach, Asked, Closed, Reaped}
-use Rattle.zk_transcript.specs.declared.transcript.UpdateRec.{UpdateRec}
+use Rattle.zk_service.specs.declared.update.UpdateKind.{UpdateKind}
+use Rattle.zk_service.specs.declared.update.UpdateKind.TheVariants.{Begin, Session as NewSession, Attach, Asked, Closed, Reaped}
+use Rattle.zk_service.specs.declared.update.UpdateRec.{UpdateRec}
 use Rattle.zk_transcript.specs.declared.transcript.TranscriptLine.{TranscriptLine}
 use Rattle.zk_transcript.specs.declared.transcript.TranscriptLine.TheVariants.{Update, Open, Frame as FrameLine, Send, Lapse, Close}
-use Rattle.zk_transcript.specs.History.{State, Session, Commit, nothing_yet, session_at, asked_commit, committed, lapsed_in, updated, change, after, state_at}
+use Rattle.zk_service.specs.States.{State, Session, Commit, nothing_yet, session_at, committed, lapsed_in}
+use Rattle.zk_transcript.specs.History.{asked_commit, updated, change, after, state_at}
 use Rattle.zk_transcript.specs.Legal.{may_update, is_next_zxid, is_legal, is_legal_line}
 use Rattle.zk_transcript.proofs.Lookups.{Within, front, back, within, slice_get-front, slice_get-back}
 use Rattle.zk_transcript.proofs.Placed.{is_legal-at}
-use Rattle.zk_transcript.proofs.Ordered.{slice_get-take, all-at}
+use Rattle.zx_base.proofs.Lists.{slice_get-take}
+use Rattle.zk_transcript.proofs.Ordered.{all-at}
 use Rattle.zk_transcript.proofs.Histories.{above-next, is_still, begin_line, legal-induct, legal-begun}
 use Rattle.zk_transcript.proofs.Prefixes.{begins-take, is_legal-take, is_legal-begins}
 

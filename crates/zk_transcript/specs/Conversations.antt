@@ -1,37 +1,18 @@
 -- What one connection is sent (Programmer's Guide, "ZooKeeper Sessions", "ZooKeeper Watches", "Consistency Guarantees"): first the
 -- answer to its connect, and after a welcome the packets of a walk from its attachment on.
-use Rattle.std.specs.Prelude.{◌≡◌, ℕ, ℤ, pos, ◌+◌, ◌<◌, ◌≤◌, Bool, true, false, not, ◌&&◌, ◌||◌, List, [], ◌∷◌, drop, replicate, nat_lt, ◌==◌, int_le, Option, Some, None, option_map, bytes_eq, slice_get, IsTrue, ⊤}
+use Rattle.std.specs.Prelude.{◌≡◌, ℕ, ℤ, ◌+◌, ◌<◌, ◌≤◌, Bool, true, List, [], ◌∷◌, drop, nat_lt, ◌==◌, Option, Some, None, slice_get, IsTrue, ⊤}
 use Rattle.std.specs.List.{list_all}
-use Rattle.std.specs.Ordering.{int_eq}
 use Rattle.zk_model.specs.declared.connect.ConnectRequest.{ConnectRequest}
-use Rattle.zk_model.specs.declared.connect.ConnectResponse.{ConnectResponse}
 use Rattle.zk_transcript.specs.declared.transcript.TranscriptLine.{TranscriptLine}
 use Rattle.zk_transcript.specs.declared.transcript.TranscriptLine.TheVariants.{Frame as FrameLine, Close}
 use Rattle.zk_jute.specs.Packets.{connect_packet}
-use Rattle.zk_transcript.specs.History.{State, Session, session_at, state_at, first_place, when, opening, connect}
+use Rattle.zk_service.specs.States.{Session, session_at}
+use Rattle.zk_transcript.specs.History.{state_at, first_place, when, opening, connect}
 use Rattle.zk_transcript.specs.Legal.{Attachment, attach_of}
 use Rattle.zk_transcript.specs.Walks.{Due, packets, placed_frame, IsFreshWalk, IsWalk}
+use Rattle.zk_service.specs.Answers.{may_refuse, refusal, welcome}
 
 -- ---- the answer to the connect
-
--- the answer has the field where the connect has it, and says that the service is not read-only
-abbrev pub answered_read_only : ConnectRequest → Option Bool
-answered_read_only r = option_map (λ (b : Bool). false) r.read_only
-
-abbrev pub welcome : ConnectRequest → ℤ → Session → ConnectResponse
-welcome r id x = record { timeout = x.timeout; session = id; passwd = x.passwd; read_only = answered_read_only r }
-
-abbrev pub refusal : ConnectRequest → ConnectResponse
-refusal r = record { timeout = pos 0; session = pos 0; passwd = replicate 16 0; read_only = answered_read_only r }
-
--- the session is not open, has lapsed, or has another password than the connect shows
-abbrev pub is_other_session : ConnectRequest → Option Session → Bool
-is_other_session r None = true
-is_other_session r (Some x) = x.lapsed || not (bytes_eq r.passwd x.passwd)
-
--- the connect names a session, its client has seen no later zxid than the state's, and the session cannot be resumed
-abbrev pub may_refuse : ConnectRequest → State → Bool
-may_refuse r s = not (int_eq r.session (pos 0)) && int_le r.last_zxid s.zxid && is_other_session r (session_at r.session s)
 
 -- packet p stands after the line at k, which attached the session id, and is the welcome
 abbrev pub IsWelcomed : List TranscriptLine → ℕ → ℕ → ℤ → Due → Option ConnectRequest → Option Session → Type 0

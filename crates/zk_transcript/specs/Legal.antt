@@ -6,11 +6,12 @@ use Rattle.std.specs.Ordering.{int_eq}
 use Rattle.zk_model.specs.declared.request.Request.{Request}
 use Rattle.zk_model.specs.declared.request.Request.TheVariants as req
 use Rattle.zk_model.specs.declared.connect.ConnectRequest.{ConnectRequest}
-use Rattle.zk_transcript.specs.declared.transcript.UpdateKind.{UpdateKind}
-use Rattle.zk_transcript.specs.declared.transcript.UpdateKind.TheVariants.{Begin, Session as NewSession, Attach, Asked, Closed, Reaped}
+use Rattle.zk_service.specs.declared.update.UpdateKind.{UpdateKind}
+use Rattle.zk_service.specs.declared.update.UpdateKind.TheVariants.{Begin, Session as NewSession, Attach, Asked, Closed, Reaped}
 use Rattle.zk_transcript.specs.declared.transcript.TranscriptLine.{TranscriptLine}
 use Rattle.zk_transcript.specs.declared.transcript.TranscriptLine.TheVariants.{Update, Lapse}
-use Rattle.zk_transcript.specs.History.{State, Session, nothing_yet, session_at, attached_session, opening, connect, frame, request, first_place, frame_shown, when, asked_commit, change}
+use Rattle.zk_service.specs.States.{State, Session, nothing_yet, session_at, attached_session}
+use Rattle.zk_transcript.specs.History.{opening, connect, frame, request, first_place, frame_shown, when, asked_commit, change}
 use Rattle.zk_model.specs.Limits.{max_frame, max_long, max_parts}
 
 -- ---- a connection's own line: the Session or Attach line that attaches a session to it

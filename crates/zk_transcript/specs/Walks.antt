@@ -11,18 +11,18 @@ use Rattle.zk_model.specs.declared.reply.Body.TheVariants as body
 use Rattle.zk_model.specs.declared.reply.Reply.{Reply}
 use Rattle.zk_model.specs.declared.reply.Reply.TheVariants as reply
 use Rattle.zk_model.specs.declared.reply.Notice.{Notice}
-use Rattle.zk_transcript.specs.declared.transcript.UpdateRec.{UpdateRec}
-use Rattle.zk_transcript.specs.declared.transcript.UpdateKind.{UpdateKind}
-use Rattle.zk_transcript.specs.declared.transcript.UpdateKind.TheVariants.{Asked, Closed}
+use Rattle.zk_service.specs.declared.update.UpdateRec.{UpdateRec}
+use Rattle.zk_service.specs.declared.update.UpdateKind.{UpdateKind}
+use Rattle.zk_service.specs.declared.update.UpdateKind.TheVariants.{Asked, Closed}
 use Rattle.zk_transcript.specs.declared.transcript.TranscriptLine.{TranscriptLine}
 use Rattle.zk_transcript.specs.declared.transcript.TranscriptLine.TheVariants.{Update, Send}
-use Rattle.zk_model.specs.Codes.{auth_failed}
-use Rattle.zk_jute.specs.Requests.{Frame, NoHeader, Unreadable, Unknown, Asks, read_request}
+use Rattle.zk_jute.specs.Requests.{Frame, read_request}
 use Rattle.zk_jute.specs.Packets.{reply_packet, notice_packet}
 use Rattle.zk_model.specs.Watches.{Watches, no_watches, is_unarmed, fire_all}
-use Rattle.zk_transcript.specs.History.{State, after, session_at, state_at, first_place, when, frame_shown, Commit, asked_commit, asked_in}
+use Rattle.zk_service.specs.States.{State, session_at, Commit}
+use Rattle.zk_transcript.specs.History.{after, state_at, first_place, when, frame_shown, asked_commit, asked_in}
 use Rattle.zk_transcript.specs.Legal.{index_shown, is_below_place}
-use Rattle.zk_transcript.specs.Answers.{Told, only, told, plain_reply, session_refusal, owned_limit_in, tree_reply, xid_of}
+use Rattle.zk_service.specs.Answers.{Told, only, told, plain_reply, session_refusal, owned_limit_in, tree_reply, xid_of, has_header, is_auth_refusal}
 
 -- ---- updates and frames in a transcript, by their lines' places
 
@@ -122,11 +122,6 @@ fired_from lines p k (l ∷ ls) x = fired_from lines p (k + 1) ls (then_fired li
 unfoldable pub fired_above : List TranscriptLine → ℤ → Watches → Watches × List Due
 fired_above lines p w = fired_from lines p 0 lines (w, [])
 
--- the refusal of an auth, after which no request is answered
-abbrev pub is_auth_refusal : Reply → Bool
-is_auth_refusal (reply.Refused code) = int_eq code auth_failed
-is_auth_refusal (reply.Good b) = false
-
 -- ---- an answer without the tree, which repeats the walker's zxid
 
 abbrev pub plain_answer : Walker → ℕ → ℤ → Option Told → Option (Walker × List Due)
@@ -197,13 +192,6 @@ reply_step past w k xid fired t =
 abbrev pub reply_step_if : List TranscriptLine → Walker → ℕ → ℤ → List Due → Option (Bool × Told) → Option (Walker × List Due)
 reply_step_if past w k xid fired None = None
 reply_step_if past w k xid fired (Some t) = Some (reply_step past w k xid fired t)
-
--- a frame without a header is never answered
-abbrev pub has_header : Frame → Bool
-has_header NoHeader = false
-has_header (Unreadable xid place) = true
-has_header (Unknown xid kind) = true
-has_header (Asks xid r) = true
 
 -- the moment is not before that of the last reply that had one, and the last update before it is not below the walker's zxid
 abbrev pub may_answer_at : List TranscriptLine → Walker → Bool

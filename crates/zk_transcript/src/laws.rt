@@ -3,11 +3,12 @@
 ghost use Rattle.std.specs.Prelude.{◌≡◌, ◌<◌, ◌≤ℤ◌, ◌<ℤ◌, true, false, ℕ, ℤ, pos, List, [], ◌∷◌, Some, None, length, slice_get, take};
 ghost use Rattle.zk_transcript.specs.declared.transcript.TranscriptLine.{TranscriptLine};
 ghost use Rattle.zk_transcript.specs.declared.transcript.TranscriptLine.TheVariants.{Update, Open, Lapse};
-ghost use Rattle.zk_transcript.specs.declared.transcript.UpdateKind.TheVariants.{Begin, Session as NewSession, Attach, Reaped};
+ghost use Rattle.zk_service.specs.declared.update.UpdateKind.TheVariants.{Begin, Session as NewSession, Attach, Reaped};
 ghost use Rattle.zk_model.specs.declared.connect.ConnectRequest.{ConnectRequest as SomeConnect};
 ghost use Rattle.zk_model.specs.Limits.{max_long};
-ghost use Rattle.zk_transcript.specs.declared.transcript.UpdateRec.{UpdateRec};
-ghost use Rattle.zk_transcript.specs.History.{Session, IsSound, IsBounded, after, session_at, attached_session, connect, first_shown, opening, state_at, update_in, updates};
+ghost use Rattle.zk_service.specs.declared.update.UpdateRec.{UpdateRec};
+ghost use Rattle.zk_service.specs.States.{Session, IsSound, IsBounded, session_at, attached_session};
+ghost use Rattle.zk_transcript.specs.History.{after, connect, first_shown, opening, state_at, update_in, updates};
 ghost use Rattle.zk_transcript.specs.Legal.{Attachment, attach_of, index_shown, is_legal, is_ordered, changes_session, lapses_session};
 
 /// Begin may have any zxid up to the greatest of a `long`, and may follow a line that is neither an update nor a lapse.

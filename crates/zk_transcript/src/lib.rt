@@ -2,7 +2,7 @@
 //! statement about a run is made of.
 //!
 //! In reading order: `History` (the state of the service at each moment of a transcript), `Legal` (the updates are one run
-//! of the machine), `Answers` (what a request is answered in a state), `Walks` (what a connection is sent after its attachment),
+//! of the machine), `Walks` (what a connection is sent after its attachment),
 //! `Conversations` (all that it is sent).
 #![tactic(auto)]
 
@@ -16,4 +16,4 @@ pub use laws::{
     reaped_sessions_had_lapsed, requests_are_carried_out_in_order, sessions_begin_as_offered,
     updates_are_counted, zxids_rise,
 };
-pub use transcript::{Cause, Conversation, Ended, TranscriptLine, UpdateKind, UpdateRec};
+pub use transcript::{Conversation, TranscriptLine};

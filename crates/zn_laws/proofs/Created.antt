@@ -19,8 +19,8 @@ use Rattle.zk_model.specs.Single.{Outcome, Done, Refused, create, create_at, cre
 use Rattle.zk_model.specs.Znodes.{Tree, new_node, num_children, stat}
 use Rattle.zk_model.proofs.Paths.{apart_from_parent}
 use Rattle.zk_model.proofs.SequenceParents.{parent-sequence}
-use Rattle.zk_transcript.specs.History.{Commit, IsSound, State, body_with_stat, commit, commit_with_stat, made_stat, response_of}
-use Rattle.zk_transcript.proofs.Children.{create_count_other, create_new, create_tree, no_orphans}
+use Rattle.zk_service.specs.States.{Commit, IsSound, State, body_with_stat, commit, commit_with_stat, made_stat, response_of}
+use Rattle.zk_service.proofs.Children.{create_count_other, create_new, create_tree, no_orphans}
 use Rattle.zn_laws.specs.Created.{ShowsItsNode}
 
 -- what a create2 with this Stat shows of an outcome

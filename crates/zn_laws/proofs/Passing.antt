@@ -23,8 +23,8 @@ use Rattle.zk_model.specs.Paths.{is_child, is_path, parent, root, sequence_path}
 use Rattle.zk_model.specs.Single.{Outcome, Done, Refused, check, create, create_at, create_node, create_under, delete, effect, form_refusal, is_ephemeral, is_full, is_sequential, made_path, matches, named, set_data, single, unless_refused}
 use Rattle.zk_model.specs.Znodes.{Tree, num_children, owned}
 use Rattle.zk_model.proofs.PartLaws.{parts_of-done}
-use Rattle.zk_transcript.specs.History.{State, Session, IsSound, IsSoundTree, session_at}
-use Rattle.zk_transcript.proofs.SoundEffects.{Leads, single-sound}
+use Rattle.zk_service.specs.States.{State, Session, IsSound, IsSoundTree, session_at}
+use Rattle.zk_service.proofs.SoundEffects.{Leads, single-sound}
 use Rattle.zn_layout.specs.declared.record.CountRec.{CountRec}
 use Rattle.zn_layout.specs.Begin.{first_counts}
 use Rattle.zn_layout.specs.Keys.{CountsKey, key_bytes}

@@ -7,7 +7,7 @@ use Rattle.zk_model.specs.declared.request.Part.{Part}
 use Rattle.zk_model.specs.Limits.{max_owned}
 use Rattle.zk_model.specs.Multi.{Passed, parts_of}
 use Rattle.zk_model.specs.Znodes.{Tree}
-use Rattle.zk_transcript.specs.History.{IsSound, Session, State, session_at}
+use Rattle.zk_service.specs.States.{IsSound, Session, State, session_at}
 use Rattle.zn_multi.specs.Carrying.{AreShort}
 use Rattle.zn_updates.specs.Layers.{Shows}
 use Rattle.zn_view.specs.declared.leaving.TreeChange.{TreeChange}

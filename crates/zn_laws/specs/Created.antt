@@ -8,7 +8,7 @@ use Rattle.zk_model.specs.declared.reply.Body.TheVariants as body
 use Rattle.zk_model.specs.declared.request.Acl.{Acl}
 use Rattle.zk_model.specs.declared.request.Request.TheVariants as req
 use Rattle.zk_model.specs.Znodes.{Tree, stat_of}
-use Rattle.zk_transcript.specs.History.{Commit, IsSound, State, commit}
+use Rattle.zk_service.specs.States.{Commit, IsSound, State, commit}
 
 -- the body is a path, and the Stat of the node that is there
 abbrev pub ShowsItsNode : Tree → Body → Type 0

@@ -5,11 +5,9 @@ use Rattle.std.specs.Cmp.Lexicographic.{slice_cmp}
 use Rattle.std.specs.FinMap.{get, insert, retain_keys, empty, len, get-empty, len-empty}
 use Rattle.zk_model.specs.declared.node.Node.{Node}
 use Rattle.zk_model.specs.Paths.{root, parent, at_last_slash, is_child}
-use Rattle.zk_model.specs.Znodes.{Tree, num_children, new_node, root_alone}
-use Rattle.zk_transcript.specs.History.{State, updated, after}
+use Rattle.zk_model.specs.Znodes.{Tree, num_children, new_node}
 use Rattle.zx_base.specs.Maps.{Bytes}
 use Rattle.zx_base.proofs.MapLaws.{get-insert_same, get-insert_other, get-retain, retain-insert_out, ext}
-use Rattle.zn_layout.specs.Begin.{begin_lines}
 
 -- ---- the tree
 
@@ -37,12 +35,3 @@ root-no_child p = refl
 
 pub first_childless : (now : ℕ) (p : Bytes) → num_children (first_tree now) p ≡ 0
 first_childless now p = ap len (retain-insert_out empty (is_child p) root _ (root-no_child p) ∙ no_part (is_child p)) ∙ len-empty (slice_cmp nat_cmp) Node
-
--- ---- the state
-
-abbrev pub first_state : ℕ → State
-first_state now = record { tree = root_alone (pos 2) now; zxid = pos 2; updates = 1; triggers = []; sessions = empty }
-
-pub after-begin : (now : ℕ) → after (begin_lines now) ≡ first_state now
-unfolding after updated
-after-begin now = refl

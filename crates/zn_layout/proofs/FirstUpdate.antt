@@ -20,19 +20,19 @@ use Rattle.ev_types.specs.Denials.{is_denied, carry}
 use Rattle.zk_model.specs.declared.node.Node.{Node}
 use Rattle.zk_model.specs.Paths.{root}
 use Rattle.zk_model.specs.Znodes.{num_children, owned, new_node}
-use Rattle.zk_transcript.specs.History.{State, Session, nothing_yet, after}
+use Rattle.zk_service.specs.States.{Session, nothing_yet, first_state}
 use Rattle.zx_base.specs.Maps.{Bytes, same}
 use Rattle.zx_base.proofs.MapLaws.{same-true, apart-from_same}
 use Rattle.zx_base.proofs.Options.{none_some}
 use Rattle.zn_layout.specs.Keys.{Key, HeadKey, DataKey, CountsKey, SessionKey, LeaseKey, key_bytes, front}
 use Rattle.zn_layout.specs.Records.{node_value, counts_value, head_value, IsLongCount, IsNodeRec}
 use Rattle.zn_layout.specs.StandsFor.{Stored, stored_of, at, Means, IsData, IsCounts, DataMeans, CountsMean, NodesMean, LifeMeans, IsHead, AreLayout, StandsFor}
-use Rattle.zn_layout.specs.Begin.{new_record, first_counts, begin_changes, head_is_absent, first_head, begin_parts, begin_ask, begin_lines, Begins}
+use Rattle.zn_layout.specs.Begin.{new_record, first_counts, begin_changes, head_is_absent, first_head, begin_parts, begin_ask, Begins}
 use Rattle.ev_types.specs.Reads.{read_key, one_found}
 use Rattle.zn_layout.specs.Changes.{acts_of, update_acts, put_or_else, last}
 use Rattle.zn_layout.specs.Updates.{update_txn}
 use Rattle.zn_layout.specs.Fits.{KeyFits}
-use Rattle.zn_layout.proofs.First.{first_tree, first_state, first_there, first_other, first_childless, after-begin}
+use Rattle.zn_layout.proofs.First.{first_tree, first_there, first_other, first_childless}
 use Rattle.zn_layout.proofs.Stands.{all_of, head_there, stands_over}
 use Rattle.zn_layout.proofs.Applied.{at-unwritten}
 use Rattle.zn_layout.proofs.Denials.{update-not_denied}
@@ -190,5 +190,5 @@ begin_stands now h =
       new = first_new now;
       carried = begin_carried now ∙ ap (λ (r : ℤ). Some (first_new now, answer.Txn r true begin_parts)) second;
       revision_is = second;
-      stands = subst (λ (m : Keys). StandsFor m (after (begin_lines now))) (sym keys) (subst (λ (s : State). StandsFor (acts_applied (pos 2) empty (update_acts (begin_changes now) [])) s) (sym (after-begin now)) (first_stands now h));
+      stands = subst (λ (m : Keys). StandsFor m (first_state now)) (sym keys) (first_stands now h);
     }

@@ -1,7 +1,7 @@
 -- Changes that fit, one list after another.
 use Rattle.std.proofs.Common.{◌≡◌, ℤ, cond, List, [], ◌∷◌, ◌++◌, Option, Some, None, refl, sym, ap, ◌∙◌, subst}
 use Rattle.zk_model.specs.declared.node.Trigger.{Trigger}
-use Rattle.zk_transcript.specs.History.{State}
+use Rattle.zk_service.specs.States.{State}
 use Rattle.zn_layout.specs.Keys.{Key, HeadKey, DataKey, CountsKey, SessionKey, LeaseKey, same_key}
 use Rattle.zn_layout.specs.Changes.{Put, KeyChange, head_put, put_or_else, last}
 use Rattle.zn_layout.specs.Fits.{left, KeyFits, ChangesFit}

@@ -10,7 +10,7 @@ use Rattle.ev_types.specs.declared.answer.Kv.{Kv}
 use Rattle.ev_types.specs.Store.{Store, present, put_over, revision, last_revision}
 use Rattle.ev_types.specs.Lapses.{foreign}
 use Rattle.ev_types.proofs.Lapsed.{foreign-full, foreign-one, foreign-keys}
-use Rattle.zk_transcript.specs.History.{State}
+use Rattle.zk_service.specs.States.{State}
 use Rattle.zn_layout.specs.Keys.{Key, HeadKey, DataKey, CountsKey, SessionKey, LeaseKey, front, key_bytes}
 use Rattle.zn_layout.specs.StandsFor.{stored_of, at, Means, HeadMeans, StandsFor}
 

@@ -19,7 +19,7 @@ use Rattle.ev_types.specs.Lapses.{is_leased, lapse}
 use Rattle.ev_types.proofs.Lapsed.{lapse-there, lapse-keys}
 use Rattle.zk_model.specs.declared.node.Node.{Node}
 use Rattle.zk_model.specs.Znodes.{Tree, num_children, owned}
-use Rattle.zk_transcript.specs.History.{State, Session, session_at, lapsed_in}
+use Rattle.zk_service.specs.States.{State, Session, session_at, lapsed_in}
 use Rattle.zx_base.specs.Maps.{Bytes}
 use Rattle.zn_layout.specs.Keys.{Key, HeadKey, DataKey, CountsKey, SessionKey, LeaseKey, front, key_bytes}
 use Rattle.zn_layout.specs.StandsFor.{Stored, stored_of, at, DataMeans, CountsMean, NodesMean, LifeMeans, Means, HeadMeans, StandsFor}

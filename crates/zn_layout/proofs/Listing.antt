@@ -18,8 +18,8 @@ use Rattle.zk_model.specs.declared.node.Node.{Node}
 use Rattle.zk_model.specs.Paths.{is_child, depth, is_path}
 use Rattle.zk_model.specs.Znodes.{below, children}
 use Rattle.zk_model.proofs.Paths.{is_child-yes, parent-from_child}
-use Rattle.zk_transcript.specs.History.{State, IsSound, IsBounded}
-use Rattle.zk_transcript.proofs.Children.{get-below_child}
+use Rattle.zk_service.specs.States.{State, IsSound, IsBounded}
+use Rattle.zk_service.proofs.Children.{get-below_child}
 use Rattle.zn_layout.specs.Keys.{Key, HeadKey, DataKey, CountsKey, SessionKey, LeaseKey, front, key_bytes}
 use Rattle.zn_layout.specs.StandsFor.{StandsFor, at}
 use Rattle.zn_layout.specs.Listing.{child_front, children_from, children_end, children_found, HasValidPaths}

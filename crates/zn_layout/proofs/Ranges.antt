@@ -15,7 +15,7 @@ use Rattle.zk_model.specs.Paths.{slash, root, with_head, at_last_slash, parent_o
 use Rattle.zk_model.specs.Znodes.{Tree}
 use Rattle.zk_model.proofs.Paths.{IsNamed, named-from_parent, depth_child, depth-other, slashes-append, slashes-stem, stem-root, stem-other}
 use Rattle.zk_model.proofs.PathScans.{at_last_slash-append}
-use Rattle.zk_transcript.proofs.Children.{AreParented}
+use Rattle.zk_service.proofs.Children.{AreParented}
 use Rattle.zn_layout.specs.Keys.{HeadKey, DataKey, CountsKey, SessionKey, LeaseKey, four_digits, node_key, session_key, key_bytes}
 use Rattle.zn_layout.specs.Listing.{base, child_front, children_from, children_end}
 

@@ -10,7 +10,7 @@ use Rattle.ev_types.specs.declared.ask.TxnReq.{TxnReq}
 use Rattle.ev_types.specs.Store.{Store, Change, Done, present, store_at, worked, chosen, succeeds, grown, txn_done, carried_out}
 use Rattle.ev_types.specs.Denials.{chosen_acts, is_denied, carry}
 use Rattle.ev_types.proofs.Transactions.{worked-reads}
-use Rattle.zk_transcript.specs.History.{State}
+use Rattle.zk_service.specs.States.{State}
 use Rattle.zn_layout.specs.StandsFor.{StandsFor}
 
 given : (d : Bool) (x : Store × Answer) (new : Store) (a : Answer) → cond d None (Some x) ≡ Some (new, a) → x.0 ≡ new

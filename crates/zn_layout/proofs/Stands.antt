@@ -7,7 +7,7 @@ use Rattle.ev_types.specs.declared.answer.Kv.{Kv}
 use Rattle.ev_types.specs.Ranges.{Keys}
 use Rattle.ev_types.specs.Store.{last_revision, acts_applied, put_over}
 use Rattle.zk_model.specs.declared.node.Trigger.{Trigger}
-use Rattle.zk_transcript.specs.History.{State}
+use Rattle.zk_service.specs.States.{State}
 use Rattle.zx_base.specs.Maps.{Bytes}
 use Rattle.zx_base.proofs.MapLaws.{either, get-insert_same}
 use Rattle.zx_base.proofs.Options.{none_some}

@@ -10,10 +10,6 @@ use Rattle.ev_types.specs.declared.answer.Answer.TheVariants as answer
 use Rattle.ev_types.specs.Store.{Store, new_store, revision, present}
 use Rattle.ev_types.specs.Denials.{carry}
 use Rattle.ev_types.specs.Reads.{read_key, one_found}
-use Rattle.zk_transcript.specs.declared.transcript.UpdateKind.TheVariants.{Begin}
-use Rattle.zk_transcript.specs.declared.transcript.TranscriptLine.{TranscriptLine}
-use Rattle.zk_transcript.specs.declared.transcript.TranscriptLine.TheVariants.{Update}
-use Rattle.zk_transcript.specs.History.{after}
 use Rattle.zk_model.specs.Paths.{root}
 use Rattle.zx_base.specs.Maps.{Bytes}
 use Rattle.zn_layout.specs.declared.record.NodeRec.{NodeRec}
@@ -23,6 +19,7 @@ use Rattle.zn_layout.specs.StandsFor.{StandsFor}
 use Rattle.zn_layout.specs.Changes.{KeyChange, put_key}
 use Rattle.zn_layout.specs.Updates.{update_txn}
 use Rattle.zn_layout.specs.Records.{node_value, counts_value, head_value}
+use Rattle.zk_service.specs.States.{first_state}
 
 -- the record of a new node. A czxid of 0 stands for the revision of the put
 abbrev pub new_record : Bytes → ℕ → ℤ → NodeRec
@@ -44,9 +41,6 @@ begin_ask now = ask.Txn (update_txn (head_is_absent ∷ []) (begin_changes now) 
 
 -- ---- what it does to a new store
 
-abbrev pub begin_lines : ℕ → List TranscriptLine
-begin_lines now = Update (record { zxid = pos 2; kind = Begin now }) ∷ []
-
 -- the head that it puts
 abbrev pub first_head : Kv
 first_head = record { key = key_bytes HeadKey; value = head_value []; create_revision = pos 2; mod_revision = pos 2; version = pos 1; lease = pos 0 }
@@ -54,9 +48,9 @@ first_head = record { key = key_bytes HeadKey; value = head_value []; create_rev
 abbrev pub begin_parts : List ActAns
 begin_parts = part.Put ∷ part.Put ∷ part.Put ∷ part.Range (one_found (Some first_head)) ∷ []
 
--- it isn't denied, succeeds at revision 2, answers the head that it put, and leaves keys that stand for the state after its line
+-- it isn't denied, succeeds at revision 2, answers the head that it put, and leaves keys that stand for the first state
 pub record Begins (now : ℕ) : Type 0 where
   pub new : Store
   pub carried : carry new_store (begin_ask now) ≡ Some (new, answer.Txn (pos 2) true begin_parts)
   pub revision_is : revision new ≡ pos 2
-  pub stands : StandsFor (present new) (after (begin_lines now))
+  pub stands : StandsFor (present new) (first_state now)

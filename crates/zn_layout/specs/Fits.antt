@@ -1,7 +1,7 @@
 -- When changes of keys are those from one state to another, all at one zxid.
 use Rattle.std.specs.Prelude.{◌≡◌, ◌+◌, ℤ, List, Option, Some, None}
 use Rattle.zk_model.specs.declared.node.Trigger.{Trigger}
-use Rattle.zk_transcript.specs.History.{State}
+use Rattle.zk_service.specs.States.{State}
 use Rattle.zn_layout.specs.Keys.{Key}
 use Rattle.zn_layout.specs.StandsFor.{Stored, Means}
 use Rattle.zn_layout.specs.Changes.{Put, KeyChange, last}

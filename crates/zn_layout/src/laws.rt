@@ -23,7 +23,7 @@ ghost use Rattle.ev_types.specs.Store.{Store, revision, last_revision, present, 
 ghost use Rattle.zk_model.specs.declared.node.Trigger.{Trigger as AnyTrigger};
 ghost use Rattle.zk_model.specs.Paths.{is_path, parent};
 ghost use Rattle.zk_model.specs.Znodes.{children};
-ghost use Rattle.zk_transcript.specs.History.{State, IsSound, IsBounded, session_at, lapsed_in};
+ghost use Rattle.zk_service.specs.States.{State, IsSound, IsBounded, session_at, lapsed_in};
 ghost use Rattle.zx_base.specs.Maps.{Bytes};
 ghost use Rattle.zn_layout.specs.declared.record.CountRec.{CountRec};
 ghost use Rattle.zn_layout.specs.declared.record.LeaseRec.{LeaseRec};
@@ -106,7 +106,7 @@ pub fn reading_stands()
 {}
 
 /// On a new store the first transaction isn't denied, succeeds at revision 2, answers the head that it put, and leaves keys
-/// that stand for the state after the line of the first update.
+/// that stand for the first state.
 pub fn begin_stands()
     ensures { (now : ℕ) → now < 2 ^ 62 → Begins now }
 {}

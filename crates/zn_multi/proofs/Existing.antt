@@ -10,7 +10,7 @@ use Rattle.zk_model.specs.declared.request.Part.TheVariants as part
 use Rattle.zk_model.specs.Paths.{parent}
 use Rattle.zk_model.specs.Single.{form_refusal, is_ephemeral, is_sequential, named}
 use Rattle.zk_model.specs.Znodes.{num_children, owned}
-use Rattle.zk_transcript.specs.History.{State, Session, session_at}
+use Rattle.zk_service.specs.States.{State, Session, session_at}
 use Rattle.zn_layout.specs.declared.record.CountRec.{CountRec}
 use Rattle.zn_layout.specs.Keys.{Key, HeadKey, DataKey, CountsKey, SessionKey}
 use Rattle.zn_layout.specs.StandsFor.{CountsMean, DataMeans, NodesMean, counts_record, data_record}

@@ -12,8 +12,8 @@ use Rattle.zk_model.specs.Limits.{max_owned}
 use Rattle.zk_model.specs.Multi.{Parts, Stopped as StoppedAt, Passed as PassedAll, parts_of, then_parts, touched_by}
 use Rattle.zk_model.specs.Single.{Outcome, Refused, Done, single}
 use Rattle.zk_model.specs.Znodes.{Tree}
-use Rattle.zk_transcript.specs.History.{State, Session, IsSound, IsSoundTree, session_at}
-use Rattle.zk_transcript.proofs.SoundEffects.{IsSmallPart, Leads, single-sound}
+use Rattle.zk_service.specs.States.{State, Session, IsSound, IsSoundTree, session_at}
+use Rattle.zk_service.proofs.SoundEffects.{IsSmallPart, Leads, single-sound}
 use Rattle.zn_layout.specs.Changes.{KeyChange, Put, acts_of, are_distinct, last}
 use Rattle.zn_layout.specs.Fits.{ChangesFit, KeyFits}
 use Rattle.zn_layout.specs.Keys.{Key, HeadKey, key_bytes}

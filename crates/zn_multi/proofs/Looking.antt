@@ -18,7 +18,7 @@ use Rattle.zk_model.specs.Multi.{touched_by, owner_list}
 use Rattle.zk_model.specs.Paths.{is_path, parent, root, sequence_path}
 use Rattle.zk_model.specs.Single.{form_refusal, is_ephemeral, is_sequential, made_path, named}
 use Rattle.zk_model.specs.Znodes.{Tree, num_children, owned}
-use Rattle.zk_transcript.specs.History.{State, Session, session_at}
+use Rattle.zk_service.specs.States.{State, Session, session_at}
 use Rattle.zn_layout.specs.declared.record.CountRec.{CountRec}
 use Rattle.zn_layout.specs.declared.record.NodeRec.{NodeRec}
 use Rattle.zn_layout.specs.Keys.{Key, HeadKey, DataKey, CountsKey, SessionKey, key_bytes}

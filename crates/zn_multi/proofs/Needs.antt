@@ -12,7 +12,7 @@ use Rattle.zk_model.specs.Codes.{bad_arguments}
 use Rattle.zk_model.specs.declared.reply.Reply.TheVariants as reply
 use Rattle.zk_model.specs.Limits.{max_parts}
 use Rattle.zk_model.specs.Watches.{no_watches}
-use Rattle.zk_transcript.specs.Answers.{plain_request, told}
+use Rattle.zk_service.specs.Answers.{plain_request, told}
 use Rattle.zn_layout.specs.Keys.{Key, HeadKey, LeaseKey, key_bytes}
 use Rattle.zn_view.specs.declared.plan.Who.{Who}
 use Rattle.zn_view.specs.declared.want.Want.{Want}

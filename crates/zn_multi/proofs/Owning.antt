@@ -19,8 +19,8 @@ use Rattle.zk_model.specs.Paths.{parent}
 use Rattle.zk_model.specs.Single.{at_parent, check, create_at, create_node, create_under, delete, effect, form_refusal, is_ephemeral, is_full, made_path, matches, named, removed_under, set_data, single, with_child, with_content, without_child}
 use Rattle.zk_model.specs.Znodes.{Tree, new_node, num_children, owned, owned_by}
 use Rattle.zk_model.proofs.Paths.{apart_from_parent}
-use Rattle.zk_transcript.proofs.Owned.{get-owned, get-owned_as, if_owned}
-use Rattle.zk_transcript.proofs.SoundEffects.{Leads}
+use Rattle.zk_service.proofs.Owned.{get-owned, get-owned_as, if_owned}
+use Rattle.zk_service.proofs.SoundEffects.{Leads}
 use Rattle.zn_layout.proofs.Paths.{path_short}
 use Rattle.zn_updates.proofs.CreateClauses.{valid_path}
 use Rattle.zn_updates.proofs.Forms.{create_path_valid}

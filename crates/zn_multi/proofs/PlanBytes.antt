@@ -21,7 +21,7 @@ use Rattle.zk_model.specs.Single.{form_refusal, is_ephemeral, is_sequential, nam
 use Rattle.zk_model.specs.Znodes.{owned}
 use Rattle.zk_model.proofs.SequencePaths.{sequence-valid}
 use Rattle.zk_model.proofs.ValidPaths.{parent-valid}
-use Rattle.zk_transcript.specs.History.{State, Session, IsSound, session_at}
+use Rattle.zk_service.specs.States.{State, Session, IsSound, session_at}
 use Rattle.zx_base.specs.Maps.{Bytes, same}
 use Rattle.zx_base.proofs.Options.{some_none}
 use Rattle.zn_layout.specs.Changes.{KeyChange, Put, change_size, head_put, last, put_size, update_acts}

@@ -9,7 +9,7 @@ use Rattle.zk_model.specs.declared.request.Request.TheVariants as req
 use Rattle.zk_model.specs.Codes.{bad_arguments}
 use Rattle.zk_model.specs.Limits.{max_load, max_parts}
 use Rattle.zk_model.specs.Multi.{data_len, distinct}
-use Rattle.zk_transcript.specs.History.{State, Session, session_at}
+use Rattle.zk_service.specs.States.{State, Session, session_at}
 use Rattle.zn_layout.specs.Keys.{LeaseKey}
 use Rattle.zn_view.specs.declared.plan.Decision.{Decision}
 use Rattle.zn_view.specs.declared.plan.Decision.TheVariants.{Answered, Planned, Expired, Moved}

@@ -20,8 +20,8 @@ use Rattle.zk_model.specs.Limits.{max_load, max_owned}
 use Rattle.zk_model.specs.Multi.{Parts, Several, Stopped as StoppedAt, Passed as PassedAll, Denied, Codes, All as AllDone, data_len, distinct, load, parts_of, row_of, settled, several}
 use Rattle.zk_model.specs.Watches.{no_watches}
 use Rattle.zk_model.specs.Znodes.{Tree, owned}
-use Rattle.zk_transcript.specs.Answers.{owned_limit_in, refusal_of_several, tree_reply}
-use Rattle.zk_transcript.specs.History.{State, Session, IsSound, advanced, commit, commit_several, committed, limit_of, session_at}
+use Rattle.zk_service.specs.Answers.{owned_limit_in, refusal_of_several, tree_reply}
+use Rattle.zk_service.specs.States.{State, Session, IsSound, advanced, commit, commit_several, committed, limit_of, session_at}
 use Rattle.zx_base.specs.Maps.{Bytes}
 use Rattle.zn_layout.specs.Changes.{KeyChange, Put, are_distinct, last, put_or_else, update_acts}
 use Rattle.zn_layout.specs.Fits.{ChangesFit}

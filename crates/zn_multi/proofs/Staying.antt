@@ -19,8 +19,8 @@ use Rattle.zk_model.specs.Limits.{max_frame, max_owned}
 use Rattle.zk_model.specs.Multi.{data_len, owner_list, touched_by}
 use Rattle.zk_model.specs.Single.{form_refusal, is_ephemeral, single}
 use Rattle.zk_model.specs.Znodes.{Tree}
-use Rattle.zk_transcript.specs.History.{State, Session, IsSound, session_at}
-use Rattle.zk_transcript.proofs.SoundEffects.{Leads}
+use Rattle.zk_service.specs.States.{State, Session, IsSound, session_at}
+use Rattle.zk_service.proofs.SoundEffects.{Leads}
 use Rattle.zn_layout.specs.Changes.{KeyChange}
 use Rattle.zn_layout.specs.Keys.{Key, DataKey, SessionKey, key_bytes}
 use Rattle.zn_view.specs.declared.plan.Who.{Who}

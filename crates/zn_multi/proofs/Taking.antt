@@ -7,7 +7,7 @@ use Rattle.ev_types.specs.declared.answer.Kv.{Kv}
 use Rattle.zk_model.specs.declared.request.Part.{Part}
 use Rattle.zk_model.specs.Limits.{max_load, max_parts}
 use Rattle.zk_model.specs.Multi.{data_len, distinct}
-use Rattle.zk_transcript.specs.History.{State, Session, IsSound, session_at}
+use Rattle.zk_service.specs.States.{State, Session, IsSound, session_at}
 use Rattle.zn_layout.specs.Changes.{KeyChange, update_acts}
 use Rattle.zn_layout.specs.Keys.{Key, LeaseKey, key_bytes}
 use Rattle.zn_layout.specs.StandsFor.{at}

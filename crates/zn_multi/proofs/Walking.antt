@@ -17,11 +17,10 @@ use Rattle.zk_model.specs.Single.{Outcome, Refused, at_parent, check, create_at,
 use Rattle.zk_model.specs.Znodes.{Tree, new_node, num_children, owned, owned_by}
 use Rattle.zk_model.proofs.Paths.{apart_from_parent, is_child-no, is_child-yes}
 use Rattle.zk_model.proofs.SequenceParents.{parent-sequence}
-use Rattle.zk_transcript.proofs.Children.{create_count_other, create_count_parent, create_new, create_other, create_parent, create_tree, no_children-absent, num_children-change, AreParented}
-use Rattle.zk_transcript.proofs.Owned.{get-owned_as, num_owned, num_owned-change, num_owned-new, num_owned-new_other}
-use Rattle.zk_transcript.proofs.SoundEffects.{Leads}
-use Rattle.zk_transcript.proofs.SoundTrees.{Each, each-gone, each-put}
-use Rattle.zk_transcript.proofs.Owned.{owned_by-gone}
+use Rattle.zk_service.proofs.Children.{create_count_other, create_count_parent, create_new, create_other, create_parent, create_tree, no_children-absent, num_children-change, AreParented}
+use Rattle.zk_service.proofs.Owned.{get-owned_as, num_owned, num_owned-change, num_owned-new, num_owned-new_other, owned_by-gone}
+use Rattle.zk_service.proofs.SoundEffects.{Leads}
+use Rattle.zk_service.proofs.SoundTrees.{Each, each-gone, each-put}
 use Rattle.zn_layout.specs.declared.record.CountRec.{CountRec}
 use Rattle.zn_layout.specs.Begin.{first_counts}
 use Rattle.zn_layout.specs.Keys.{CountsKey, key_bytes}

@@ -8,7 +8,7 @@ use Rattle.std.proofs.lemmas.List.Elements.{All-cons, All-head, All-nil, All-tai
 use Rattle.std.proofs.lemmas.List.Sums.{sum_by-cons}
 use Rattle.ev_types.specs.declared.answer.Kv.{Kv}
 use Rattle.zk_model.specs.declared.node.Trigger.{Trigger}
-use Rattle.zk_transcript.specs.History.{State, Session}
+use Rattle.zk_service.specs.States.{State, Session, session_at}
 use Rattle.zx_base.specs.Maps.{Bytes}
 use Rattle.zn_layout.specs.Changes.{KeyChange, Put, act_of, acts_of, are_distinct, head_put, last, put_or_else, writes_key}
 use Rattle.zn_layout.specs.Fits.{ChangesFit, KeyFits}
@@ -19,7 +19,6 @@ use Rattle.zk_model.specs.declared.node.Node.{Node}
 use Rattle.zk_model.specs.Znodes.{num_children, owned}
 use Rattle.std.specs.FinMap.{get}
 use Rattle.std.specs.Prelude.{pos}
-use Rattle.zk_transcript.specs.History.{session_at}
 use Rattle.zn_view.specs.Lookups.{HasSeen}
 use Rattle.zn_view.specs.Seen.{View, seen}
 use Rattle.zn_updates.specs.Layers.{Shows}

@@ -6,7 +6,7 @@ use Rattle.zk_model.specs.declared.request.Part.{Part}
 use Rattle.zk_model.specs.Limits.{max_owned}
 use Rattle.zk_model.specs.Multi.{Parts, Stopped, Passed, parts_of}
 use Rattle.zk_model.specs.Znodes.{Tree}
-use Rattle.zk_transcript.specs.History.{State, IsSound}
+use Rattle.zk_service.specs.States.{State, IsSound}
 use Rattle.zn_layout.specs.Changes.{KeyChange, are_distinct}
 use Rattle.zn_layout.specs.Fits.{ChangesFit}
 use Rattle.zn_view.specs.Needs.{own_result}

@@ -13,8 +13,8 @@ use Rattle.zk_model.specs.Single.{Outcome, Refused, Done, single}
 use Rattle.zk_model.specs.Watches.{Watches, no_watches}
 use Rattle.zk_model.specs.Znodes.{Tree, stat_of, child_names}
 use Rattle.zk_model.specs.declared.reply.Body.TheVariants as body
-use Rattle.zk_transcript.specs.Answers.{Told, about, listing, checked, armed_data, armed_children, fits_reply, plain_request, tree_reply}
-use Rattle.zk_transcript.specs.History.{State, Session, IsSound, limit_of, session_at}
+use Rattle.zk_service.specs.Answers.{Told, about, listing, checked, armed_data, armed_children, fits_reply, plain_request, tree_reply}
+use Rattle.zk_service.specs.States.{State, Session, IsSound, limit_of, session_at}
 use Rattle.zn_layout.specs.Listing.{HasValidPaths}
 use Rattle.zn_ops.specs.Forms.{is_single}
 use Rattle.zn_ops.proofs.SingleRequests.{read-otherwise}

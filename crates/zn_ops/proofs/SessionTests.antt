@@ -4,8 +4,8 @@ use Rattle.std.specs.Prelude.{nat_abs, ◌≤ℤ◌, if◌then◌else◌, MatchB
 use Rattle.std.specs.Ordering.{int_eq}
 use Rattle.zk_model.specs.declared.request.Request.{Request}
 use Rattle.zk_model.specs.Watches.{no_watches}
-use Rattle.zk_transcript.specs.Answers.{Told, plain_request}
-use Rattle.zk_transcript.specs.History.{Session, limit_of, session_at}
+use Rattle.zk_service.specs.Answers.{Told, plain_request}
+use Rattle.zk_service.specs.States.{Session, limit_of, session_at}
 use Rattle.zx_base.proofs.Options.{none_some, some_is}
 use Rattle.zn_layout.specs.Keys.{LeaseKey}
 use Rattle.zn_ops.specs.Deciding.{IsAttachedAt}

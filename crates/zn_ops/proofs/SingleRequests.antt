@@ -3,7 +3,7 @@ use Rattle.std.proofs.Common.{◌≡◌, true, false, [], List, Some, None, refl
 use Rattle.zk_model.specs.declared.request.Request.{Request}
 use Rattle.zk_model.specs.declared.request.Request.TheVariants as req
 use Rattle.zk_model.specs.Watches.{no_watches}
-use Rattle.zk_transcript.specs.Answers.{Told, plain_request}
+use Rattle.zk_service.specs.Answers.{Told, plain_request}
 use Rattle.zx_base.proofs.Options.{none_some}
 use Rattle.zn_ops.specs.Forms.{is_single}
 use Rattle.zn_reads.specs.Deciding.{is_read}

@@ -6,7 +6,7 @@ use Rattle.zx_base.specs.Maps.{Bytes}
 use Rattle.zk_model.specs.declared.reply.Reply.{Reply}
 use Rattle.zk_model.specs.declared.request.Request.TheVariants as req
 use Rattle.zk_model.specs.Watches.{Watches, is_watched, names_children, names_data, no_watches, unwatched}
-use Rattle.zk_transcript.specs.Answers.{names_watches, only, plain_request, told_of_watcher}
+use Rattle.zk_service.specs.Answers.{names_watches, only, plain_request, told_of_watcher}
 
 neither : (a b : Bool) → ((a && false) || (b && false)) ≡ false
 neither true true = refl

@@ -4,7 +4,7 @@ use Rattle.zk_model.specs.declared.reply.Reply.{Reply}
 use Rattle.zk_model.specs.declared.request.Request.{Request}
 use Rattle.zk_model.specs.declared.request.Request.TheVariants as req
 use Rattle.zk_model.specs.Watches.{no_watches}
-use Rattle.zk_transcript.specs.Answers.{Told, told}
+use Rattle.zk_service.specs.Answers.{Told, told}
 
 -- every request but a multi and a closeSession
 abbrev pub is_single : Request → Bool

@@ -3,7 +3,7 @@
 ghost use Rattle.std.specs.Prelude.{◌^◌, ◌<◌, ◌≡◌, ◌≤◌, ◌≤ℤ◌, true, pos, nat_abs, length, None, IfOk};
 ghost use Rattle.zk_model.specs.Limits.{max_frame};
 ghost use Rattle.zk_model.specs.Watches.{no_watches};
-ghost use Rattle.zk_transcript.specs.Answers.{plain_request};
+ghost use Rattle.zk_service.specs.Answers.{plain_request};
 ghost use Rattle.zn_ops.specs.Forms.{is_single};
 ghost use Rattle.zn_layout.specs.Keys.{LeaseKey};
 ghost use Rattle.zn_ops.specs.Deciding.{IsAttachedAt};

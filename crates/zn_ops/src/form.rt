@@ -6,7 +6,7 @@ ghost use Rattle.zk_model.specs.declared.request.Part.TheVariants as part;
 ghost use Rattle.zk_model.specs.Paths.{is_path, root};
 ghost use Rattle.zk_model.specs.Single.{form_refusal, path_refusal};
 ghost use Rattle.zk_model.specs.Watches.{Watches, no_watches};
-ghost use Rattle.zk_transcript.specs.Answers.{names_watches, only, plain_request, told_of_path, told_of_watcher, told_refusal};
+ghost use Rattle.zk_service.specs.Answers.{names_watches, only, plain_request, told_of_path, told_of_watcher, told_refusal};
 ghost use Rattle.zn_ops.specs.Forms.{told_by};
 
 use std::alloc::Global;
@@ -90,7 +90,7 @@ fn unwatched(alloc: Global, text: &[u8], kind: i32) -> Result<Reply, Memory>
 /// flags or access list, a delete of the root, or a multi of more than 24 parts). To a checkWatches or removeWatches it is the
 /// answer where nothing is armed: a connection that has watches armed answers these by them. `None` where the session and the tree
 /// decide.
-#[tactic(auto, unfolding(zk_transcript::specs::Answers::plain_request, zk_model::specs::Single::form_refusal))]
+#[tactic(auto, unfolding(zk_service::specs::Answers::plain_request, zk_model::specs::Single::form_refusal))]
 pub fn plain_reply(alloc: Global, request: &Request) -> Result<Option<Reply>, Memory>
     ensures { IfOk result (λ reply. told_by reply ≡ plain_request no_watches request.now) }
 {

@@ -8,7 +8,7 @@ use Rattle.zx_base.specs.Maps.{Bytes, same}
 use Rattle.zx_base.proofs.MapLaws.{same-true}
 use Rattle.zk_model.specs.Paths.{is_path}
 use Rattle.zk_model.specs.Znodes.{children}
-use Rattle.zk_transcript.specs.History.{State, IsSound}
+use Rattle.zk_service.specs.States.{State, IsSound}
 use Rattle.zn_layout.specs.Keys.{Key, key_bytes}
 use Rattle.zn_layout.specs.Listing.{HasValidPaths}
 use Rattle.zn_layout.specs.StandsFor.{Means, at, stored_of}

@@ -17,7 +17,7 @@ use Rattle.zk_model.specs.declared.reply.PartResult.TheVariants as result
 use Rattle.zk_model.specs.Single.{Refused, Done, matches, path_refusal, form_refusal, single, effect, unless_refused, check}
 use Rattle.zk_model.specs.Watches.{Watches, no_watches}
 use Rattle.zk_model.specs.Znodes.{Tree, stat_of, children, child_names}
-use Rattle.zk_transcript.specs.Answers.{Told, told, about, listing, checked, armed_data, armed_children, fits_reply, tree_reply}
+use Rattle.zk_service.specs.Answers.{Told, told, about, listing, checked, armed_data, armed_children, fits_reply, tree_reply}
 use Rattle.zx_base.specs.Maps.{Bytes}
 use Rattle.zn_view.specs.declared.plan.Arm.{Arm}
 use Rattle.zn_view.specs.declared.plan.Decision.TheVariants.{Answered}

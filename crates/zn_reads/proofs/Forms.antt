@@ -10,7 +10,7 @@ use Rattle.zk_model.specs.Codes.{bad_arguments}
 use Rattle.zk_model.specs.Paths.{is_path}
 use Rattle.zk_model.specs.Single.{form_refusal, path_refusal}
 use Rattle.zk_model.specs.Watches.{no_watches}
-use Rattle.zk_transcript.specs.Answers.{Told, told, told_of_path, told_refusal, plain_request}
+use Rattle.zk_service.specs.Answers.{Told, told, told_of_path, told_refusal, plain_request}
 use Rattle.zn_layout.specs.ReadingSteps.{IsPathOf}
 use Rattle.zn_view.specs.declared.plan.Decision.{Decision}
 use Rattle.zn_view.specs.declared.plan.Decision.TheVariants.{Answered}

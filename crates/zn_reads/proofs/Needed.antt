@@ -10,7 +10,7 @@ use Rattle.zk_model.specs.declared.request.Request.TheVariants as req
 use Rattle.zk_model.specs.Codes.{bad_arguments}
 use Rattle.zk_model.specs.Paths.{is_path}
 use Rattle.zk_model.specs.Watches.{no_watches}
-use Rattle.zk_transcript.specs.Answers.{told, told_of_path, plain_request}
+use Rattle.zk_service.specs.Answers.{told, told_of_path, plain_request}
 use Rattle.zn_layout.specs.Keys.{Key, HeadKey, DataKey, LeaseKey, key_bytes}
 use Rattle.zn_layout.specs.ReadingSteps.{IsPathOf}
 use Rattle.zn_view.specs.declared.plan.Who.{Who}

@@ -10,7 +10,7 @@ use Rattle.zk_model.specs.declared.request.Request.TheVariants as req
 use Rattle.zk_model.specs.Paths.{is_path}
 use Rattle.zk_model.specs.Watches.{valid_at}
 use Rattle.zk_model.specs.Znodes.{num_children}
-use Rattle.zk_transcript.specs.History.{State}
+use Rattle.zk_service.specs.States.{State}
 use Rattle.zn_layout.specs.Keys.{Key, DataKey, CountsKey, key_bytes}
 use Rattle.zn_layout.specs.StandsFor.{DataMeans, CountsMean, stored_of}
 use Rattle.zn_view.specs.declared.plan.Who.{Who}

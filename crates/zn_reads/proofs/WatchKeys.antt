@@ -9,7 +9,7 @@ use Rattle.zx_base.specs.Maps.{Bytes}
 use Rattle.zk_model.specs.declared.request.Request.TheVariants as req
 use Rattle.zk_model.specs.Paths.{is_path}
 use Rattle.zk_model.specs.Watches.{no_watches}
-use Rattle.zk_transcript.specs.Answers.{plain_request}
+use Rattle.zk_service.specs.Answers.{plain_request}
 use Rattle.zn_layout.specs.Keys.{Key, HeadKey, DataKey, LeaseKey, key_bytes}
 use Rattle.zn_layout.specs.ReadingSteps.{IsPathOf}
 use Rattle.zn_view.specs.declared.plan.Who.{Who}

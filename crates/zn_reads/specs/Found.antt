@@ -4,7 +4,7 @@ use Rattle.std.specs.FinMap.{get}
 use Rattle.zk_model.specs.declared.node.Node.{Node}
 use Rattle.zk_model.specs.declared.node.Stat.{Stat}
 use Rattle.zk_model.specs.Znodes.{stat_of, child_names}
-use Rattle.zk_transcript.specs.History.{State, IsSound}
+use Rattle.zk_service.specs.States.{State, IsSound}
 use Rattle.zx_base.specs.Maps.{Bytes}
 use Rattle.zn_layout.specs.declared.test.NodeNumbers.{NodeNumbers}
 use Rattle.zn_layout.specs.declared.record.CountRec.{CountRec}

@@ -7,7 +7,7 @@ use Rattle.zk_model.specs.declared.reply.Reply.{Reply}
 use Rattle.zk_model.specs.declared.reply.Reply.TheVariants as reply
 use Rattle.zk_model.specs.Codes.{no_node, bad_version, system_error}
 use Rattle.zk_model.specs.Single.{matches}
-use Rattle.zk_transcript.specs.Answers.{fits_reply}
+use Rattle.zk_service.specs.Answers.{fits_reply}
 use Rattle.zx_base.specs.Maps.{Bytes}
 use Rattle.zn_view.specs.declared.plan.Arm.{Arm}
 

@@ -3,7 +3,7 @@ use Rattle.std.specs.Prelude.{◌≡◌, nat_abs, Bool, true, cond, List, [], �
 use Rattle.zx_base.specs.Maps.{Bytes}
 use Rattle.zk_model.specs.declared.request.Request.{Request}
 use Rattle.zk_model.specs.Watches.{no_watches}
-use Rattle.zk_transcript.specs.Answers.{plain_request, told_of_path}
+use Rattle.zk_service.specs.Answers.{plain_request, told_of_path}
 use Rattle.zn_layout.specs.Keys.{Key, HeadKey, LeaseKey, key_bytes}
 use Rattle.zn_view.specs.declared.want.Want.{Want}
 use Rattle.zn_view.specs.declared.want.Want.TheVariants as want

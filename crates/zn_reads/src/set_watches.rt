@@ -9,7 +9,7 @@ ghost use Rattle.zk_model.specs.Watches.{Watches, set_watches};
 ghost use Rattle.zk_model.specs.declared.reply.Body.TheVariants as bodies;
 ghost use Rattle.zk_model.specs.declared.reply.Reply.TheVariants as replies;
 ghost use Rattle.zk_model.specs.declared.request.Request.TheVariants as req;
-ghost use Rattle.zk_transcript.specs.History.{State};
+ghost use Rattle.zk_service.specs.States.{State};
 ghost use Rattle.zn_layout.specs.Keys.{key_bytes};
 ghost use Rattle.zn_view.specs.Needs.{LacksNothing};
 ghost use Rattle.zn_reads.specs.SeenPaths.{at_by, changing_key, key_at, put_at, seen_path, seen_paths, IsSetBy};

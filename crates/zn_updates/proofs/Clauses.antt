@@ -11,8 +11,8 @@ use Rattle.zk_model.specs.declared.request.Part.{Part}
 use Rattle.zk_model.specs.declared.request.Request.{Request}
 use Rattle.zk_model.specs.Limits.{max_owned}
 use Rattle.zk_model.specs.Watches.{no_watches}
-use Rattle.zk_transcript.specs.Answers.{plain_request, tree_reply}
-use Rattle.zk_transcript.specs.History.{State, IsSound}
+use Rattle.zk_service.specs.Answers.{plain_request, tree_reply}
+use Rattle.zk_service.specs.States.{State, IsSound}
 use Rattle.zn_layout.specs.Changes.{KeyChange}
 use Rattle.zn_layout.specs.Keys.{Key, LeaseKey, key_bytes}
 use Rattle.zn_view.specs.declared.plan.Decision.{Decision}

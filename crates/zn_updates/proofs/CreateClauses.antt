@@ -23,8 +23,8 @@ use Rattle.zk_model.specs.Znodes.{num_children, owned}
 use Rattle.zk_model.proofs.SequenceParents.{parent-sequence}
 use Rattle.zk_model.proofs.SequencePaths.{sequence-valid}
 use Rattle.zk_model.proofs.ValidPaths.{parent-valid}
-use Rattle.zk_transcript.specs.Answers.{plain_request, told_refusal, tree_reply}
-use Rattle.zk_transcript.specs.History.{State, Session, IsSound, commit, session_at}
+use Rattle.zk_service.specs.Answers.{plain_request, told_refusal, tree_reply}
+use Rattle.zk_service.specs.States.{State, Session, IsSound, commit, session_at}
 use Rattle.zn_layout.specs.declared.record.CountRec.{CountRec}
 use Rattle.zn_layout.specs.Keys.{Key, HeadKey, DataKey, CountsKey, SessionKey, LeaseKey, key_bytes}
 use Rattle.zn_layout.specs.Reading.{IsValueOf}

@@ -11,10 +11,10 @@ use Rattle.zk_model.specs.Limits.{max_creates, max_frame}
 use Rattle.zk_model.specs.Paths.{parent, is_path}
 use Rattle.zk_model.specs.Single.{with_child}
 use Rattle.zk_model.specs.Znodes.{num_children, new_node, owned}
-use Rattle.zk_transcript.specs.History.{State, Session, IsSound, session_at}
+use Rattle.zk_service.specs.States.{State, Session, IsSound, session_at}
 use Rattle.zk_model.proofs.Paths.{apart_from_parent}
-use Rattle.zk_transcript.proofs.Children.{create_tree, create_new, create_parent, create_other, create_count_parent, create_count_other, no_orphans}
-use Rattle.zk_transcript.proofs.Owned.{owned-create_other, not_zero}
+use Rattle.zk_service.proofs.Children.{create_tree, create_new, create_parent, create_other, create_count_parent, create_count_other, no_orphans}
+use Rattle.zk_service.proofs.Owned.{owned-create_other, not_zero}
 use Rattle.zn_layout.specs.declared.record.CountRec.{CountRec}
 use Rattle.zn_layout.specs.Begin.{new_record, first_counts}
 use Rattle.zn_layout.specs.Changes.{Put, last, put_or_else}

@@ -13,8 +13,8 @@ use Rattle.zk_model.specs.Limits.{max_creates, max_frame, max_owned}
 use Rattle.zk_model.specs.Paths.{parent, is_path}
 use Rattle.zk_model.specs.Single.{Outcome, Refused, Done, is_ephemeral, create_node, with_child}
 use Rattle.zk_model.specs.Znodes.{num_children, new_node, owned}
-use Rattle.zk_transcript.specs.History.{State, Session, IsSound, session_at}
-use Rattle.zk_transcript.proofs.Children.{create_tree}
+use Rattle.zk_service.specs.States.{State, Session, IsSound, session_at}
+use Rattle.zk_service.proofs.Children.{create_tree}
 use Rattle.zn_layout.specs.declared.record.CountRec.{CountRec}
 use Rattle.zn_layout.specs.Records.{IsLongCount}
 use Rattle.zn_updates.specs.declared.seen.SeenData.{SeenData}

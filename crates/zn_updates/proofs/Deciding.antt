@@ -16,8 +16,8 @@ use Rattle.zk_model.specs.Limits.{max_owned}
 use Rattle.zk_model.specs.Single.{Outcome, Refused, single}
 use Rattle.zk_model.specs.Watches.{no_watches}
 use Rattle.zk_model.specs.Znodes.{Tree}
-use Rattle.zk_transcript.specs.Answers.{owned_limit_in, refusal_of, tree_reply}
-use Rattle.zk_transcript.specs.History.{State, Session, Commit, IsSound, advanced, commit_single, committed, response_of, session_at}
+use Rattle.zk_service.specs.Answers.{owned_limit_in, refusal_of, tree_reply}
+use Rattle.zk_service.specs.States.{State, Session, Commit, IsSound, advanced, commit_single, committed, response_of, session_at}
 use Rattle.zn_layout.specs.Changes.{KeyChange, Put, last, update_acts}
 use Rattle.zn_layout.specs.Fits.{ChangesFit, KeyFits}
 use Rattle.zn_layout.specs.Keys.{Key, HeadKey, DataKey, CountsKey, SessionKey, LeaseKey, key_bytes}

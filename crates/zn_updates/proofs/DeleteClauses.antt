@@ -20,8 +20,8 @@ use Rattle.zk_model.specs.Single.{Refused, form_refusal, single, effect, delete,
 use Rattle.zk_model.specs.Watches.{no_watches}
 use Rattle.zk_model.specs.Znodes.{owned}
 use Rattle.zk_model.proofs.ValidPaths.{parent-valid}
-use Rattle.zk_transcript.specs.Answers.{plain_request, told_refusal, tree_reply}
-use Rattle.zk_transcript.specs.History.{State, Session, IsSound, commit, session_at}
+use Rattle.zk_service.specs.Answers.{plain_request, told_refusal, tree_reply}
+use Rattle.zk_service.specs.States.{State, Session, IsSound, commit, session_at}
 use Rattle.zn_layout.specs.declared.record.NodeRec.{NodeRec}
 use Rattle.zn_layout.specs.Keys.{Key, HeadKey, DataKey, CountsKey, SessionKey, LeaseKey, key_bytes}
 use Rattle.zn_layout.specs.Reading.{IsValueOf}

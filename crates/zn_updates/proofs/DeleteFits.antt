@@ -10,8 +10,8 @@ use Rattle.zk_model.specs.declared.node.Node.{Node}
 use Rattle.zk_model.specs.Paths.{parent}
 use Rattle.zk_model.specs.Single.{without_child}
 use Rattle.zk_model.specs.Znodes.{num_children, owned}
-use Rattle.zk_transcript.specs.History.{State, Session, IsSound, session_at}
-use Rattle.zk_transcript.proofs.Owned.{not_zero}
+use Rattle.zk_service.specs.States.{State, Session, IsSound, session_at}
+use Rattle.zk_service.proofs.Owned.{not_zero}
 use Rattle.zn_layout.specs.declared.record.CountRec.{CountRec}
 use Rattle.zn_layout.specs.Changes.{Put, last, put_or_else}
 use Rattle.zn_layout.specs.Fits.{KeyFits, ChangesFit}

@@ -13,8 +13,8 @@ use Rattle.zk_model.specs.Codes.{bad_version, not_empty}
 use Rattle.zk_model.specs.Paths.{parent}
 use Rattle.zk_model.specs.Single.{Outcome, Refused, Done, matches, delete, removed, removed_under, removal, removal_under, at_parent, without_child}
 use Rattle.zk_model.specs.Znodes.{Tree, num_children, owned}
-use Rattle.zk_transcript.specs.History.{State, IsSound, HasPlain}
-use Rattle.zk_transcript.proofs.Children.{not_root}
+use Rattle.zk_service.specs.States.{State, IsSound, HasPlain}
+use Rattle.zk_service.proofs.Children.{not_root}
 use Rattle.zn_layout.specs.declared.record.CountRec.{CountRec}
 use Rattle.zn_updates.specs.declared.seen.SeenData.{SeenData}
 use Rattle.zn_updates.specs.declared.seen.SeenCounts.{SeenCounts}

@@ -7,7 +7,7 @@ use Rattle.zk_model.specs.declared.node.Node.{Node}
 use Rattle.zk_model.specs.Paths.{parent, is_child}
 use Rattle.zk_model.specs.Znodes.{Tree, below, num_children}
 use Rattle.zk_model.proofs.Paths.{is_child-yes, is_child-no, apart_from_parent}
-use Rattle.zk_transcript.proofs.Children.{get-below_child, num_children-change}
+use Rattle.zk_service.proofs.Children.{get-below_child, num_children-change}
 
 num_children-less : (t : Tree) (q : Bytes) (old : Node) (p : Bytes) → get t q ≡ Some old → parent q ≡ Some p → num_children (remove t q) p ≡ num_children t p - 1
 num_children-less t q old p there h =

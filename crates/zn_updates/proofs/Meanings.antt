@@ -7,7 +7,7 @@ use Rattle.std.proofs.lemmas.Int.{ints}
 use Rattle.std.proofs.lemmas.Bool.Decides.{Decides-int_eq}
 use Rattle.zx_base.specs.Maps.{Bytes}
 use Rattle.zk_model.specs.declared.node.Node.{Node}
-use Rattle.zk_transcript.specs.History.{Session}
+use Rattle.zk_service.specs.States.{Session}
 use Rattle.zn_layout.specs.Records.{node_value, counts_value, IsLongCount, IsNodeRec, IsCountRec}
 use Rattle.zn_layout.specs.StandsFor.{Stored, data_record, DataMeans, CountsMean, NodesMean}
 

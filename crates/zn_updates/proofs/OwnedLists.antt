@@ -14,8 +14,8 @@ use Rattle.zx_base.proofs.MapLaws.{either, ext, same-refl, same-false, get-inser
 use Rattle.zk_model.specs.declared.node.Node.{Node}
 use Rattle.zk_model.specs.Paths.{parent}
 use Rattle.zk_model.specs.Znodes.{Tree, is_owner, owned_by, owned}
-use Rattle.zk_transcript.proofs.Children.{create_tree, create_new, create_parent, create_other}
-use Rattle.zk_transcript.proofs.Owned.{get-owned_as}
+use Rattle.zk_service.proofs.Children.{create_tree, create_new, create_parent, create_other}
+use Rattle.zk_service.proofs.Owned.{get-owned_as}
 use Rattle.zn_updates.specs.OwnedLists.{placed, without}
 use Rattle.zn_updates.proofs.Deleting.{delete_tree, delete_gone, delete_parent, delete_other}
 

@@ -14,7 +14,7 @@ use Rattle.zk_model.specs.Limits.{max_frame, max_owned}
 use Rattle.zk_model.specs.PathFaults.{is_valid}
 use Rattle.zk_model.specs.Paths.{is_path, parent, root}
 use Rattle.zk_model.specs.Single.{Refused, Done, check, effect, form_refusal, is_ephemeral, is_sequential, matches, named, path_refusal, single, unless_refused}
-use Rattle.zk_transcript.specs.History.{State}
+use Rattle.zk_service.specs.States.{State}
 use Rattle.zn_layout.specs.Fits.{ChangesFit}
 use Rattle.zn_layout.specs.Keys.{Key, HeadKey, DataKey, CountsKey, SessionKey, LeaseKey, key_bytes}
 use Rattle.zn_layout.specs.Records.{IsLongCount}

@@ -5,8 +5,8 @@ use Rattle.ev_types.specs.Reads.{read_key}
 use Rattle.zk_model.specs.declared.reply.Reply.TheVariants as reply
 use Rattle.zk_model.specs.declared.request.Request.{Request}
 use Rattle.zk_model.specs.Watches.{no_watches}
-use Rattle.zk_transcript.specs.Answers.{Told, plain_request, told_refusal}
-use Rattle.zk_transcript.specs.History.{response_of}
+use Rattle.zk_service.specs.Answers.{Told, plain_request, told_refusal}
+use Rattle.zk_service.specs.States.{response_of}
 use Rattle.zn_layout.specs.Changes.{KeyChange, act_of, acts_of, head_put, update_acts}
 use Rattle.zn_layout.specs.Keys.{HeadKey, key_bytes}
 use Rattle.zn_view.specs.declared.plan.Decision.{Decision}

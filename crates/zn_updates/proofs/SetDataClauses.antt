@@ -14,8 +14,8 @@ use Rattle.zk_model.specs.Limits.{max_frame, max_owned, max_version}
 use Rattle.zk_model.specs.Paths.{is_path}
 use Rattle.zk_model.specs.Single.{form_refusal, single, effect, set_data, unless_refused, matches}
 use Rattle.zk_model.specs.Watches.{no_watches}
-use Rattle.zk_transcript.specs.Answers.{plain_request, told_refusal, tree_reply}
-use Rattle.zk_transcript.specs.History.{State, commit}
+use Rattle.zk_service.specs.Answers.{plain_request, told_refusal, tree_reply}
+use Rattle.zk_service.specs.States.{State, commit}
 use Rattle.zn_layout.specs.Keys.{Key, HeadKey, DataKey, CountsKey, LeaseKey, key_bytes}
 use Rattle.zn_layout.specs.Records.{IsHeadRec}
 use Rattle.zn_layout.proofs.Paths.{path_short}

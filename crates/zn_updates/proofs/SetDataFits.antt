@@ -9,8 +9,8 @@ use Rattle.zk_model.specs.declared.node.Node.{Node}
 use Rattle.zk_model.specs.Limits.{max_frame, max_version}
 use Rattle.zk_model.specs.Single.{with_content}
 use Rattle.zk_model.specs.Znodes.{num_children, owned}
-use Rattle.zk_transcript.specs.History.{State, session_at}
-use Rattle.zk_transcript.proofs.Children.{num_children-change}
+use Rattle.zk_service.specs.States.{State, session_at}
+use Rattle.zk_service.proofs.Children.{num_children-change}
 use Rattle.zn_layout.specs.Changes.{last}
 use Rattle.zn_layout.specs.Fits.{KeyFits, ChangesFit}
 use Rattle.zn_layout.specs.Keys.{Key, HeadKey, DataKey, CountsKey, SessionKey, LeaseKey}

@@ -11,7 +11,7 @@ use Rattle.zk_model.specs.Codes.{bad_version, system_error}
 use Rattle.zk_model.specs.Limits.{max_frame, max_version}
 use Rattle.zk_model.specs.Single.{Outcome, Refused, Done, matches, set_data, with_content}
 use Rattle.zk_model.specs.Znodes.{num_children, stat_of}
-use Rattle.zk_transcript.specs.History.{State}
+use Rattle.zk_service.specs.States.{State}
 use Rattle.zn_layout.specs.declared.record.CountRec.{CountRec}
 use Rattle.zn_view.specs.Needs.{own_stat}
 use Rattle.zn_updates.specs.declared.seen.SeenData.{SeenData}

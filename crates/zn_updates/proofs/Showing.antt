@@ -6,7 +6,7 @@ use Rattle.ev_types.specs.declared.answer.Kv.{Kv}
 use Rattle.zx_base.specs.Maps.{Bytes}
 use Rattle.zk_model.specs.declared.node.Node.{Node}
 use Rattle.zk_model.specs.Znodes.{num_children, owned}
-use Rattle.zk_transcript.specs.History.{State, Session, session_at}
+use Rattle.zk_service.specs.States.{State, Session, session_at}
 use Rattle.zn_layout.specs.Keys.{HeadKey, DataKey, CountsKey, SessionKey}
 use Rattle.zn_layout.specs.StandsFor.{DataMeans, NodesMean}
 use Rattle.zn_view.specs.Lookups.{sees}

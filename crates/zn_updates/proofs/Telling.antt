@@ -8,7 +8,7 @@ use Rattle.ev_types.specs.Ranges.{Keys}
 use Rattle.ev_types.specs.Store.{last_revision}
 use Rattle.zx_base.specs.Maps.{Bytes}
 use Rattle.zk_model.specs.declared.node.Node.{Node}
-use Rattle.zk_transcript.specs.History.{State, Session}
+use Rattle.zk_service.specs.States.{State, Session}
 use Rattle.zn_layout.specs.declared.record.NodeRec.{NodeRec}
 use Rattle.zn_layout.specs.Keys.{Key, HeadKey, key_bytes}
 use Rattle.zn_layout.specs.Records.{IsLongCount, IsCountRec}

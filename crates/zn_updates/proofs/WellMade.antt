@@ -14,7 +14,7 @@ use Rattle.zk_model.specs.Limits.{max_creates, max_frame, max_owned, max_version
 use Rattle.zk_model.specs.Paths.{is_path, parent}
 use Rattle.zk_model.specs.Single.{matches}
 use Rattle.zk_model.proofs.ValidPaths.{parent-valid}
-use Rattle.zk_transcript.specs.History.{State, IsSound}
+use Rattle.zk_service.specs.States.{State, IsSound}
 use Rattle.zn_layout.specs.declared.record.CountRec.{CountRec}
 use Rattle.zn_layout.specs.Begin.{new_record, first_counts}
 use Rattle.zn_layout.specs.Changes.{KeyChange, are_distinct, change_size, delete_key, head_put, put_key}

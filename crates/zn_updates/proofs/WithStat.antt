@@ -15,8 +15,8 @@ use Rattle.zk_model.specs.declared.request.Request.{Request}
 use Rattle.zk_model.specs.declared.request.Request.TheVariants as req
 use Rattle.zk_model.specs.Single.{Outcome, Refused, Done, single}
 use Rattle.zk_model.specs.Watches.{no_watches}
-use Rattle.zk_transcript.specs.Answers.{Told, plain_request, tree_reply}
-use Rattle.zk_transcript.specs.History.{State, Commit, body_with_stat, commit, commit_single, commit_with_stat, committed, limit_of, made_stat, response_of}
+use Rattle.zk_service.specs.Answers.{Told, plain_request, tree_reply}
+use Rattle.zk_service.specs.States.{State, Commit, body_with_stat, commit, commit_single, commit_with_stat, committed, limit_of, made_stat, response_of}
 use Rattle.zn_layout.specs.StandsFor.{StandsFor}
 use Rattle.zn_view.specs.declared.plan.Decision.{Decision}
 use Rattle.zn_view.specs.declared.plan.Decision.TheVariants.{Answered, Planned, Expired, Moved}

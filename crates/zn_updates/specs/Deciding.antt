@@ -8,8 +8,8 @@ use Rattle.zk_model.specs.declared.request.Request.TheVariants as req
 use Rattle.zk_model.specs.declared.node.Trigger.{Trigger}
 use Rattle.zk_model.specs.Watches.{no_watches}
 use Rattle.std.specs.Prelude.{List, [], Bool, true, false, pos, if◌then◌else◌}
-use Rattle.zk_transcript.specs.Answers.{plain_request, tree_reply}
-use Rattle.zk_transcript.specs.History.{State, Session, IsSound, limit_of, response_of, session_at}
+use Rattle.zk_service.specs.Answers.{plain_request, tree_reply}
+use Rattle.zk_service.specs.States.{State, Session, IsSound, limit_of, response_of, session_at}
 use Rattle.zn_layout.specs.Changes.{KeyChange, update_acts}
 use Rattle.zn_layout.specs.Keys.{Key, DataKey, CountsKey, SessionKey, LeaseKey, key_bytes}
 use Rattle.zn_view.specs.declared.plan.Decision.{Decision}

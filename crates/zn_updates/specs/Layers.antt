@@ -5,7 +5,7 @@ use Rattle.ev_types.specs.Store.{last_revision}
 use Rattle.zk_model.specs.declared.request.Part.{Part}
 use Rattle.zk_model.specs.Limits.{max_owned}
 use Rattle.zk_model.specs.Single.{single}
-use Rattle.zk_transcript.specs.History.{State, Session, IsSound, session_at}
+use Rattle.zk_service.specs.States.{State, Session, IsSound, session_at}
 use Rattle.zn_layout.specs.Keys.{Key, HeadKey, key_bytes}
 use Rattle.zn_layout.specs.StandsFor.{Stored, Means}
 use Rattle.zn_view.specs.declared.plan.Who.{Who}

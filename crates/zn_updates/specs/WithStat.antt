@@ -2,7 +2,7 @@
 use Rattle.zk_model.specs.declared.node.Stat.{Stat}
 use Rattle.zk_model.specs.declared.reply.Reply.{Reply}
 use Rattle.zk_model.specs.declared.reply.Reply.TheVariants as reply
-use Rattle.zk_transcript.specs.History.{body_with_stat}
+use Rattle.zk_service.specs.States.{body_with_stat}
 use Rattle.zn_view.specs.declared.plan.Decision.{Decision}
 use Rattle.zn_view.specs.declared.plan.Decision.TheVariants.{Answered, Planned, Expired, Moved}
 use Rattle.zn_view.specs.declared.plan.Plan.{Plan}

@@ -4,7 +4,7 @@ ghost use Rattle.std.specs.Prelude.{◌≡◌, ◌≤◌, ◌<◌, ◌^◌, ◌�
 ghost use Rattle.zx_base.specs.Maps.{Bytes as ByteList};
 ghost use Rattle.zk_model.specs.declared.request.Request.TheVariants as req;
 ghost use Rattle.zk_model.specs.Limits.{max_frame};
-ghost use Rattle.zk_transcript.specs.History.{body_with_stat, made_stat};
+ghost use Rattle.zk_service.specs.States.{body_with_stat, made_stat};
 ghost use Rattle.zn_view.specs.Deciding.{IfPlanned, IsToldByForm, is_by_tree};
 ghost use Rattle.zn_view.specs.Needs.{AreNeeds, IsWhole};
 ghost use Rattle.zn_updates.specs.Deciding.{IsBySound, IsGuarded};

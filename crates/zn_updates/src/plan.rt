@@ -2,7 +2,7 @@
 
 ghost use Rattle.std.specs.Prelude.{◌≡◌, ◌∷◌, [], ◌++◌, IfOk};
 ghost use Rattle.ev_types.specs.Reads.{read_key};
-ghost use Rattle.zk_transcript.specs.History.{response_of};
+ghost use Rattle.zk_service.specs.States.{response_of};
 ghost use Rattle.zn_layout.specs.Changes.{act_of, head_put};
 ghost use Rattle.zn_layout.specs.Keys.{HeadKey, key_bytes};
 ghost use Rattle.zn_layout.specs.Records.{IsHeadRec};

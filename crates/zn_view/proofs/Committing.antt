@@ -9,7 +9,7 @@ use Rattle.zk_model.specs.declared.node.Trigger.{Trigger}
 use Rattle.zk_model.specs.declared.reply.Reply.{Reply}
 use Rattle.zk_model.specs.declared.request.Request.{Request}
 use Rattle.zk_model.specs.declared.request.Request.TheVariants as req
-use Rattle.zk_transcript.specs.History.{State, Commit, IsSound, committed}
+use Rattle.zk_service.specs.States.{State, Commit, IsSound, committed}
 use Rattle.zn_layout.specs.Changes.{KeyChange, last, update_acts}
 use Rattle.zn_layout.specs.Fits.{IsNextState}
 use Rattle.zn_layout.specs.Keys.{HeadKey}

@@ -8,7 +8,7 @@ use Rattle.ev_types.specs.declared.answer.Kv.{Kv}
 use Rattle.ev_types.specs.declared.ask.Guard.{Guard}
 use Rattle.ev_types.specs.Ranges.{Keys}
 use Rattle.ev_types.specs.Store.{acts_applied, mod_of}
-use Rattle.zk_transcript.specs.History.{State, IsSound}
+use Rattle.zk_service.specs.States.{State, IsSound}
 use Rattle.zx_base.specs.Maps.{Bytes, same}
 use Rattle.zx_base.proofs.MapLaws.{apart-from_same}
 use Rattle.zn_layout.specs.Keys.{HeadKey, key_bytes}

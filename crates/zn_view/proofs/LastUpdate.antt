@@ -3,7 +3,7 @@ use Rattle.std.proofs.Common.{◌≡◌, pos, refl, subst}
 use Rattle.std.specs.Prelude.{Option, Some, None}
 use Rattle.ev_types.specs.declared.answer.Kv.{Kv}
 use Rattle.ev_types.specs.Ranges.{Keys}
-use Rattle.zk_transcript.specs.History.{State}
+use Rattle.zk_service.specs.States.{State}
 use Rattle.zn_layout.specs.Keys.{HeadKey, key_bytes}
 use Rattle.zn_layout.specs.StandsFor.{StandsFor, HeadMeans}
 use Rattle.zn_view.specs.Seen.{View, seen, found_of, head_of, head_zxid, head_number}

@@ -5,7 +5,7 @@ use Rattle.std.proofs.lemmas.List.Elements.{All-head, All-tail}
 use Rattle.ev_types.specs.Ranges.{Keys}
 use Rattle.zk_model.specs.Paths.{is_path}
 use Rattle.zk_model.specs.Znodes.{children}
-use Rattle.zk_transcript.specs.History.{State, IsSound}
+use Rattle.zk_service.specs.States.{State, IsSound}
 use Rattle.zx_base.specs.Maps.{Bytes, same}
 use Rattle.zx_base.proofs.MapLaws.{same-true}
 use Rattle.zn_layout.specs.Listing.{child_front, HasValidPaths}

@@ -7,8 +7,8 @@ use Rattle.ev_types.specs.declared.answer.Kv.{Kv}
 use Rattle.ev_types.specs.Ranges.{Keys}
 use Rattle.zk_model.specs.declared.request.Request.{Request}
 use Rattle.zk_model.specs.Watches.{no_watches}
-use Rattle.zk_transcript.specs.Answers.{Told, plain_request, tree_reply}
-use Rattle.zk_transcript.specs.History.{State, Session, IsSound, limit_of, session_at}
+use Rattle.zk_service.specs.Answers.{Told, plain_request, tree_reply}
+use Rattle.zk_service.specs.States.{State, Session, IsSound, limit_of, session_at}
 use Rattle.zn_layout.specs.Keys.{LeaseKey, key_bytes}
 use Rattle.zn_layout.specs.StandsFor.{StandsFor, LifeMeans, at, stored_of}
 use Rattle.zn_view.specs.declared.plan.Decision.{Decision}

@@ -3,7 +3,7 @@ use Rattle.std.proofs.Common.{◌≡◌, ◌≢◌, List, [], Some, None, refl, 
 use Rattle.std.specs.Prelude.{AllPairs, Contains, map}
 use Rattle.zk_model.specs.declared.request.Request.{Request}
 use Rattle.zk_model.specs.Watches.{no_watches}
-use Rattle.zk_transcript.specs.Answers.{Told, plain_request}
+use Rattle.zk_service.specs.Answers.{Told, plain_request}
 use Rattle.zx_base.proofs.Options.{none_some}
 use Rattle.zn_layout.specs.Keys.{Key, key_bytes}
 use Rattle.zn_view.specs.declared.plan.Who.{Who}

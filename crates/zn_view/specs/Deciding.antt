@@ -7,8 +7,8 @@ use Rattle.ev_types.specs.Denials.{is_denied}
 use Rattle.ev_types.specs.Store.{Store, revision, last_revision}
 use Rattle.zk_model.specs.declared.request.Request.{Request}
 use Rattle.zk_model.specs.Watches.{no_watches}
-use Rattle.zk_transcript.specs.Answers.{Told, plain_request}
-use Rattle.zk_transcript.specs.History.{State, IsSound}
+use Rattle.zk_service.specs.Answers.{Told, plain_request}
+use Rattle.zk_service.specs.States.{State, IsSound}
 use Rattle.zn_layout.specs.Keys.{LeaseKey}
 use Rattle.zn_view.specs.declared.plan.Decision.{Decision}
 use Rattle.zn_view.specs.declared.plan.Decision.TheVariants.{Answered, Planned, Expired, Moved}

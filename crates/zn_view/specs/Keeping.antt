@@ -10,7 +10,7 @@ use Rattle.ev_types.specs.Store.{put_over}
 use Rattle.zk_model.specs.declared.request.Request.{Request}
 use Rattle.zk_model.specs.declared.request.Request.TheVariants as req
 use Rattle.zk_model.specs.Single.{is_sequential}
-use Rattle.zk_transcript.specs.History.{State, IsSound}
+use Rattle.zk_service.specs.States.{State, IsSound}
 use Rattle.zx_base.specs.Maps.{Bytes}
 use Rattle.zn_layout.specs.Keys.{HeadKey, key_bytes}
 use Rattle.zn_layout.specs.StandsFor.{StandsFor}

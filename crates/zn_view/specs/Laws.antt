@@ -6,7 +6,7 @@ use Rattle.ev_types.specs.declared.answer.ActAns.{ActAns}
 use Rattle.ev_types.specs.declared.answer.Kv.{Kv}
 use Rattle.ev_types.specs.Ranges.{Keys}
 use Rattle.ev_types.specs.Store.{Store, acts_applied, holds, present, revision}
-use Rattle.zk_transcript.specs.History.{Session}
+use Rattle.zk_service.specs.States.{Session}
 use Rattle.zn_layout.specs.Keys.{HeadKey, LeaseKey, key_bytes}
 use Rattle.zn_view.specs.declared.plan.Plan.{Plan}
 use Rattle.zn_view.specs.declared.plan.Who.{Who}

@@ -19,8 +19,8 @@ use Rattle.zk_model.specs.declared.request.Request.TheVariants as req
 use Rattle.zk_model.specs.Paths.{is_path, parent}
 use Rattle.zk_model.specs.Single.{form_refusal, is_ephemeral, is_sequential, named}
 use Rattle.zk_model.specs.Watches.{Watches, no_watches, arm_data, arm_children}
-use Rattle.zk_transcript.specs.Answers.{Told, owned_limit_in, plain_request, tree_reply}
-use Rattle.zk_transcript.specs.History.{State, Session, Commit, IsSound, commit, committed, limit_of, session_at, session_ended}
+use Rattle.zk_service.specs.Answers.{Told, owned_limit_in, plain_request, tree_reply}
+use Rattle.zk_service.specs.States.{State, Session, Commit, IsSound, commit, committed, limit_of, session_at, session_ended}
 use Rattle.zx_base.specs.Maps.{Bytes}
 use Rattle.zn_layout.specs.Changes.{KeyChange}
 use Rattle.zn_layout.specs.Fits.{ChangesFit}

@@ -5,7 +5,8 @@ ghost use Rattle.zk_transcript.specs.History.{updates as updates_of};
 ghost use Rattle.zp_clients.specs.Summaries.{count_text, sends_notice, sends_refusal, sends_reply, summary_of, summary_text};
 
 use crate::sent::{is_notice, is_refusal, is_reply};
-use zk_transcript::{TranscriptLine, UpdateRec};
+use zk_service::UpdateRec;
+use zk_transcript::TranscriptLine;
 use zt_text::push_number;
 use zx_base::Memory;
 

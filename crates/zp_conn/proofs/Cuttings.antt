@@ -6,8 +6,8 @@ use Rattle.std.proofs.lemmas.List.{map-append}
 use Rattle.std.proofs.lemmas.List.Elements.{Contains-append_left}
 use Rattle.ev_types.specs.declared.answer.Answer.{Answer}
 use Rattle.ev_types.specs.declared.ask.Ask.{Ask}
-use Rattle.zk_transcript.specs.declared.transcript.Cause.{Cause}
-use Rattle.zk_transcript.specs.declared.transcript.Cause.TheVariants as cause
+use Rattle.zk_service.specs.declared.cause.Cause.{Cause}
+use Rattle.zk_service.specs.declared.cause.Cause.TheVariants as cause
 use Rattle.zs_session.specs.declared.connect.Fresh.{Fresh}
 use Rattle.zx_base.specs.declared.memory.Memory.{Memory}
 use Rattle.zx_outside.specs.Counts.{one_more}

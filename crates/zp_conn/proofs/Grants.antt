@@ -4,7 +4,7 @@ use Rattle.std.specs.Prelude.{Some, None, Option, IfSome, MatchBool, pos, â„¤, â
 use Rattle.std.proofs.lemmas.Int.{ints}
 use Rattle.ev_call.specs.Asks.{IsGrantable}
 use Rattle.ev_types.specs.declared.ask.Ask.{Ask}
-use Rattle.zk_transcript.specs.History.{granted_timeout}
+use Rattle.zk_service.specs.States.{granted_timeout}
 use Rattle.zs_session.specs.Connecting.{asked_in_phase}
 use Rattle.zs_session.specs.Sessions.{lease_seconds}
 use Rattle.zs_session.specs.declared.connect.Connect.{Connect}

@@ -1,7 +1,7 @@
 -- Packets, one after the other.
 use Rattle.std.proofs.Common.{◌≡◌, ℕ, List, [], ◌∷◌, ◌++◌, Bool, true, false, refl, sym, ap, ◌∙◌, subst, append-nil, append_assoc, map}
 use Rattle.std.specs.Prelude.{Option, Some, None, Result, Ok, Err, flat_map}
-use Rattle.zk_transcript.specs.declared.transcript.Cause.{Cause}
+use Rattle.zk_service.specs.declared.cause.Cause.{Cause}
 use Rattle.ev_types.specs.declared.ask.Ask.{Ask}
 use Rattle.zx_base.specs.declared.memory.Memory.{Memory}
 use Rattle.zp_step.specs.declared.action.Action.{Action}

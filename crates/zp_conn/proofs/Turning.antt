@@ -4,7 +4,7 @@ use Rattle.std.specs.Prelude.{◌⊎◌, ◌+ℤ◌, ◌<ℤ◌, Option, Some, N
 use Rattle.std.specs.Arc.{arc_value}
 use Rattle.std.proofs.lemmas.List.{map-append}
 use Rattle.std.proofs.lemmas.Option.{slice_get_within}
-use Rattle.zk_transcript.proofs.Ordered.{slice_get-take}
+use Rattle.zx_base.proofs.Lists.{slice_get-take}
 use Rattle.std.proofs.lemmas.List.Elements.{All-cons, All-nil, Contains-append_cases, Contains-append_left, Contains-push_cases, filter_map-append}
 use Rattle.ev_types.specs.declared.answer.Answer.{Answer}
 use Rattle.ev_types.specs.declared.ask.Ask.{Ask}
@@ -15,8 +15,8 @@ use Rattle.ev_call.specs.declared.etcd.CallFault.TheVariants as fault
 use Rattle.zk_jute.specs.Frames.{IsFrame}
 use Rattle.zk_jute.specs.JuteValues.{Spelled}
 use Rattle.zk_model.specs.Limits.{max_frame}
-use Rattle.zk_transcript.specs.declared.transcript.Cause.{Cause}
-use Rattle.zk_transcript.specs.declared.transcript.Cause.TheVariants as cause
+use Rattle.zk_service.specs.declared.cause.Cause.{Cause}
+use Rattle.zk_service.specs.declared.cause.Cause.TheVariants as cause
 use Rattle.zn_layout.specs.declared.entry.Entry.{Entry}
 use Rattle.zs_session.specs.declared.connect.Fresh.{Fresh}
 use Rattle.zw_hub.specs.Feeds.{IsFed, IsOneRead, if_closed, if_lagged}

@@ -1,8 +1,8 @@
 -- What cuts a connection off is counted.
 use Rattle.std.proofs.Common.{◌≡◌, ℕ, ◌+◌, ◌<◌, ◌≤◌, ◌^◌, true, refl, inl, inr, arith}
 use Rattle.std.specs.Prelude.{◌⊎◌}
-use Rattle.zk_transcript.specs.declared.transcript.Cause.{Cause}
-use Rattle.zk_transcript.specs.declared.transcript.Cause.TheVariants as cause
+use Rattle.zk_service.specs.declared.cause.Cause.{Cause}
+use Rattle.zk_service.specs.declared.cause.Cause.TheVariants as cause
 use Rattle.zs_session.specs.declared.connect.Fresh.{Fresh}
 use Rattle.zp_conn.specs.Serving.{IsEndedFor, Rose, Serves, Told}
 use Rattle.zp_conn.specs.Uncut.{IsFedOn, IsStill, IsUncut, is_own, is_own_or_fed}

@@ -6,9 +6,9 @@ use Rattle.zk_jute.specs.Requests.{read_request}
 use Rattle.zk_model.specs.declared.connect.ConnectResponse.{ConnectResponse}
 use Rattle.zk_model.specs.declared.reply.Notice.{Notice}
 use Rattle.zk_model.specs.declared.reply.Reply.{Reply}
-use Rattle.zk_transcript.specs.Answers.{xid_of}
-use Rattle.zk_transcript.specs.declared.transcript.Cause.{Cause}
-use Rattle.zk_transcript.specs.declared.transcript.Cause.TheVariants as cause
+use Rattle.zk_service.specs.Answers.{xid_of}
+use Rattle.zk_service.specs.declared.cause.Cause.{Cause}
+use Rattle.zk_service.specs.declared.cause.Cause.TheVariants as cause
 use Rattle.zp_step.specs.Stages.{Stage, Unconnected, Connecting, Ready, KeepingAlive, Checking, Reading, Committing, Waiting, Shut}
 
 -- ---- packets

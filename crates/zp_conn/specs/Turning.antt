@@ -7,8 +7,8 @@ use Rattle.ev_call.specs.Fitting.{Fits}
 use Rattle.ev_call.specs.declared.etcd.CallFault.{CallFault}
 use Rattle.ev_call.specs.declared.etcd.CallFault.TheVariants as fault
 use Rattle.zk_model.specs.Limits.{max_long}
-use Rattle.zk_transcript.specs.declared.transcript.Cause.{Cause}
-use Rattle.zk_transcript.specs.declared.transcript.Cause.TheVariants as cause
+use Rattle.zk_service.specs.declared.cause.Cause.{Cause}
+use Rattle.zk_service.specs.declared.cause.Cause.TheVariants as cause
 use Rattle.zn_layout.specs.declared.entry.Entry.{Entry}
 use Rattle.zs_session.specs.declared.connect.Fresh.{Fresh}
 use Rattle.zw_hub.specs.Feeds.{IsFed, IsOneRead, if_closed, if_lagged}

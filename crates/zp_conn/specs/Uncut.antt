@@ -1,7 +1,7 @@
 -- What ends a connection that nobody cuts off.
 use Rattle.std.specs.Prelude.{◌≡◌, ℕ, ◌+◌, ◌<◌, ◌^◌, Bool, true, false}
-use Rattle.zk_transcript.specs.declared.transcript.Cause.{Cause}
-use Rattle.zk_transcript.specs.declared.transcript.Cause.TheVariants as cause
+use Rattle.zk_service.specs.declared.cause.Cause.{Cause}
+use Rattle.zk_service.specs.declared.cause.Cause.TheVariants as cause
 use Rattle.zs_session.specs.declared.connect.Fresh.{Fresh}
 use Rattle.zp_conn.specs.Serving.{Serves, Told}
 

@@ -10,7 +10,7 @@ use crate::inbox::{Came, Inbox};
 use crate::telling::{TellsFeed, TellsInputs, TellsLink};
 use ev_call::{CallFault, Etcd};
 use ev_types::Ask;
-use zk_transcript::Cause;
+use zk_service::Cause;
 use zp_core::{Core, Input, Wants};
 use zw_hub::{Fed, Feed};
 use zx_outside::Source;

@@ -39,6 +39,6 @@ pub use bells::Belled;
 pub use laws::what_ends_uncut_connections;
 pub use serving::serve_connection;
 pub use telling::{TellsAll, TellsFeed, TellsInputs, TellsLink, TellsSink, TellsSource};
-pub use zk_transcript::Cause;
+pub use zk_service::Cause;
 pub use zp_core::Fresh;
 pub use zp_run::{Event, ListTrace, NoTrace, Trace};

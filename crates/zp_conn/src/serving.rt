@@ -16,7 +16,7 @@ use ev_call::Etcd;
 use ev_types::Ask;
 use std::alloc::Global;
 use std::sync::Wait;
-use zk_transcript::Cause;
+use zk_service::Cause;
 use zp_core::{Core, Fresh, Wants};
 use zp_run::Trace;
 use zw_hub::Feed;

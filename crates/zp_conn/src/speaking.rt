@@ -7,7 +7,7 @@ ghost use Rattle.zp_conn.specs.Speaking.{IsSpeaking, Says, Speaks};
 use crate::outbox::Outbox;
 use ev_types::Ask;
 use std::collections::VecDeque;
-use zk_transcript::Cause;
+use zk_service::Cause;
 use zp_run::{Event, Trace};
 use zp_step::Action;
 use zx_base::{Bytes, Memory};

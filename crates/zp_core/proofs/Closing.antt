@@ -2,7 +2,7 @@
 use Rattle.std.proofs.Common.{◌≡◌, ℕ, List, ap, subst, sym}
 use Rattle.std.specs.Prelude.{Some, IfOk, Result}
 use Rattle.std.specs.Arc.{arc_value}
-use Rattle.zk_transcript.specs.declared.transcript.Cause.{Cause}
+use Rattle.zk_service.specs.declared.cause.Cause.{Cause}
 use Rattle.zn_layout.specs.declared.entry.Entry.{Entry}
 use Rattle.zx_base.specs.declared.memory.Memory.{Memory}
 use Rattle.zx_base.proofs.Options.{none_some, some_is}

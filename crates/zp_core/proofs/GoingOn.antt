@@ -4,7 +4,7 @@ use Rattle.std.specs.Prelude.{◌⊎◌, Option, Some, None, All, MatchBool, if�
 use Rattle.std.proofs.lemmas.List.Elements.{All-head, All-same, All-tail}
 use Rattle.zk_jute.specs.Requests.{Frame, NoHeader, Unreadable, Unknown, Asks, read_request}
 use Rattle.zk_model.specs.declared.request.Request.{Request}
-use Rattle.zk_transcript.specs.Answers.{Told, plain_reply, xid_of}
+use Rattle.zk_service.specs.Answers.{Told, plain_reply, xid_of}
 use Rattle.zn_view.specs.Keeping.{update_path}
 use Rattle.zn_view.specs.Seen.{View, empty_view}
 use Rattle.zn_view.specs.declared.plan.Decision.{Decision}

@@ -7,7 +7,7 @@ use Rattle.zk_jute.specs.JuteReading.{Read, front_int}
 use Rattle.zk_jute.specs.Numbers.{opcode_numbered}
 use Rattle.zk_jute.specs.Requests.{asked_as, frame_of_kind, read_request, whole_at}
 use Rattle.zk_model.specs.declared.request.Request.{Request}
-use Rattle.zk_transcript.specs.Walks.{has_header}
+use Rattle.zk_service.specs.Answers.{has_header}
 
 asked-headed : (xid : ℤ) (size : ℕ) (r : Read Request) → has_header (asked_as xid size r) ≡ true
 asked-headed xid size (Ok x) = refl

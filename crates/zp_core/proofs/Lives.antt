@@ -5,7 +5,7 @@ use Rattle.std.specs.Prelude.{Option, Some, None, MatchBool, option_map}
 use Rattle.std.specs.Ordering.{int_eq}
 use Rattle.ev_types.specs.declared.answer.Kv.{Kv}
 use Rattle.zk_jute.specs.Requests.{read_request}
-use Rattle.zk_transcript.specs.Answers.{xid_of}
+use Rattle.zk_service.specs.Answers.{xid_of}
 use Rattle.zn_view.specs.Seen.{View}
 use Rattle.zx_base.proofs.Options.{none_some, some_is, some_none}
 use Rattle.zp_step.specs.declared.action.Action.{Action}

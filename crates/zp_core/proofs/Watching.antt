@@ -10,8 +10,8 @@ use Rattle.zk_model.specs.declared.request.Request.TheVariants as req
 use Rattle.zk_model.specs.Codes.{bad_arguments, no_watcher}
 use Rattle.zk_model.specs.Paths.{is_path}
 use Rattle.zk_model.specs.Watches.{Watches, is_watched, is_watcher_type, no_watches}
-use Rattle.zk_transcript.specs.Answers.{Told, asks_of_watches, names_watches, only, plain_request, told_of_watcher}
-use Rattle.zk_transcript.proofs.PlainReplies.{plain-only, reply_in}
+use Rattle.zk_service.specs.Answers.{Told, asks_of_watches, names_watches, only, plain_request, told_of_watcher}
+use Rattle.zk_service.proofs.PlainReplies.{plain-only, reply_in}
 use Rattle.zp_core.specs.Meanings.{told_with}
 
 pub other-watches : (xid : ℤ) (r : Request) → ((p : Bytes) (kind : ℤ) → r ≡ req.CheckWatches p kind → ⊥) → ((p : Bytes) (kind : ℤ) → r ≡ req.RemoveWatches p kind → ⊥) → asks_of_watches (Asks xid r) ≡ false

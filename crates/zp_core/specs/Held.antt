@@ -4,7 +4,7 @@ use Rattle.zk_jute.specs.Records.{contents_of}
 use Rattle.zk_jute.specs.Requests.{read_request}
 use Rattle.zk_model.specs.declared.request.Request.{Request}
 use Rattle.zk_model.specs.Limits.{max_frame}
-use Rattle.zk_transcript.specs.Walks.{has_header}
+use Rattle.zk_service.specs.Answers.{has_header}
 use Rattle.zn_view.specs.Seen.{IsCountNumber}
 use Rattle.zs_session.specs.Connecting.{IsConnectHeld as IsHeldConnect}
 use Rattle.zp_step.specs.Stages.{Core, Stage, Unconnected, Connecting, Ready, KeepingAlive, Checking, Reading, Committing, Waiting, Shut, is_shut}

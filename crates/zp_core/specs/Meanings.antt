@@ -1,8 +1,8 @@
 -- What the code keeps, as the definition's data.
 use Rattle.std.specs.Prelude.{◌≡◌, List, [], ◌∷◌, Option, Some, None}
 use Rattle.zk_model.specs.Watches.{Watches}
-use Rattle.zk_transcript.specs.Answers.{Told, only}
-use Rattle.zk_transcript.specs.declared.transcript.Cause.{Cause}
+use Rattle.zk_service.specs.Answers.{Told, only}
+use Rattle.zk_service.specs.declared.cause.Cause.{Cause}
 use Rattle.zp_step.specs.declared.action.Action.{Action}
 use Rattle.zp_step.specs.declared.action.Action.TheVariants as action
 use Rattle.zp_step.specs.Stages as step

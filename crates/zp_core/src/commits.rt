@@ -18,7 +18,7 @@ use crate::stage::{Commit, Pending, Task, WatchChange};
 use ev_types::{ActAns, Answer};
 use std::alloc::Global;
 use zk_model::Request;
-use zk_transcript::Cause;
+use zk_service::Cause;
 use zn_ops::finish;
 use zn_view::View;
 use zs_session::{StepFault, look as look_at, number_in};

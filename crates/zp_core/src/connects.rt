@@ -1,12 +1,12 @@
 //! How the connection gets its session.
 
 ghost use Rattle.std.specs.Prelude.{◌≡◌, ◌≤ℤ◌, ◌∷◌, [], pos, None, option_copied, IfOk};
-ghost use Rattle.zk_transcript.specs.Conversations.{refusal as refusal_of, answered_read_only as read_only_of};
+ghost use Rattle.zk_service.specs.Answers.{refusal as refusal_of, answered_read_only as read_only_of};
 ghost use Rattle.zs_session.specs.Connecting.{MayStepConnect};
 ghost use Rattle.zp_step.specs.Connects.{Connects, Opens, attached_core, connected, kept_by};
 ghost use Rattle.zp_step.specs.Replies.{Is};
 ghost use Rattle.zp_step.specs.declared.action.Action.TheVariants as action;
-ghost use Rattle.zk_transcript.specs.declared.transcript.Cause.TheVariants as causes;
+ghost use Rattle.zk_service.specs.declared.cause.Cause.TheVariants as causes;
 ghost use Rattle.zs_session.specs.declared.connect.ConnectStep.TheVariants as steps;
 ghost use Rattle.zp_step.specs.Stages.{Shut};
 ghost use Rattle.zk_jute.specs.Packets.{connect_packet};
@@ -20,7 +20,7 @@ use crate::stage::Stage;
 use ev_types::{Answer, Ask};
 use std::alloc::Global;
 use zk_model::{ConnectRequest, ConnectResponse};
-use zk_transcript::Cause;
+use zk_service::Cause;
 use zk_wire::{WireFault, read_connect};
 use zn_view::Who;
 use zp_kept::KeptViews;

@@ -17,7 +17,7 @@ use crate::stage::{Pending, Task, WatchChange};
 use std::alloc::Global;
 use zk_model::code::{SESSION_EXPIRED, SESSION_MOVED};
 use zk_model::{Reply, Request};
-use zk_transcript::Cause;
+use zk_service::Cause;
 use zn_multi::decide_multi;
 use zn_ops::decide as decide_single;
 use zn_reads::seen_paths;

@@ -3,8 +3,7 @@
 ghost use Rattle.std.specs.Prelude.{◌≡◌, ◌≤ℤ◌, pos, IfOk, ◌<◌, ◌^◌};
 ghost use Rattle.zk_jute.specs.Requests.{Asks, read_request as read_as};
 ghost use Rattle.zk_model.specs.Watches.{no_watches};
-ghost use Rattle.zk_transcript.specs.Answers.{only, plain_request, told_of_watches, xid_of as xid_in};
-ghost use Rattle.zk_transcript.specs.Walks.{is_auth_refusal};
+ghost use Rattle.zk_service.specs.Answers.{only, plain_request, told_of_watches, xid_of as xid_in, is_auth_refusal};
 ghost use Rattle.zp_step.specs.Replies.{Is};
 ghost use Rattle.zp_step.specs.Taking.{TakesFrame, TakesReadable, plainly, end_of_plain};
 ghost use Rattle.zp_core.specs.Held.{IsFrame, IsRequest};
@@ -18,7 +17,7 @@ use std::alloc::Global;
 use zk_model::code::{AUTH_FAILED, BAD_ARGUMENTS, MARSHALLING_ERROR, NO_WATCHER, UNIMPLEMENTED};
 use zk_model::watcher::is_watcher_type;
 use zk_model::{Body, Reply, Request};
-use zk_transcript::Cause;
+use zk_service::Cause;
 use zk_wire::{WireFault, read_request};
 use zn_ops::plain_reply;
 use zn_updates::read_path;
@@ -111,7 +110,7 @@ fn take_other(
     }
 }
 
-#[tactic(auto, unfolding(zk_transcript::specs::Answers::plain_request))]
+#[tactic(auto, unfolding(zk_service::specs::Answers::plain_request))]
 fn take_request(
     alloc: Global,
     client: &mut Client,

@@ -2,8 +2,8 @@
 
 ghost use Rattle.std.specs.Prelude.{◌≡◌, ◌+◌, [], length, false, Some, None, IfOk, OnOk, IsTrue, MatchBool, MatchOption, ◌↔◌, ◌≤ℤ◌, pos, ◌<◌, ◌^◌};
 ghost use Rattle.zk_jute.specs.Requests.{read_request};
-ghost use Rattle.zk_transcript.specs.Walks.{has_header};
-ghost use Rattle.zk_transcript.specs.declared.transcript.Cause.TheVariants as causes;
+ghost use Rattle.zk_service.specs.Answers.{has_header};
+ghost use Rattle.zk_service.specs.declared.cause.Cause.TheVariants as causes;
 ghost use Rattle.zs_session.specs.Answering.{IsAwaited};
 ghost use Rattle.zp_step.specs.Laws.{end_by as end_of};
 ghost use Rattle.zp_step.specs.Replies.{Is, closed_by};
@@ -24,7 +24,7 @@ use crate::rounds::read_on;
 use crate::stage::Stage;
 use ev_types::Answer;
 use std::alloc::Global;
-use zk_transcript::Cause;
+use zk_service::Cause;
 use zp_step::{Action, Input};
 use zx_base::{Bytes, Memory, Seq};
 

@@ -3,7 +3,7 @@
 ghost use Rattle.std.specs.Prelude.{◌≡◌, ◌≤ℤ◌, pos, IfOk, MatchBool, option_map, ◌<◌, ◌^◌};
 ghost use Rattle.std.specs.Ordering.{int_eq};
 ghost use Rattle.zk_jute.specs.Requests.{read_request as read_as};
-ghost use Rattle.zk_transcript.specs.Answers.{xid_of as xid_in};
+ghost use Rattle.zk_service.specs.Answers.{xid_of as xid_in};
 ghost use Rattle.zn_view.specs.Lookups.{found_at};
 ghost use Rattle.zp_step.specs.Taking.{TakesFrame};
 ghost use Rattle.zn_view.specs.Adding.{AreNumbers};
@@ -26,7 +26,7 @@ use crate::replies::reply_in_turn;
 use crate::stage::Stage;
 use ev_types::{ActAns, Answer, Ask};
 use std::alloc::Global;
-use zk_transcript::Cause;
+use zk_service::Cause;
 use zn_layout::lease_key;
 use zn_view::{View, reading};
 use zp_step::Action;

@@ -7,7 +7,7 @@ ghost use Rattle.zp_core.specs.Meanings.{stage_of, Shuts};
 
 use crate::stage::Stage;
 use std::alloc::Global;
-use zk_transcript::Cause;
+use zk_service::Cause;
 use zp_step::Action;
 use zx_base::{Memory, Seq};
 

@@ -22,7 +22,7 @@ use ev_types::{ActAns, Answer};
 use std::alloc::Global;
 use std::collections::VecDeque;
 use zk_model::Request;
-use zk_transcript::Cause;
+use zk_service::Cause;
 use zn_view::{View, ViewFault, Want, Who};
 use zx_base::Memory;
 

@@ -2,7 +2,7 @@
 
 use crate::round::Round;
 use zk_model::{Reply, Request};
-use zk_transcript::Cause;
+use zk_service::Cause;
 use zn_view::{Arm, Plan, View, Want};
 use zp_step::Fresh;
 use zs_session::Connecting;

@@ -15,7 +15,7 @@ use crate::updates::asked_in;
 use std::alloc::Global;
 use std::collections::VecDeque;
 use std::marker::Model;
-use zk_transcript::UpdateKind;
+use zk_service::UpdateKind;
 use zn_view::Who;
 use zp_kept::KeptViews;
 use zp_step::{Action, Fresh, Input, Wants};

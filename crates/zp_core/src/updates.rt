@@ -7,7 +7,7 @@ ghost use Rattle.zp_core.specs.Meanings.{core_of, stage_of};
 use crate::client::Client;
 use crate::stage::Stage;
 use zk_model::Request;
-use zk_transcript::UpdateKind;
+use zk_service::UpdateKind;
 use zs_session::{Connect, Phase};
 
 fn of_connect(connection: u32, connect: &Connect) -> Option<UpdateKind>

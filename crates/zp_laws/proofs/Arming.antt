@@ -15,7 +15,7 @@ use Rattle.zk_model.specs.declared.reply.Reply.{Reply}
 use Rattle.zk_model.specs.declared.reply.Reply.TheVariants as reply
 use Rattle.zk_model.specs.declared.request.Request.{Request}
 use Rattle.zk_model.specs.declared.request.Request.TheVariants as req
-use Rattle.zk_transcript.specs.Answers.{Told, about, armed_children, armed_data, checked, fits_reply, listing, refusal_of, refusal_of_several, told, tree_reply}
+use Rattle.zk_service.specs.Answers.{Told, about, armed_children, armed_data, checked, fits_reply, listing, refusal_of, refusal_of_several, told, tree_reply}
 use Rattle.zx_base.specs.Maps.{Bytes}
 use Rattle.zx_base.proofs.MapLaws.{either, get-insert_other, get-insert_same}
 use Rattle.zx_base.proofs.Options.{none_some, some_is}

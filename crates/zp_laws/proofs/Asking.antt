@@ -8,9 +8,10 @@ use Rattle.ev_types.specs.declared.answer.Answer.TheVariants as answer
 use Rattle.ev_types.specs.declared.ask.Ask.{Ask}
 use Rattle.zk_jute.specs.Requests.{read_request}
 use Rattle.zk_model.specs.declared.request.Request.{Request}
-use Rattle.zk_transcript.specs.Walks.{Walker, has_header}
-use Rattle.zk_transcript.specs.declared.transcript.Cause.{Cause}
-use Rattle.zk_transcript.specs.declared.transcript.Cause.TheVariants as cause
+use Rattle.zk_transcript.specs.Walks.{Walker}
+use Rattle.zk_service.specs.Answers.{has_header}
+use Rattle.zk_service.specs.declared.cause.Cause.{Cause}
+use Rattle.zk_service.specs.declared.cause.Cause.TheVariants as cause
 use Rattle.zk_transcript.specs.declared.transcript.TranscriptLine.{TranscriptLine}
 use Rattle.zx_base.proofs.Options.{none_some}
 use Rattle.zn_view.specs.Seen.{View}

@@ -4,12 +4,13 @@ use Rattle.std.specs.Prelude.{Option, Some, None, not, ◌≤ℤ◌, ◌==◌, i
 use Rattle.std.proofs.lemmas.Bool.Decides.{nat_tests}
 use Rattle.zk_model.specs.Codes.{session_expired, session_moved}
 use Rattle.zk_model.specs.declared.reply.Reply.TheVariants as reply
-use Rattle.zk_transcript.specs.Answers.{session_refusal}
-use Rattle.zk_transcript.specs.History.{IsSound, Session, State, after, attached_session, first_place, first_shown, session_at, state_at, update_in}
+use Rattle.zk_service.specs.Answers.{session_refusal}
+use Rattle.zk_service.specs.States.{IsSound, Session, State, attached_session, session_at}
+use Rattle.zk_transcript.specs.History.{after, first_place, first_shown, state_at, update_in}
 use Rattle.zk_transcript.specs.Legal.{Attachment, attach_of, attach_shown, is_legal}
 use Rattle.zk_transcript.specs.declared.transcript.TranscriptLine.{TranscriptLine}
 use Rattle.zk_transcript.specs.declared.transcript.TranscriptLine.TheVariants.{Update, Open, Frame as FrameLine, Send, Lapse, Close}
-use Rattle.zk_transcript.specs.declared.transcript.UpdateRec.{UpdateRec}
+use Rattle.zk_service.specs.declared.update.UpdateRec.{UpdateRec}
 use Rattle.zk_transcript.proofs.Attachments.{IsListed, attached-to_own_line, legal-lined}
 use Rattle.zk_transcript.proofs.SoundHistories.{legal-bounded, legal-sound}
 use Rattle.zk_least.proofs.FirstPlaces.{first_place-at}

@@ -24,14 +24,15 @@ use Rattle.zk_model.specs.declared.reply.Reply.{Reply}
 use Rattle.zk_model.specs.declared.reply.Reply.TheVariants as reply
 use Rattle.zk_model.specs.declared.request.Request.{Request}
 use Rattle.zk_model.specs.declared.request.Request.TheVariants as req
-use Rattle.zk_transcript.specs.Answers.{owned_limit_in, only, xid_of}
-use Rattle.zk_transcript.specs.History.{Commit, Session, State, after, asked_commit, asked_in, attached_session, commit, frame_shown, limit_of, request, session_at, state_at}
+use Rattle.zk_service.specs.Answers.{owned_limit_in, only, xid_of}
+use Rattle.zk_service.specs.States.{Commit, Session, State, attached_session, commit, limit_of, session_at}
+use Rattle.zk_transcript.specs.History.{after, asked_commit, asked_in, frame_shown, request, state_at}
 use Rattle.zk_transcript.specs.Legal.{is_legal}
 use Rattle.zk_transcript.specs.Walks.{Walker, closes_session, own_update, placed_frame, response_at, told_as_of, told_response, with_end}
 use Rattle.zk_transcript.specs.declared.transcript.TranscriptLine.{TranscriptLine}
-use Rattle.zk_transcript.specs.declared.transcript.UpdateKind.{UpdateKind}
-use Rattle.zk_transcript.specs.declared.transcript.UpdateKind.TheVariants as kinds
-use Rattle.zk_transcript.specs.declared.transcript.UpdateRec.{UpdateRec}
+use Rattle.zk_service.specs.declared.update.UpdateKind.{UpdateKind}
+use Rattle.zk_service.specs.declared.update.UpdateKind.TheVariants as kinds
+use Rattle.zk_service.specs.declared.update.UpdateRec.{UpdateRec}
 use Rattle.zk_transcript.proofs.Lookups.{first_shown-place}
 use Rattle.zk_least.proofs.Rising.{Rises, at-line, rising}
 use Rattle.zn_layout.specs.Keys.{HeadKey, LeaseKey, key_bytes}

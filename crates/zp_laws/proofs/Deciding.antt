@@ -8,12 +8,13 @@ use Rattle.zk_model.specs.Watches.{Watches}
 use Rattle.zk_model.specs.declared.reply.Reply.{Reply}
 use Rattle.zk_model.specs.declared.reply.Reply.TheVariants as reply
 use Rattle.zk_model.specs.declared.request.Request.{Request}
-use Rattle.zk_transcript.specs.Answers.{owned_limit_in, xid_of}
-use Rattle.zk_transcript.specs.History.{Session, limit_of, session_at, state_at}
+use Rattle.zk_service.specs.Answers.{owned_limit_in, xid_of}
+use Rattle.zk_service.specs.States.{Session, limit_of, session_at}
+use Rattle.zk_transcript.specs.History.{state_at}
 use Rattle.zk_transcript.specs.Walks.{Walker, own_update, told_as_of}
-use Rattle.zk_transcript.specs.Legal.{is_legal}
-use Rattle.zk_transcript.specs.declared.transcript.Cause.{Cause}
-use Rattle.zk_transcript.specs.declared.transcript.Cause.TheVariants as cause
+use Rattle.zk_transcript.specs.Legal.{is_legal, attach_shown}
+use Rattle.zk_service.specs.declared.cause.Cause.{Cause}
+use Rattle.zk_service.specs.declared.cause.Cause.TheVariants as cause
 use Rattle.zk_transcript.specs.declared.transcript.TranscriptLine.{TranscriptLine}
 use Rattle.zn_layout.specs.Keys.{HeadKey, key_bytes}
 use Rattle.zn_view.specs.Asks.{head_want}
@@ -38,7 +39,6 @@ use Rattle.zp_laws.proofs.Keeping.{views-with}
 use Rattle.zp_laws.proofs.Replying.{Busy, past-told, waits-walks}
 use Rattle.zp_laws.proofs.Strides.{walks-is}
 use Rattle.zp_laws.proofs.Telling.{answered-by, by-form, expired-by, moved-by, refused-told, told-by, tree-told, told_by}
-use Rattle.zk_transcript.specs.Legal.{attach_shown}
 
 -- ---- the moment at which a view was read
 

@@ -13,7 +13,7 @@ use Rattle.zk_transcript.specs.Legal.{is_legal}
 use Rattle.zk_transcript.specs.Walks.{Tell, Walker, after_update, fired_at, next_update}
 use Rattle.zk_transcript.specs.declared.transcript.TranscriptLine.{TranscriptLine}
 use Rattle.zk_transcript.specs.declared.transcript.TranscriptLine.TheVariants.{Update}
-use Rattle.zk_transcript.specs.declared.transcript.UpdateRec.{UpdateRec}
+use Rattle.zk_service.specs.declared.update.UpdateRec.{UpdateRec}
 use Rattle.zk_transcript.proofs.Zxids.{zxids-rise}
 use Rattle.zk_least.proofs.Firing.{after-line}
 use Rattle.zk_least.proofs.RepeatedPlaces.{tell-next, told_first}

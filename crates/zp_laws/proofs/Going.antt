@@ -9,12 +9,12 @@ use Rattle.zk_jute.specs.Packets.{reply_packet}
 use Rattle.zk_jute.specs.Requests.{Frame, NoHeader, Unreadable, Unknown, Asks, read_request}
 use Rattle.zk_model.specs.Watches.{Watches, no_watches}
 use Rattle.zk_model.specs.declared.request.Request.{Request}
-use Rattle.zk_transcript.proofs.PlainReplies.{plain-none}
-use Rattle.zk_transcript.specs.Answers.{Told, plain_reply, xid_of}
+use Rattle.zk_service.proofs.PlainReplies.{plain-none}
+use Rattle.zk_service.specs.Answers.{Told, plain_reply, xid_of, is_auth_refusal}
 use Rattle.zk_transcript.specs.History.{frame_shown}
 use Rattle.zk_transcript.specs.Legal.{is_legal}
-use Rattle.zk_transcript.specs.Walks.{Plain, Walker, is_auth_refusal, is_not_overtaken, later_of, placed_frame, after_update}
-use Rattle.zk_transcript.specs.declared.transcript.Cause.{Cause}
+use Rattle.zk_transcript.specs.Walks.{Plain, Walker, is_not_overtaken, later_of, placed_frame, after_update}
+use Rattle.zk_service.specs.declared.cause.Cause.{Cause}
 use Rattle.zk_transcript.specs.declared.transcript.TranscriptLine.{TranscriptLine}
 use Rattle.zk_transcript.proofs.Walks.{first_place-bound}
 use Rattle.zx_base.specs.Maps.{Bytes, same}

@@ -5,7 +5,8 @@ use Rattle.std.proofs.lemmas.List.{length-append, take-append-le}
 use Rattle.ev_types.specs.Store.{Store, store_at}
 use Rattle.zk_jute.specs.Requests.{read_request}
 use Rattle.zk_model.specs.declared.request.Request.{Request}
-use Rattle.zk_transcript.specs.History.{State, frame_shown, state_at}
+use Rattle.zk_service.specs.States.{State}
+use Rattle.zk_transcript.specs.History.{frame_shown, state_at}
 use Rattle.zk_transcript.specs.Walks.{Walker, after_update, own_update, placed_frame, told_as_of}
 use Rattle.zk_transcript.specs.declared.transcript.TranscriptLine.{TranscriptLine}
 use Rattle.zk_transcript.proofs.Appending.{first_place-push}

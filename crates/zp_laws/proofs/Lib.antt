@@ -22,3 +22,5 @@ pub mod Asking
 pub mod Welcoming
 pub mod Growing
 pub mod Honest
+pub mod Attachments
+pub mod NewSessions

@@ -16,9 +16,9 @@ use Rattle.zk_model.specs.declared.reply.Notice.{Notice}
 use Rattle.zk_transcript.specs.History.{first_place, frame_shown, state_at}
 use Rattle.zk_transcript.specs.Legal.{index_shown, is_below_place, is_legal}
 use Rattle.zk_transcript.specs.Walks.{Answer, Due, Walker, after_place, after_update, due_notices, fired_above, is_not_overtaken, is_past, later_of, may_answer_at, move, placed_frame, update_shown}
-use Rattle.zk_transcript.specs.declared.transcript.Cause.{Cause}
+use Rattle.zk_service.specs.declared.cause.Cause.{Cause}
 use Rattle.zk_transcript.specs.declared.transcript.TranscriptLine.{TranscriptLine}
-use Rattle.zk_transcript.proofs.Ordered.{slice_get-take}
+use Rattle.zx_base.proofs.Lists.{slice_get-take}
 use Rattle.zk_transcript.proofs.Walks.{first_place-bound}
 use Rattle.zk_least.proofs.Answering.{answer-move}
 use Rattle.zk_least.proofs.Firing.{after-line}

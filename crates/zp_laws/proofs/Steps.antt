@@ -14,12 +14,13 @@ use Rattle.ev_types.specs.declared.answer.Kv.{Kv}
 use Rattle.ev_types.specs.declared.ask.Ask.{Ask}
 use Rattle.zk_jute.specs.Requests.{read_request}
 use Rattle.zk_model.specs.declared.request.Request.{Request}
-use Rattle.zk_transcript.specs.Answers.{xid_of}
-use Rattle.zk_transcript.specs.History.{session_at, state_at}
+use Rattle.zk_service.specs.Answers.{xid_of, has_header}
+use Rattle.zk_service.specs.States.{session_at}
+use Rattle.zk_transcript.specs.History.{state_at}
 use Rattle.zk_transcript.specs.Legal.{is_legal}
-use Rattle.zk_transcript.specs.Walks.{Walker, has_header, is_not_overtaken, own_update}
-use Rattle.zk_transcript.specs.declared.transcript.Cause.{Cause}
-use Rattle.zk_transcript.specs.declared.transcript.Cause.TheVariants as cause
+use Rattle.zk_transcript.specs.Walks.{Walker, is_not_overtaken, own_update}
+use Rattle.zk_service.specs.declared.cause.Cause.{Cause}
+use Rattle.zk_service.specs.declared.cause.Cause.TheVariants as cause
 use Rattle.zk_transcript.specs.declared.transcript.TranscriptLine.{TranscriptLine}
 use Rattle.zx_base.proofs.Options.{some_is}
 use Rattle.zn_layout.specs.Keys.{HeadKey}

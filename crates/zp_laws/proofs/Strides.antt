@@ -11,12 +11,12 @@ use Rattle.ev_types.specs.Store.{Store}
 use Rattle.zk_transcript.specs.History.{first_place, state_at, when}
 use Rattle.zk_transcript.specs.Legal.{index_in, index_shown, is_below_place, is_legal}
 use Rattle.zk_transcript.specs.Walks.{Choice, Due, Walker, after_update, all_choices, is_fresh, is_in_turn, is_not_overtaken, move, own_update_in, own_update_shown, then_due, walk}
-use Rattle.zk_transcript.specs.declared.transcript.Cause.{Cause}
+use Rattle.zk_service.specs.declared.cause.Cause.{Cause}
 use Rattle.zk_transcript.specs.declared.transcript.TranscriptLine.{TranscriptLine}
 use Rattle.zk_transcript.specs.declared.transcript.TranscriptLine.TheVariants.{Update, Open, Frame as FrameLine, Send, Lapse, Close as CloseLine}
-use Rattle.zk_transcript.specs.declared.transcript.UpdateKind.{UpdateKind}
-use Rattle.zk_transcript.specs.declared.transcript.UpdateKind.TheVariants.{Begin, Session as NewSession, Attach, Asked, Closed, Reaped}
-use Rattle.zk_transcript.specs.declared.transcript.UpdateRec.{UpdateRec}
+use Rattle.zk_service.specs.declared.update.UpdateKind.{UpdateKind}
+use Rattle.zk_service.specs.declared.update.UpdateKind.TheVariants.{Begin, Session as NewSession, Attach, Asked, Closed, Reaped}
+use Rattle.zk_service.specs.declared.update.UpdateRec.{UpdateRec}
 use Rattle.zk_transcript.proofs.Choices.{choices-append}
 use Rattle.zk_least.proofs.Firing.{after-line}
 use Rattle.zn_view.specs.declared.plan.Who.{Who}

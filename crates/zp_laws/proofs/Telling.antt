@@ -11,11 +11,12 @@ use Rattle.zk_model.specs.declared.reply.Reply.{Reply}
 use Rattle.zk_model.specs.declared.reply.Reply.TheVariants as reply
 use Rattle.zk_model.specs.declared.request.Request.{Request}
 use Rattle.zk_model.specs.declared.request.Request.TheVariants as req
-use Rattle.zk_transcript.specs.Answers.{Told, owned_limit_in, only, plain_request, rearmed, session_refusal, tree_reply}
-use Rattle.zk_transcript.specs.History.{Session, State, limit_of, session_at, state_at}
+use Rattle.zk_service.specs.Answers.{Told, owned_limit_in, only, plain_request, rearmed, session_refusal, tree_reply}
+use Rattle.zk_service.specs.States.{Session, State, limit_of, session_at}
+use Rattle.zk_transcript.specs.History.{state_at}
 use Rattle.zk_transcript.specs.Walks.{looked, seen_told, told_as_of, with_end}
 use Rattle.zk_transcript.specs.declared.transcript.TranscriptLine.{TranscriptLine}
-use Rattle.zk_transcript.proofs.PlainReplies.{plain-none}
+use Rattle.zk_service.proofs.PlainReplies.{plain-none}
 use Rattle.zx_base.proofs.Options.{some_is}
 use Rattle.zn_reads.specs.SeenPaths.{seen_paths}
 use Rattle.zn_view.specs.Needs.{LacksNothing}

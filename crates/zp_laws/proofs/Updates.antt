@@ -3,12 +3,13 @@ use Rattle.std.proofs.Common.{◌≡◌, ℕ, zero, suc, ◌+◌, ◌≤◌, ◌
 use Rattle.std.specs.Prelude.{Option, Some, None, ◌<ℤ◌, ◌≤ℤ◌, nat_lt, int_lt, slice_get}
 use Rattle.std.proofs.lemmas.Int.{ints}
 use Rattle.std.proofs.lemmas.Bool.Decides.{nat_tests}
-use Rattle.zk_transcript.specs.History.{State, Session, after, change, lapsed_in, session_at, state_at, when}
+use Rattle.zk_service.specs.States.{State, Session, lapsed_in, session_at}
+use Rattle.zk_transcript.specs.History.{after, change, state_at, when}
 use Rattle.zk_transcript.specs.Legal.{is_legal}
 use Rattle.zk_transcript.specs.Walks.{above_shown, next_update}
 use Rattle.zk_transcript.specs.declared.transcript.TranscriptLine.{TranscriptLine}
 use Rattle.zk_transcript.specs.declared.transcript.TranscriptLine.TheVariants.{Update, Open, Frame as FrameLine, Send, Lapse, Close}
-use Rattle.zk_transcript.specs.declared.transcript.UpdateRec.{UpdateRec}
+use Rattle.zk_service.specs.declared.update.UpdateRec.{UpdateRec}
 use Rattle.zk_transcript.proofs.Prefixes.{begins-take, is_legal-begins, is_legal-take}
 use Rattle.zk_transcript.proofs.Zxids.{zxids-rise}
 use Rattle.zk_least.proofs.FirstPlaces.{IsFirstAt, first_place-at, first_place-none}

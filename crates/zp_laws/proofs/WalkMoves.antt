@@ -3,11 +3,11 @@ use Rattle.std.proofs.Common.{◌≡◌, ℕ, ◌+◌, ◌≤◌, arith, List, [
 use Rattle.std.specs.Prelude.{Option, Some, None, if◌then◌else◌}
 use Rattle.zk_jute.specs.Packets.{reply_packet}
 use Rattle.zk_jute.specs.Requests.{read_request}
-use Rattle.zk_transcript.specs.Answers.{Told, plain_reply, xid_of}
-use Rattle.zk_transcript.specs.Walks.{Choice, Due, Plain, Walker, answer_plainly, due_notices, is_auth_refusal, later_of, move, placed_frame, plain_answer, then_due, walk}
+use Rattle.zk_service.specs.Answers.{Told, plain_reply, xid_of, is_auth_refusal}
+use Rattle.zk_transcript.specs.Walks.{Choice, Due, Plain, Walker, answer_plainly, due_notices, later_of, move, placed_frame, plain_answer, then_due, walk}
 use Rattle.zk_transcript.specs.declared.transcript.TranscriptLine.{TranscriptLine}
 use Rattle.zk_transcript.proofs.Longer.{move-next, then_due-next}
-use Rattle.zk_transcript.proofs.PlainReplies.{plain-quiet}
+use Rattle.zk_service.proofs.PlainReplies.{plain-quiet}
 use Rattle.zx_base.proofs.Options.{none_some, some_is}
 
 pub walk-append : (lines : List TranscriptLine) (c : ℕ) (id : ℤ) (w : Walker) (xs ys : List Choice) (r q : Walker × List Due)

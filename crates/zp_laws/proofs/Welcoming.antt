@@ -9,10 +9,10 @@ use Rattle.zk_jute.specs.Packets.{connect_packet}
 use Rattle.zk_jute.specs.Requests.{read_request}
 use Rattle.zk_model.specs.declared.connect.ConnectRequest.{ConnectRequest}
 use Rattle.zk_model.specs.declared.connect.ConnectResponse.{ConnectResponse}
-use Rattle.zk_transcript.specs.Conversations.{refusal}
-use Rattle.zk_transcript.specs.Walks.{after_update, at_start, has_header, is_not_overtaken}
-use Rattle.zk_transcript.specs.declared.transcript.Cause.{Cause}
-use Rattle.zk_transcript.specs.declared.transcript.Cause.TheVariants as cause
+use Rattle.zk_service.specs.Answers.{refusal, has_header}
+use Rattle.zk_transcript.specs.Walks.{after_update, at_start, is_not_overtaken}
+use Rattle.zk_service.specs.declared.cause.Cause.{Cause}
+use Rattle.zk_service.specs.declared.cause.Cause.TheVariants as cause
 use Rattle.zk_transcript.specs.declared.transcript.TranscriptLine.{TranscriptLine}
 use Rattle.zk_least.proofs.Firing.{after-line}
 use Rattle.zx_base.proofs.Options.{none_some}

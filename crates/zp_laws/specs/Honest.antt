@@ -7,7 +7,7 @@ use Rattle.ev_types.specs.declared.answer.ActAns.{ActAns}
 use Rattle.ev_types.specs.declared.answer.Answer.TheVariants as answer
 use Rattle.ev_types.specs.declared.ask.Ask.TheVariants as ask
 use Rattle.ev_types.specs.declared.ask.TxnReq.{TxnReq}
-use Rattle.zk_transcript.specs.History.{State}
+use Rattle.zk_service.specs.States.{State}
 use Rattle.zn_layout.specs.StandsFor.{StandsFor}
 use Rattle.zn_view.specs.Adding.{AreRecords, IsFirstDamaged}
 use Rattle.zn_view.specs.Asks.{ranges_of}

@@ -7,3 +7,4 @@ pub mod Welcomes
 pub mod Growing
 pub mod Honest
 pub mod Planning
+pub mod Opening

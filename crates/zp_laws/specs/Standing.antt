@@ -7,13 +7,13 @@ use Rattle.ev_types.specs.Store.{Store, store_at}
 use Rattle.zk_jute.specs.Requests.{read_request}
 use Rattle.zk_model.specs.Watches.{Watches, no_watches}
 use Rattle.zk_model.specs.declared.request.Request.{Request}
-use Rattle.zk_transcript.specs.Answers.{plain_request, xid_of}
+use Rattle.zk_service.specs.Answers.{plain_request, xid_of}
 use Rattle.zk_transcript.specs.History.{state_at}
 use Rattle.zk_transcript.specs.Legal.{attach_of, index_shown, is_below_place}
 use Rattle.zk_transcript.specs.Walks.{Walker, after_update, is_not_overtaken, own_update, placed_frame, told_as_of}
 use Rattle.zk_transcript.specs.declared.transcript.TranscriptLine.{TranscriptLine}
 use Rattle.zk_transcript.specs.declared.transcript.TranscriptLine.TheVariants.{Update}
-use Rattle.zk_transcript.specs.declared.transcript.UpdateRec.{UpdateRec}
+use Rattle.zk_service.specs.declared.update.UpdateRec.{UpdateRec}
 use Rattle.zx_base.specs.Maps.{Bytes}
 use Rattle.zn_layout.specs.StandsFor.{StandsFor}
 use Rattle.zn_view.specs.Deciding.{IsGood}

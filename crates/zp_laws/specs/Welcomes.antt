@@ -5,14 +5,14 @@ use Rattle.ev_types.specs.Store.{Store}
 use Rattle.ev_types.specs.declared.answer.Answer.{Answer}
 use Rattle.zk_jute.specs.Packets.{connect_packet}
 use Rattle.zk_model.specs.declared.connect.ConnectResponse.{ConnectResponse}
-use Rattle.zk_transcript.specs.Conversations.{refusal}
+use Rattle.zk_service.specs.Answers.{refusal}
 use Rattle.zk_transcript.specs.History.{state_at}
 use Rattle.zk_transcript.specs.Legal.{is_legal}
 use Rattle.zk_transcript.specs.Walks.{at_start}
-use Rattle.zk_transcript.specs.declared.transcript.Cause.TheVariants as cause
+use Rattle.zk_service.specs.declared.cause.Cause.TheVariants as cause
 use Rattle.zk_transcript.specs.declared.transcript.TranscriptLine.{TranscriptLine}
 use Rattle.zk_transcript.specs.declared.transcript.TranscriptLine.TheVariants.{Update}
-use Rattle.zk_transcript.specs.declared.transcript.UpdateRec.{UpdateRec}
+use Rattle.zk_service.specs.declared.update.UpdateRec.{UpdateRec}
 use Rattle.zn_view.specs.declared.plan.Who.{Who}
 use Rattle.zs_session.specs.Connecting.{ConnectSteps}
 use Rattle.zs_session.specs.declared.connect.Connect.{Connect}

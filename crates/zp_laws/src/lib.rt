@@ -21,17 +21,15 @@
 //! - `Planning`: the time of a plan (`PlansAreMadeNow`);
 //! - `Welcomes`: a step without a session (`ConnectsAre`);
 //! - `Growing`: what leaves a core where it stands (`StandingLasts`), and its looks fresh (`FreshnessLasts`);
-//! - `Honest`: an etcd that keeps its guarantees shows records.
+//! - `Honest`: an etcd that keeps its guarantees shows records;
+//! - `Opening`: what keys stand for after the transaction of a new session, or of an attachment.
 //!
 //! In `proofs/` by topic: `Updates`, `WalkMoves`, `Strides` (the walk); `Going`, `Replying`, `Entering` (frames, replies,
 //! entries); `Revisions`, `Arming`, `Attached`, `Telling`, `Deciding`, `Parts` (what is decided on a view); `Carried` (a plan
 //! that was carried out); `Steps`, `Asking` (whole steps); `ConnectAsks`, `Ending`, `Planning`, `Counting`, `Welcoming`, `Growing`,
-//! `Honest`.
+//! `Honest`; `NewSessions`, `Attachments` (a session's transactions).
 #![tactic(auto)]
 
 mod laws;
 
-pub use laws::{
-    connects_are_answered, honest_values_are_records, plans_are_bound, plans_are_made_now,
-    sends_are_walks, standing_lasts, steps_count, steps_end_well,
-};
+pub use laws::{a_new_session_commits, a_session_is_attached, connects_are_answered, honest_values_are_records, plans_are_bound, plans_are_made_now, sends_are_walks, standing_lasts, steps_count, steps_end_well};

@@ -2,7 +2,7 @@
 use Rattle.std.specs.Prelude.{◌≡◌, List}
 use Rattle.std.specs.List.{AllByRecursion}
 use Rattle.zk_transcript.specs.declared.transcript.TranscriptLine.{TranscriptLine}
-use Rattle.zk_transcript.specs.declared.transcript.UpdateRec.{UpdateRec}
+use Rattle.zk_service.specs.declared.update.UpdateRec.{UpdateRec}
 use Rattle.zk_transcript.specs.History.{updates}
 use Rattle.zt_text.specs.Transcripts.{IsWellFormed}
 

@@ -8,7 +8,8 @@ ghost use Rattle.zp_ledger.specs.Grouping.{is_number, placed, places_at};
 
 use std::alloc::Global;
 use std::collections::BTreeMap;
-use zk_transcript::{Cause, Conversation, Ended, TranscriptLine};
+use zk_service::{Cause, Ended};
+use zk_transcript::{Conversation, TranscriptLine};
 use zx_base::{Bytes, Memory, Seq};
 
 /// The lines of each connection, its updates left out, in the order in which the connections opened. Each line is copied once. It

@@ -10,7 +10,8 @@ ghost use Rattle.zt_text.specs.Transcripts.{IsWellFormed, IsWellFormedKind};
 use crate::conversations::conversations_in;
 use std::alloc::Global;
 use std::marker::Model;
-use zk_transcript::{Conversation, TranscriptLine, UpdateKind, UpdateRec};
+use zk_service::{UpdateKind, UpdateRec};
+use zk_transcript::{Conversation, TranscriptLine};
 use zx_base::Memory;
 
 /// The lines so far, and the updates among them. Contracts see the lines.

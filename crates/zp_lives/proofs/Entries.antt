@@ -8,7 +8,8 @@ use Rattle.std.proofs.lemmas.Option.{slice_get_cases, slice_get_within}
 use Rattle.std.specs.Prelude.{None, Option, Some, slice_get, ◌+ℤ◌}
 use Rattle.zk_least.proofs.Rising.{at-line, not-below, state_at-end, state_at-line}
 use Rattle.zk_model.specs.declared.node.Trigger.{Trigger}
-use Rattle.zk_transcript.specs.History.{Session, State, after, change, lapsed_in, session_at, state_at}
+use Rattle.zk_service.specs.States.{Session, State, lapsed_in, session_at}
+use Rattle.zk_transcript.specs.History.{after, change, state_at}
 use Rattle.zk_transcript.specs.Legal.{is_legal}
 use Rattle.zk_transcript.specs.declared.transcript.TranscriptLine.TheVariants.{Close, Frame as FrameLine, Lapse, Open, Send, Update}
 use Rattle.zk_transcript.specs.declared.transcript.TranscriptLine.{TranscriptLine}

@@ -9,7 +9,7 @@ use Rattle.std.specs.Ordering.{int_eq}
 use Rattle.std.specs.Prelude.{MatchBool, None, Option, Some, if◌then◌else◌, is_none, not}
 use Rattle.zk_transcript.specs.History.{after}
 use Rattle.zk_transcript.specs.declared.transcript.TranscriptLine.{TranscriptLine}
-use Rattle.zk_transcript.specs.declared.transcript.UpdateKind.{UpdateKind}
+use Rattle.zk_service.specs.declared.update.UpdateKind.{UpdateKind}
 use Rattle.ev_types.specs.Store.{mod_of}
 use Rattle.zn_layout.specs.Keys.{HeadKey}
 use Rattle.zn_layout.specs.StandsFor.{HeadMeans, at}

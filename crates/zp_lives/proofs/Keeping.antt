@@ -5,8 +5,8 @@ use Rattle.std.proofs.lemmas.List.Elements.{All-cons, All-nil}
 use Rattle.std.specs.Arc.{arc_value}
 use Rattle.std.specs.Prelude.{All, MatchBool, None, Option, Some}
 use Rattle.zk_model.specs.Limits.{max_frame}
-use Rattle.zk_transcript.specs.declared.transcript.Cause.{Cause}
-use Rattle.zk_transcript.specs.declared.transcript.Cause.TheVariants as cause
+use Rattle.zk_service.specs.declared.cause.Cause.{Cause}
+use Rattle.zk_service.specs.declared.cause.Cause.TheVariants as cause
 use Rattle.zp_script.specs.Arriving.{FramesArrive, shown_frame}
 use Rattle.zp_script.specs.Effects.{Delivers}
 use Rattle.zp_script.specs.Faults.{flight_at}

@@ -6,10 +6,10 @@ use Rattle.std.proofs.lemmas.List.Elements.{filter_map-append}
 use Rattle.std.specs.Ordering.{int_eq}
 use Rattle.std.specs.Prelude.{None, Option, Some, filter_map, fold, if◌then◌else◌, not, ◌==◌}
 use Rattle.zk_transcript.specs.History.{when}
-use Rattle.zk_transcript.specs.declared.transcript.Ended.TheVariants as ended
+use Rattle.zk_service.specs.declared.cause.Ended.TheVariants as ended
 use Rattle.zk_transcript.specs.declared.transcript.TranscriptLine.TheVariants.{Close, Frame as FrameLine, Lapse, Open, Send, Update}
 use Rattle.zk_transcript.specs.declared.transcript.TranscriptLine.{TranscriptLine}
-use Rattle.zk_transcript.specs.declared.transcript.UpdateKind.{UpdateKind}
+use Rattle.zk_service.specs.declared.update.UpdateKind.{UpdateKind}
 use Rattle.zp_script.specs.StepOutcomes.{StepOutcome, acts, acts_all, quiet}
 use Rattle.zp_script.specs.Worlds.{zxid_at}
 use Rattle.zp_script.specs.declared.flight.Flight.{Flight}

@@ -1,8 +1,8 @@
 -- What a transcript shows of one connection, its updates left out, and what a run of its steps would have it show.
 use Rattle.std.specs.Prelude.{ℕ, ◌+◌, List, [], ◌∷◌, ◌++◌, ◌==◌, filter_map, Option, Some, None, if◌then◌else◌}
 use Rattle.zk_transcript.specs.History.{when}
-use Rattle.zk_transcript.specs.declared.transcript.Ended.{Ended}
-use Rattle.zk_transcript.specs.declared.transcript.Ended.TheVariants as ended
+use Rattle.zk_service.specs.declared.cause.Ended.{Ended}
+use Rattle.zk_service.specs.declared.cause.Ended.TheVariants as ended
 use Rattle.zk_transcript.specs.declared.transcript.TranscriptLine.{TranscriptLine}
 use Rattle.zk_transcript.specs.declared.transcript.TranscriptLine.TheVariants.{Frame as FrameLine, Send, Close}
 use Rattle.zp_step.specs.declared.action.Action.{Action}

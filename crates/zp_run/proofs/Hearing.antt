@@ -4,8 +4,8 @@ use Rattle.std.specs.Prelude.{Option, Some, None, Contains}
 use Rattle.std.proofs.lemmas.List.Elements.{Contains-append_left}
 use Rattle.ev_types.specs.declared.answer.Answer.{Answer}
 use Rattle.zk_model.specs.declared.reply.Reply.{Reply}
-use Rattle.zk_transcript.specs.declared.transcript.Cause.{Cause}
-use Rattle.zk_transcript.specs.declared.transcript.Cause.TheVariants as cause
+use Rattle.zk_service.specs.declared.cause.Cause.{Cause}
+use Rattle.zk_service.specs.declared.cause.Cause.TheVariants as cause
 use Rattle.zn_view.specs.Seen.{View}
 use Rattle.zn_view.specs.declared.plan.Who.{Who}
 use Rattle.zp_step.specs.declared.input.Input.{Input}

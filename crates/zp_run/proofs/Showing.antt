@@ -6,8 +6,8 @@ use Rattle.zx_base.proofs.Options.{none_some, some_is}
 use Rattle.ev_types.specs.declared.ask.Ask.{Ask}
 use Rattle.zk_jute.specs.Packets.{reply_packet}
 use Rattle.zk_model.specs.declared.reply.Reply.{Reply}
-use Rattle.zk_transcript.specs.declared.transcript.Cause.{Cause}
-use Rattle.zk_transcript.specs.declared.transcript.Cause.TheVariants as cause
+use Rattle.zk_service.specs.declared.cause.Cause.{Cause}
+use Rattle.zk_service.specs.declared.cause.Cause.TheVariants as cause
 use Rattle.zp_step.specs.Replies.{Is, close_after, closed_by, is_due, replied, send_notices, stage_after, waits}
 use Rattle.zp_step.specs.Stages.{Core, Pending, Ready, Waiting, Shut, seen_by}
 use Rattle.zp_step.specs.declared.action.Action.{Action}

@@ -8,11 +8,9 @@ use Rattle.zk_jute.specs.Requests.{read_request}
 use Rattle.zk_model.specs.Watches.{no_watches}
 use Rattle.zk_model.specs.declared.connect.ConnectRequest.{ConnectRequest}
 use Rattle.zk_model.specs.declared.reply.Reply.{Reply}
-use Rattle.zk_transcript.specs.Answers.{Told, plain_reply, xid_of}
-use Rattle.zk_transcript.specs.Conversations.{refusal}
-use Rattle.zk_transcript.specs.Walks.{has_header, is_auth_refusal}
-use Rattle.zk_transcript.specs.declared.transcript.Cause.{Cause}
-use Rattle.zk_transcript.specs.declared.transcript.Cause.TheVariants as cause
+use Rattle.zk_service.specs.Answers.{Told, plain_reply, xid_of, refusal, has_header, is_auth_refusal}
+use Rattle.zk_service.specs.declared.cause.Cause.{Cause}
+use Rattle.zk_service.specs.declared.cause.Cause.TheVariants as cause
 use Rattle.zx_base.specs.Maps.{Bytes}
 use Rattle.zn_view.specs.Adding.{IsFirstDamaged}
 use Rattle.zn_view.specs.Seen.{View, head_of, head_zxid}

@@ -5,7 +5,7 @@ use Rattle.std.specs.FinMap.{entries}
 use Rattle.ev_types.specs.Store.{Store, revision}
 use Rattle.ev_types.specs.Lapses.{lapse, foreign}
 use Rattle.zk_jute.specs.JuteWriting.{with_length}
-use Rattle.zk_transcript.specs.declared.transcript.Cause.TheVariants as cause
+use Rattle.zk_service.specs.declared.cause.Cause.TheVariants as cause
 use Rattle.zk_transcript.specs.declared.transcript.TranscriptLine.TheVariants.{Open, Lapse as LapseLine}
 use Rattle.zk_wire.specs.Cutting.{unread}
 use Rattle.zn_layout.specs.declared.entry.Entry.{Entry}

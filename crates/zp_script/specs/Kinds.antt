@@ -1,7 +1,7 @@
 -- Which update the transcript shows for an ask, where its transaction changes the head.
 use Rattle.std.specs.Prelude.{ℕ, ℤ, Option, Some, None}
-use Rattle.zk_transcript.specs.declared.transcript.UpdateKind.{UpdateKind}
-use Rattle.zk_transcript.specs.declared.transcript.UpdateKind.TheVariants.{Reaped}
+use Rattle.zk_service.specs.declared.update.UpdateKind.{UpdateKind}
+use Rattle.zk_service.specs.declared.update.UpdateKind.TheVariants.{Reaped}
 use Rattle.zs_reap.specs.declared.reap.Phase.{Phase as ReapPhase}
 use Rattle.zs_reap.specs.declared.reap.Phase.TheVariants.{Removing}
 use Rattle.zp_script.specs.Worlds.{Actor, Connection, Reaper, Closed}

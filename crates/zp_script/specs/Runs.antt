@@ -6,7 +6,8 @@ use Rattle.ev_types.specs.Store.{Store, new_store}
 use Rattle.ev_types.specs.Denials.{carry}
 use Rattle.zk_transcript.specs.Legal.{Tick}
 use Rattle.zn_layout.specs.declared.entry.Entry.{Entry}
-use Rattle.zn_layout.specs.Begin.{begin_ask, begin_lines}
+use Rattle.zn_layout.specs.Begin.{begin_ask}
+use Rattle.zk_transcript.specs.History.{begin_lines}
 use Rattle.zt_text.specs.declared.script.Happening.{Happening}
 use Rattle.zp_script.specs.Worlds.{World}
 use Rattle.zp_script.specs.Happens.{Happens}

@@ -1,9 +1,9 @@
 -- What a step leaves in the world.
 use Rattle.std.specs.Prelude.{ℕ, List, [], ◌∷◌, ◌++◌, fold, Option, Some, None}
-use Rattle.zk_transcript.specs.declared.transcript.Cause.{Cause}
-use Rattle.zk_transcript.specs.declared.transcript.Ended.{Ended}
-use Rattle.zk_transcript.specs.declared.transcript.Ended.TheVariants as ended
-use Rattle.zk_transcript.specs.declared.transcript.UpdateKind.{UpdateKind}
+use Rattle.zk_service.specs.declared.cause.Cause.{Cause}
+use Rattle.zk_service.specs.declared.cause.Ended.{Ended}
+use Rattle.zk_service.specs.declared.cause.Ended.TheVariants as ended
+use Rattle.zk_service.specs.declared.update.UpdateKind.{UpdateKind}
 use Rattle.zk_transcript.specs.declared.transcript.TranscriptLine.{TranscriptLine}
 use Rattle.zk_transcript.specs.declared.transcript.TranscriptLine.TheVariants.{Send, Close}
 use Rattle.zp_step.specs.declared.action.Action.{Action}

@@ -1,7 +1,7 @@
 //! What was asked of the store and not answered yet.
 
 use ev_types::{Answer, Ask};
-use zk_transcript::UpdateKind;
+use zk_service::UpdateKind;
 
 /// An ask, with the update that the transcript shows for it where it changes the head.
 #[derive(Drop)]

@@ -2,7 +2,7 @@
 use Rattle.std.proofs.Common.{sym, subst}
 use Rattle.ev_types.specs.Store.{Store}
 use Rattle.ev_call.specs.Honest.{CarriesAll}
-use Rattle.zk_transcript.specs.declared.transcript.Cause.{Cause}
+use Rattle.zk_service.specs.declared.cause.Cause.{Cause}
 use Rattle.zs_session.specs.declared.connect.Fresh.{Fresh}
 use Rattle.zp_run.specs.Runs.{answers_of}
 use Rattle.zp_conn.specs.Serving.{Serves, Told}

@@ -10,7 +10,7 @@ use Rattle.ev_types.specs.Denials.{carry}
 use Rattle.ev_types.specs.Store.{Store, new_store}
 use Rattle.ev_types.specs.declared.answer.Answer.{Answer}
 use Rattle.ev_types.specs.declared.ask.Ask.{Ask}
-use Rattle.zk_transcript.specs.declared.transcript.Cause.{Cause}
+use Rattle.zk_service.specs.declared.cause.Cause.{Cause}
 use Rattle.zn_layout.specs.Begin.{begin_ask}
 use Rattle.zs_session.specs.declared.connect.Fresh.{Fresh}
 use Rattle.zp_conn.specs.Serving.{Serves, Told, with_calls}

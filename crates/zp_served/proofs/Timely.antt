@@ -9,7 +9,7 @@ use Rattle.ev_call.proofs.Alone.{honest}
 use Rattle.ev_types.specs.Store.{Store}
 use Rattle.ev_types.specs.declared.answer.Answer.{Answer}
 use Rattle.ev_types.specs.declared.ask.Ask.{Ask}
-use Rattle.zk_transcript.specs.declared.transcript.Cause.{Cause}
+use Rattle.zk_service.specs.declared.cause.Cause.{Cause}
 use Rattle.zn_layout.specs.Keys.{HeadKey}
 use Rattle.zn_layout.specs.StandsFor.{at}
 use Rattle.zn_layout.specs.declared.entry.Entry.{Entry}

@@ -6,7 +6,7 @@ ghost use Rattle.zp_served.specs.Begun.{IsBegun, ServesAlone};
 use crate::link::BegunLink;
 use std::alloc::Global;
 use std::sync::Wait;
-use zk_transcript::Cause;
+use zk_service::Cause;
 use zp_conn::{Fresh, TellsAll, Trace, serve_connection};
 use zw_hub::Feed;
 use zx_net::Clock;

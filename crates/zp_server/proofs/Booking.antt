@@ -1,6 +1,6 @@
 -- What the blocks of the two books share.
 use Rattle.ev_link.specs.contracts.http_link.HttpLink as HttpLink
-use Rattle.zk_transcript.specs.contracts.transcript.Cause as Cause
+use Rattle.zk_service.specs.contracts.cause.Cause as Cause
 use Rattle.zx_outside.specs.declared.sink.Sink as Sink
 use Rattle.zx_outside.specs.declared.source.Source as Source
 use Rattle.zp_run.specs.declared.trace.Trace as Trace

@@ -1,7 +1,7 @@
 -- How a server comes to accept no further client.
 use Rattle.std.proofs.Common.{◌≡◌, ◌⊎◌, ℕ, ◌+◌, ◌<◌, ◌≤◌, true, false, List, [], ◌∷◌, Option, refl, sym, ap, inl, inr, subst, arith}
 use Rattle.std.specs.Prelude.{IsPermutation, Result, Ok, Err}
-use Rattle.zk_transcript.specs.declared.transcript.Cause.{Cause}
+use Rattle.zk_service.specs.declared.cause.Cause.{Cause}
 use Rattle.zx_outside.specs.Counts.{one_more}
 use Rattle.zw_hub.specs.Ends.{MayBeTold}
 use Rattle.zw_hub.specs.declared.feed.FeedEnd.{FeedEnd}

@@ -1,6 +1,6 @@
 -- What a book tells of the connections that it took.
 use Rattle.std.specs.Prelude.{ℕ, List, [], ◌∷◌, ◌++◌, Option, Some, None}
-use Rattle.zk_transcript.specs.declared.transcript.Cause.{Cause}
+use Rattle.zk_service.specs.declared.cause.Cause.{Cause}
 
 -- a connection that has ended
 pub record Ending : Type 0 where

@@ -1,7 +1,7 @@
 -- What a look at the hub tells.
 use Rattle.std.specs.Prelude.{◌≡◌, ℕ, ◌+◌, ◌*◌, false, Some, None, Result, Ok, Err}
 use Rattle.std.specs.Arc.{arc_value}
-use Rattle.zk_transcript.specs.declared.transcript.Cause.{Cause}
+use Rattle.zk_service.specs.declared.cause.Cause.{Cause}
 use Rattle.zw_hub.specs.Ends.{MayBeTold}
 use Rattle.zw_hub.specs.Readers.{ReaderState}
 use Rattle.zp_server.specs.Lines.{is_feed_closed}

@@ -1,7 +1,7 @@
 //! What workers hand back to the listener.
 
 ghost use Rattle.std.specs.Prelude.{◌≡◌, ◌<◌};
-ghost use Rattle.zk_transcript.specs.declared.transcript.Cause.TheVariants.{FeedClosed};
+ghost use Rattle.zk_service.specs.declared.cause.Cause.TheVariants.{FeedClosed};
 
 use crate::served::Served;
 use std::alloc::Global;

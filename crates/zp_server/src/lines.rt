@@ -1,7 +1,7 @@
 //! What a server writes.
 
 ghost use Rattle.std.specs.Prelude.{◌≡◌, ◌∷◌, [], ◌++◌, IfOk};
-ghost use Rattle.zk_transcript.specs.declared.transcript.Ended.TheVariants.{Cause as OfCause};
+ghost use Rattle.zk_service.specs.declared.cause.Ended.TheVariants.{Cause as OfCause};
 ghost use Rattle.zk_transcript.specs.declared.transcript.TranscriptLine.TheVariants.{Close};
 ghost use Rattle.zt_text.specs.Transcripts.{line_text};
 ghost use Rattle.zw_hub.specs.declared.feed.FeedEnd.TheVariants.{Compacted, Gap, Damaged};
@@ -10,7 +10,8 @@ ghost use Rattle.zp_server.specs.Telling.{OutputSays, WritesAll};
 
 use crate::ends::Stop;
 use std::alloc::Global;
-use zk_transcript::{Cause, Ended, TranscriptLine};
+use zk_service::{Cause, Ended};
+use zk_transcript::TranscriptLine;
 use zt_text::{push_hex, push_line, push_number, push_signed};
 use zw_hub::FeedEnd;
 use zx_base::{Bytes, Memory};

@@ -4,7 +4,7 @@ ghost use Rattle.zp_server.specs.Looking.{Closes, Looks};
 
 use crate::ends::Stop;
 use std::sync::Wait;
-use zk_transcript::Cause;
+use zk_service::Cause;
 use zw_hub::{Fed, Feed, HubReader};
 
 /// A cursor above which no entry stands: a look with it tells only whether the list is closed.

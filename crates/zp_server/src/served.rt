@@ -5,7 +5,7 @@ ghost use Rattle.ev_call.specs.Calls.{calls_of};
 ghost use Rattle.zp_server.specs.Serving.{IsServed};
 
 use ev_link::HttpLink;
-use zk_transcript::Cause;
+use zk_service::Cause;
 use zp_core::Fresh;
 use zp_run::Trace;
 use zx_outside::{Sink, Source};

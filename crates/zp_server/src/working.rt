@@ -1,7 +1,7 @@
 //! The worker of a connection.
 
 ghost use Rattle.std.specs.Prelude.{◌≡◌, ◌<◌};
-ghost use Rattle.zk_transcript.specs.declared.transcript.Cause.TheVariants.{FeedClosed};
+ghost use Rattle.zk_service.specs.declared.cause.Cause.TheVariants.{FeedClosed};
 
 use crate::back::Returned;
 use crate::gate::Gate;
@@ -11,7 +11,7 @@ use crate::served::Served;
 use ev_words::tell_link;
 use std::alloc::Global;
 use std::sync::{Arc, Wait};
-use zk_transcript::Cause;
+use zk_service::Cause;
 use zp_conn::{Belled, serve_connection};
 use zp_run::Trace;
 use zs_lapsed::fault_of;

@@ -3,16 +3,16 @@ use Rattle.std.proofs.Common.{◌≡◌, ℕ, ◌+◌, List, [], ◌∷◌, ◌+
 use Rattle.std.specs.Prelude.{Option, Some, None, ◌⊎◌, MatchBool, fold, if◌then◌else◌, not, take}
 use Rattle.zk_jute.specs.Requests.{Frame, NoHeader, Unreadable, Unknown, Asks, read_request}
 use Rattle.zk_model.specs.Watches.{no_watches}
-use Rattle.zk_transcript.proofs.PlainReplies.{plain-none}
+use Rattle.zk_service.proofs.PlainReplies.{plain-none}
 use Rattle.zk_transcript.proofs.Appending.{after-push}
-use Rattle.zk_transcript.specs.Answers.{Told, plain_reply, xid_of}
-use Rattle.zk_transcript.specs.History.{after, session_at}
-use Rattle.zk_transcript.specs.Walks.{has_header}
-use Rattle.zk_transcript.specs.declared.transcript.Cause.TheVariants as cause
-use Rattle.zk_transcript.specs.declared.transcript.Ended.TheVariants as ended
+use Rattle.zk_service.specs.Answers.{Told, plain_reply, xid_of, has_header}
+use Rattle.zk_transcript.specs.History.{after}
+use Rattle.zk_service.specs.States.{session_at}
+use Rattle.zk_service.specs.declared.cause.Cause.TheVariants as cause
+use Rattle.zk_service.specs.declared.cause.Ended.TheVariants as ended
 use Rattle.zk_transcript.specs.declared.transcript.TranscriptLine.TheVariants.{Close, Frame as FrameLine, Send}
 use Rattle.zk_transcript.specs.declared.transcript.TranscriptLine.{TranscriptLine}
-use Rattle.zk_transcript.specs.declared.transcript.UpdateKind.{UpdateKind}
+use Rattle.zk_service.specs.declared.update.UpdateKind.{UpdateKind}
 use Rattle.zn_view.specs.Asks.{head_want}
 use Rattle.zn_view.specs.Seen.{empty_view}
 use Rattle.zs_session.specs.Alive.{is_alive_due}

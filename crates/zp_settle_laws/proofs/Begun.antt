@@ -11,16 +11,17 @@ use Rattle.zk_model.specs.declared.reply.Reply.{Reply}
 use Rattle.zk_model.specs.declared.request.Request.{Request}
 use Rattle.zk_transcript.proofs.Attachments.{NoneAfter}
 use Rattle.zk_transcript.proofs.Placed.{first_place-shown, is_legal-at}
-use Rattle.zk_transcript.specs.Answers.{Told, owned_limit_in, plain_reply, session_refusal}
-use Rattle.zk_transcript.specs.History.{after, frame_shown, session_at, state_at}
+use Rattle.zk_service.specs.Answers.{Told, owned_limit_in, plain_reply, session_refusal}
+use Rattle.zk_transcript.specs.History.{after, frame_shown, state_at}
+use Rattle.zk_service.specs.States.{session_at}
 use Rattle.zk_transcript.specs.Legal.{is_legal, is_next_zxid, may_update}
 use Rattle.zk_transcript.specs.Walks.{at_start, closes_session, looked as looks_told, own_update, own_update_in, own_update_shown, response_at, seen_told, told_as_of, told_response, with_end}
-use Rattle.zk_transcript.specs.declared.transcript.Cause.{Cause}
+use Rattle.zk_service.specs.declared.cause.Cause.{Cause}
 use Rattle.zk_transcript.specs.declared.transcript.TranscriptLine.{TranscriptLine}
 use Rattle.zk_transcript.specs.declared.transcript.TranscriptLine.TheVariants.{Update, Open, Frame as FrameLine, Send, Lapse, Close}
-use Rattle.zk_transcript.specs.declared.transcript.UpdateKind.{UpdateKind}
-use Rattle.zk_transcript.specs.declared.transcript.UpdateKind.TheVariants.{Begin, Session as NewSession, Attach, Asked, Closed, Reaped}
-use Rattle.zk_transcript.specs.declared.transcript.UpdateRec.{UpdateRec}
+use Rattle.zk_service.specs.declared.update.UpdateKind.{UpdateKind}
+use Rattle.zk_service.specs.declared.update.UpdateKind.TheVariants.{Begin, Session as NewSession, Attach, Asked, Closed, Reaped}
+use Rattle.zk_service.specs.declared.update.UpdateRec.{UpdateRec}
 use Rattle.zn_view.specs.Views.{live}
 use Rattle.zx_base.proofs.Options.{none_some, some_is}
 use Rattle.zp_laws.proofs.Attached.{here-served}

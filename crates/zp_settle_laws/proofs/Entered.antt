@@ -9,8 +9,8 @@ use Rattle.std.proofs.lemmas.Option.{slice_get_within}
 use Rattle.zk_jute.specs.Requests.{Frame, NoHeader, Unreadable, Unknown, Asks, read_request}
 use Rattle.zk_least.proofs.Rising.{at-line, not-below}
 use Rattle.zk_model.specs.Watches.{is_unarmed, no_watches}
-use Rattle.zk_transcript.proofs.PlainReplies.{plain-none}
-use Rattle.zk_transcript.specs.Answers.{Told, plain_reply, xid_of}
+use Rattle.zk_service.proofs.PlainReplies.{plain-none}
+use Rattle.zk_service.specs.Answers.{Told, plain_reply, xid_of}
 use Rattle.zk_transcript.specs.History.{state_at}
 use Rattle.zn_layout.specs.declared.entry.Entry.{Entry}
 use Rattle.zn_view.specs.Asks.{head_want}

@@ -9,7 +9,8 @@ use Rattle.ev_types.proofs.Bounds.{present-within}
 use Rattle.ev_types.specs.Store.{Store, keys_from, mod_of, present, store_at}
 use Rattle.ev_types.specs.declared.answer.Kv.{Kv}
 use Rattle.zk_transcript.proofs.Attachments.{own_line-past}
-use Rattle.zk_transcript.specs.History.{Session, after, session_at, state_at}
+use Rattle.zk_service.specs.States.{Session, session_at}
+use Rattle.zk_transcript.specs.History.{after, state_at}
 use Rattle.zk_transcript.specs.Legal.{is_legal}
 use Rattle.zk_transcript.specs.Walks.{Walker}
 use Rattle.zk_transcript.specs.declared.transcript.TranscriptLine.{TranscriptLine}

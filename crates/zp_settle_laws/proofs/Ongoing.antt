@@ -12,9 +12,9 @@ use Rattle.zk_jute.specs.Requests.{read_request}
 use Rattle.zk_transcript.proofs.Attachments.{NoneAfter, attach_of-push}
 use Rattle.zk_transcript.proofs.Lookups.{slice_get-back}
 use Rattle.zk_transcript.specs.Legal.{Attachment, attach_of, is_legal}
-use Rattle.zk_transcript.specs.Walks.{has_header}
-use Rattle.zk_transcript.specs.declared.transcript.Cause.TheVariants as cause
-use Rattle.zk_transcript.specs.declared.transcript.Cause.{Cause}
+use Rattle.zk_service.specs.Answers.{has_header}
+use Rattle.zk_service.specs.declared.cause.Cause.TheVariants as cause
+use Rattle.zk_service.specs.declared.cause.Cause.{Cause}
 use Rattle.zk_transcript.specs.declared.transcript.TranscriptLine.TheVariants.{Frame as FrameLine}
 use Rattle.zk_transcript.specs.declared.transcript.TranscriptLine.{TranscriptLine}
 use Rattle.zn_layout.specs.declared.entry.Entry.{Entry}

@@ -12,7 +12,7 @@ use Rattle.std.specs.Ordering.{nat_cmp}
 use Rattle.std.specs.Prelude.{MatchBool, None, Option, Some, fold, if◌then◌else◌, not, slice_set, ◌||◌, ◌⊎◌}
 use Rattle.zk_jute.specs.JuteWriting.{with_length}
 use Rattle.zk_transcript.specs.Legal.{Tick}
-use Rattle.zk_transcript.specs.declared.transcript.Cause.TheVariants as cause
+use Rattle.zk_service.specs.declared.cause.Cause.TheVariants as cause
 use Rattle.zk_transcript.specs.declared.transcript.TranscriptLine.TheVariants.{Frame as FrameLine, Lapse as LapseLine, Open}
 use Rattle.zk_transcript.specs.declared.transcript.TranscriptLine.{TranscriptLine}
 use Rattle.zn_layout.specs.declared.entry.Entry.{Entry}

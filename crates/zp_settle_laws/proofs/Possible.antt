@@ -8,11 +8,11 @@ use Rattle.ev_types.specs.Store.{Puts, Store, mod_of, present, revision}
 use Rattle.ev_types.specs.declared.answer.Answer.{Answer}
 use Rattle.ev_types.specs.declared.answer.Kv.{Kv}
 use Rattle.zk_transcript.specs.History.{after}
-use Rattle.zk_transcript.specs.declared.transcript.Cause.TheVariants as cause
-use Rattle.zk_transcript.specs.declared.transcript.Cause.{Cause}
+use Rattle.zk_service.specs.declared.cause.Cause.TheVariants as cause
+use Rattle.zk_service.specs.declared.cause.Cause.{Cause}
 use Rattle.zk_transcript.specs.declared.transcript.TranscriptLine.TheVariants.{Lapse as LapseLine}
 use Rattle.zk_transcript.specs.declared.transcript.TranscriptLine.{TranscriptLine}
-use Rattle.zk_transcript.specs.declared.transcript.UpdateKind.{UpdateKind}
+use Rattle.zk_service.specs.declared.update.UpdateKind.{UpdateKind}
 use Rattle.zn_layout.specs.Keys.{HeadKey}
 use Rattle.zn_layout.specs.StandsFor.{HeadMeans, at}
 use Rattle.zn_layout.specs.declared.entry.Entry.{Entry}

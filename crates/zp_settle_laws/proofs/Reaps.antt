@@ -15,7 +15,7 @@ use Rattle.ev_types.specs.declared.ask.Ask.{Ask}
 use Rattle.ev_types.specs.declared.ask.Ask.TheVariants as ask
 use Rattle.zk_model.specs.Paths.{parent}
 use Rattle.zk_model.specs.declared.request.Request.TheVariants as req
-use Rattle.zk_transcript.specs.Answers.{plain_request}
+use Rattle.zk_service.specs.Answers.{plain_request}
 use Rattle.zn_layout.specs.Keys.{CountsKey, SessionKey, key_bytes}
 use Rattle.zn_layout.specs.Records.{IsSessionRec, session_value}
 use Rattle.zn_view.proofs.AsSeen.{agrees-seen}

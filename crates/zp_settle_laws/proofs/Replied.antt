@@ -14,13 +14,14 @@ use Rattle.zk_model.specs.declared.connect.ConnectRequest.{ConnectRequest}
 use Rattle.zk_model.specs.declared.reply.Notice.{Notice}
 use Rattle.zk_transcript.proofs.Longer.{if_Some, then_Some, then_due-next}
 use Rattle.zk_transcript.proofs.Placed.{first_place-shown}
-use Rattle.zk_transcript.specs.Answers.{Told, plain_reply, xid_of}
-use Rattle.zk_transcript.specs.Conversations.{IsConnectAnswered, IsWelcomed, welcome}
-use Rattle.zk_transcript.specs.History.{Session, after, frame, frame_shown, session_at, state_at}
+use Rattle.zk_service.specs.Answers.{Told, plain_reply, xid_of, welcome, has_header}
+use Rattle.zk_transcript.specs.Conversations.{IsConnectAnswered, IsWelcomed}
+use Rattle.zk_service.specs.States.{Session, session_at}
+use Rattle.zk_transcript.specs.History.{after, frame, frame_shown, state_at}
 use Rattle.zk_transcript.specs.Legal.{Attachment, attach_of}
-use Rattle.zk_transcript.specs.Walks.{Answer, Choice, Due, Plain, Tell, Walker, after_update, answer_as_of, answer_plainly, are_sent, at_start, due_notices, fired_above, fired_at, fired_from, has_header, is_above, later_of, may_answer_at, move, next_update, own_update, packets, placed_frame, plain_answer, reply_step_if, then_due, then_fired, told_update, walk}
+use Rattle.zk_transcript.specs.Walks.{Answer, Choice, Due, Plain, Tell, Walker, after_update, answer_as_of, answer_plainly, are_sent, at_start, due_notices, fired_above, fired_at, fired_from, is_above, later_of, may_answer_at, move, next_update, own_update, packets, placed_frame, plain_answer, reply_step_if, then_due, then_fired, told_update, walk}
 use Rattle.zk_transcript.specs.declared.transcript.TranscriptLine.{TranscriptLine}
-use Rattle.zk_transcript.specs.declared.transcript.UpdateRec.{UpdateRec}
+use Rattle.zk_service.specs.declared.update.UpdateRec.{UpdateRec}
 use Rattle.zx_base.proofs.Options.{none_some, some_is}
 use Rattle.zp_step.specs.Stages.{Core, Stage, Unconnected, Connecting, Ready, KeepingAlive, Checking, Reading, Committing, Waiting, Shut}
 use Rattle.zp_laws.proofs.WalkMoves.{walk-next}

@@ -21,7 +21,8 @@ use Rattle.ev_types.specs.declared.ask.Guard.{Guard}
 use Rattle.zk_model.specs.declared.request.Request.{Request}
 use Rattle.zk_transcript.proofs.Prefixes.{is_legal-begins, is_legal-take}
 use Rattle.zk_transcript.proofs.SoundHistories.{legal-sound}
-use Rattle.zk_transcript.specs.History.{IsSound, State, after, after_from, nothing_yet, state_at}
+use Rattle.zk_service.specs.States.{IsSound, State, nothing_yet}
+use Rattle.zk_transcript.specs.History.{after, after_from, state_at}
 use Rattle.zk_transcript.specs.Legal.{begins}
 use Rattle.zk_transcript.specs.declared.transcript.TranscriptLine.{TranscriptLine}
 use Rattle.zk_transcript.specs.declared.transcript.TranscriptLine.TheVariants.{Update, Open, Frame as FrameLine, Send, Lapse, Close}

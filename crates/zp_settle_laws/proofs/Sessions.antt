@@ -18,15 +18,17 @@ use Rattle.zk_transcript.proofs.Conditions.{attach-shows}
 use Rattle.zk_transcript.proofs.Histories.{legal-begun, not-begin}
 use Rattle.zk_transcript.proofs.Lookups.{slice_get-front}
 use Rattle.zk_transcript.proofs.Placed.{first_place-shown, is_legal-at}
-use Rattle.zk_transcript.proofs.SessionMaps.{at-insert_other, at-insert_same, at-remove_other, attached_session-open, either_id}
-use Rattle.zk_transcript.specs.History.{Session, State, after, asked_in, attached_anew, attached_session, change, frame, frame_shown, lapsed_in, new_session, opening, connect, request, session_at, state_at, updated, when}
+use Rattle.zk_service.proofs.SessionMaps.{at-insert_other, at-insert_same, at-remove_other, attached_session-open, either_id}
+use Rattle.zk_service.specs.States.{Session, State, attached_anew, attached_session, lapsed_in, new_session, session_at}
+use Rattle.zk_transcript.specs.History.{after, asked_in, change, frame, frame_shown, opening, connect, request, state_at, updated, when}
 use Rattle.zk_transcript.specs.Legal.{Attachment, attach_in, attach_of, attach_shown, is_close as is_closing, is_id, is_lapsed, is_legal, is_live_as, is_next_zxid, is_small_frame, may_attach, may_update, asks_anew, offers}
-use Rattle.zk_transcript.specs.Walks.{has_header, placed_frame}
+use Rattle.zk_service.specs.Answers.{has_header}
+use Rattle.zk_transcript.specs.Walks.{placed_frame}
 use Rattle.zk_transcript.specs.declared.transcript.TranscriptLine.{TranscriptLine}
 use Rattle.zk_transcript.specs.declared.transcript.TranscriptLine.TheVariants.{Update, Open, Frame as FrameLine, Send, Lapse, Close}
-use Rattle.zk_transcript.specs.declared.transcript.UpdateKind.{UpdateKind}
-use Rattle.zk_transcript.specs.declared.transcript.UpdateKind.TheVariants.{Begin, Session as NewSession, Attach, Asked, Closed, Reaped}
-use Rattle.zk_transcript.specs.declared.transcript.UpdateRec.{UpdateRec}
+use Rattle.zk_service.specs.declared.update.UpdateKind.{UpdateKind}
+use Rattle.zk_service.specs.declared.update.UpdateKind.TheVariants.{Begin, Session as NewSession, Attach, Asked, Closed, Reaped}
+use Rattle.zk_service.specs.declared.update.UpdateRec.{UpdateRec}
 use Rattle.zx_base.proofs.Options.{none_some, some_is}
 use Rattle.zp_laws.proofs.Attached.{IsAttached, first_place-take, mine-here}
 use Rattle.zp_laws.proofs.Updates.{legal-before}

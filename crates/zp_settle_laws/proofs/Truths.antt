@@ -10,7 +10,8 @@ use Rattle.std.proofs.lemmas.List.Elements.{All-head, All-tail}
 use Rattle.ev_types.specs.Ranges.{Keys}
 use Rattle.ev_types.specs.Store.{Store, holds, mod_of, present, revision, store_at, succeeds}
 use Rattle.ev_types.specs.declared.ask.Guard.{Guard}
-use Rattle.zk_transcript.specs.History.{IsSound, State, state_at}
+use Rattle.zk_service.specs.States.{IsSound, State}
+use Rattle.zk_transcript.specs.History.{state_at}
 use Rattle.zk_transcript.specs.declared.transcript.TranscriptLine.{TranscriptLine}
 use Rattle.zn_layout.specs.Keys.{HeadKey, SessionKey, key_bytes}
 use Rattle.zn_layout.specs.StandsFor.{StandsFor}

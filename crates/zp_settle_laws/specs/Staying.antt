@@ -4,11 +4,11 @@ use Rattle.zk_jute.specs.Requests.{Asks, Frame, read_request}
 use Rattle.zk_model.specs.Watches.{no_watches}
 use Rattle.zk_model.specs.declared.request.Request.TheVariants as req
 use Rattle.zk_model.specs.declared.request.Request.{Request}
-use Rattle.zk_transcript.specs.Answers.{Told, plain_reply}
-use Rattle.zk_transcript.specs.History.{Session, after, session_at}
-use Rattle.zk_transcript.specs.Walks.{has_header, is_auth_refusal}
-use Rattle.zk_transcript.specs.declared.transcript.Cause.TheVariants as cause
-use Rattle.zk_transcript.specs.declared.transcript.Ended.TheVariants as ended
+use Rattle.zk_service.specs.Answers.{Told, plain_reply, has_header, is_auth_refusal}
+use Rattle.zk_service.specs.States.{Session, session_at}
+use Rattle.zk_transcript.specs.History.{after}
+use Rattle.zk_service.specs.declared.cause.Cause.TheVariants as cause
+use Rattle.zk_service.specs.declared.cause.Ended.TheVariants as ended
 use Rattle.zk_transcript.specs.declared.transcript.TranscriptLine.TheVariants.{Close}
 use Rattle.zk_transcript.specs.declared.transcript.TranscriptLine.{TranscriptLine}
 use Rattle.zn_view.specs.declared.plan.Who.{Who}

@@ -6,11 +6,11 @@ use Rattle.ev_types.specs.Store.{last_revision, revision}
 use Rattle.zk_jute.specs.Frames.{bad_length}
 use Rattle.zk_jute.specs.Requests.{read_request}
 use Rattle.zk_transcript.specs.Legal.{Attachment, Tick, attach_of}
-use Rattle.zk_transcript.specs.Walks.{has_header}
+use Rattle.zk_service.specs.Answers.{has_header}
 use Rattle.zk_transcript.specs.declared.transcript.TranscriptLine.TheVariants.{Frame as FrameLine, Lapse, Update}
 use Rattle.zk_transcript.specs.declared.transcript.TranscriptLine.{TranscriptLine}
-use Rattle.zk_transcript.specs.declared.transcript.UpdateKind.TheVariants.{Attach}
-use Rattle.zk_transcript.specs.declared.transcript.UpdateKind.{UpdateKind}
+use Rattle.zk_service.specs.declared.update.UpdateKind.TheVariants.{Attach}
+use Rattle.zk_service.specs.declared.update.UpdateKind.{UpdateKind}
 use Rattle.zp_script.specs.Runs.{Runs, RunsFrom}
 use Rattle.zp_script.specs.Worlds.{Conn, Connection, World, conn_at, is_open_conn}
 use Rattle.zp_step.specs.Stages.{Core}

@@ -1,7 +1,7 @@
 -- A connection that is shut stays so, and how one is shut by its input.
 use Rattle.std.proofs.Common.{◌≡◌, ℕ, List, [], ◌∷◌, ◌++◌, append-nil, sym, ap, ◌∙◌, subst, true, false}
 use Rattle.std.specs.Prelude.{Some, MatchBool}
-use Rattle.zk_transcript.specs.declared.transcript.Cause.{Cause}
+use Rattle.zk_service.specs.declared.cause.Cause.{Cause}
 use Rattle.zx_base.proofs.Options.{none_some, some_is}
 use Rattle.zp_step.specs.declared.action.Action.{Action}
 use Rattle.zp_step.specs.declared.action.Action.TheVariants as action

@@ -7,8 +7,8 @@ use Rattle.ev_types.specs.declared.ask.Ask.TheVariants as ask
 use Rattle.zk_jute.specs.Packets.{connect_packet}
 use Rattle.zk_model.specs.Watches.{no_watches}
 use Rattle.zk_model.specs.declared.connect.ConnectRequest.{ConnectRequest}
-use Rattle.zk_transcript.specs.Conversations.{refusal}
-use Rattle.zk_transcript.specs.declared.transcript.Cause.TheVariants as cause
+use Rattle.zk_service.specs.Answers.{refusal}
+use Rattle.zk_service.specs.declared.cause.Cause.TheVariants as cause
 use Rattle.zx_base.specs.Maps.{Bytes}
 use Rattle.zn_view.specs.declared.plan.Who.{Who}
 use Rattle.zs_session.specs.Connecting.{ConnectSteps, IsConnectFault}

@@ -7,7 +7,7 @@ use Rattle.ev_types.specs.declared.answer.Answer.{Answer}
 use Rattle.ev_types.specs.declared.answer.Kv.{Kv}
 use Rattle.ev_types.specs.declared.ask.Ask.TheVariants as ask
 use Rattle.zk_jute.specs.Requests.{read_request}
-use Rattle.zk_transcript.specs.Answers.{xid_of}
+use Rattle.zk_service.specs.Answers.{xid_of}
 use Rattle.zn_view.specs.Lookups.{found_at}
 use Rattle.zn_view.specs.Asks.{reading}
 use Rattle.zn_view.specs.Seen.{View}

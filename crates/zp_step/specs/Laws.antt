@@ -1,7 +1,7 @@
 -- What holds of a step by its definition.
 use Rattle.std.specs.Prelude.{◌≡◌, ℕ, true, false, List, [], ◌∷◌, Option, Some, None}
-use Rattle.zk_transcript.specs.declared.transcript.Cause.{Cause}
-use Rattle.zk_transcript.specs.declared.transcript.Cause.TheVariants as cause
+use Rattle.zk_service.specs.declared.cause.Cause.{Cause}
+use Rattle.zk_service.specs.declared.cause.Cause.TheVariants as cause
 use Rattle.zp_step.specs.declared.action.Action.{Action}
 use Rattle.zp_step.specs.declared.action.Action.TheVariants as action
 use Rattle.zp_step.specs.declared.input.Input.{Input}

@@ -7,8 +7,8 @@ use Rattle.zk_model.specs.declared.reply.Reply.{Reply}
 use Rattle.zk_model.specs.declared.reply.Reply.TheVariants as reply
 use Rattle.zk_model.specs.declared.request.Request.{Request}
 use Rattle.zk_model.specs.declared.request.Request.TheVariants as req
-use Rattle.zk_transcript.specs.declared.transcript.Cause.{Cause}
-use Rattle.zk_transcript.specs.declared.transcript.Cause.TheVariants as cause
+use Rattle.zk_service.specs.declared.cause.Cause.{Cause}
+use Rattle.zk_service.specs.declared.cause.Cause.TheVariants as cause
 use Rattle.zx_base.specs.Maps.{Bytes}
 use Rattle.zn_reads.specs.SeenPaths.{seen_paths}
 use Rattle.zn_view.specs.Adding.{AreRecords, IsFirstDamaged}

@@ -6,7 +6,7 @@ use Rattle.std.specs.Ordering.{int_eq}
 use Rattle.zk_jute.specs.Packets.{reply_packet, notice_packet}
 use Rattle.zk_model.specs.Watches.{is_unarmed}
 use Rattle.zk_model.specs.declared.reply.Notice.{Notice}
-use Rattle.zk_transcript.specs.declared.transcript.Cause.{Cause}
+use Rattle.zk_service.specs.declared.cause.Cause.{Cause}
 use Rattle.zp_step.specs.declared.action.Action.{Action}
 use Rattle.zp_step.specs.declared.action.Action.TheVariants as action
 use Rattle.zp_step.specs.Stages.{Core, Pending, Stage, Ready, Waiting, Shut, seen_by, counted_up}

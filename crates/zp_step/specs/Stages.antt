@@ -5,7 +5,7 @@ use Rattle.ev_types.specs.declared.ask.Ask.TheVariants as ask
 use Rattle.zk_model.specs.Watches.{Watches, Seen, no_watches, is_unarmed}
 use Rattle.zk_model.specs.declared.reply.Reply.{Reply}
 use Rattle.zk_model.specs.declared.request.Request.{Request}
-use Rattle.zk_transcript.specs.declared.transcript.Cause.{Cause}
+use Rattle.zk_service.specs.declared.cause.Cause.{Cause}
 use Rattle.zx_base.specs.Maps.{Bytes}
 use Rattle.zn_view.specs.Asks.{reading, transaction}
 use Rattle.zn_view.specs.Seen.{View}

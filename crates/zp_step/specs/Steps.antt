@@ -5,8 +5,8 @@ use Rattle.ev_types.specs.declared.answer.Answer.{Answer}
 use Rattle.zk_jute.specs.Connects.{read_connect}
 use Rattle.zk_jute.specs.Requests.{read_request}
 use Rattle.zk_model.specs.Limits.{max_frame}
-use Rattle.zk_transcript.specs.Walks.{has_header}
-use Rattle.zk_transcript.specs.declared.transcript.Cause.TheVariants as cause
+use Rattle.zk_service.specs.Answers.{has_header}
+use Rattle.zk_service.specs.declared.cause.Cause.TheVariants as cause
 use Rattle.zn_layout.specs.declared.entry.Entry.{Entry}
 use Rattle.zs_session.specs.Answering.{IsAwaited}
 use Rattle.zp_step.specs.declared.action.Action.{Action}

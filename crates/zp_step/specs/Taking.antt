@@ -3,10 +3,9 @@ use Rattle.std.specs.Prelude.{◌≢◌, ℕ, ℤ, ◌+◌, ◌⊎◌, Bool, tru
 use Rattle.std.specs.Map.{lookup}
 use Rattle.zk_jute.specs.Packets.{reply_packet}
 use Rattle.zk_jute.specs.Requests.{Frame, Asks, read_request}
-use Rattle.zk_transcript.specs.Answers.{Told, plain_reply, xid_of}
-use Rattle.zk_transcript.specs.Walks.{is_auth_refusal}
-use Rattle.zk_transcript.specs.declared.transcript.Cause.{Cause}
-use Rattle.zk_transcript.specs.declared.transcript.Cause.TheVariants as cause
+use Rattle.zk_service.specs.Answers.{Told, plain_reply, xid_of, is_auth_refusal}
+use Rattle.zk_service.specs.declared.cause.Cause.{Cause}
+use Rattle.zk_service.specs.declared.cause.Cause.TheVariants as cause
 use Rattle.zk_model.specs.declared.request.Request.{Request}
 use Rattle.zx_base.specs.Maps.{Bytes, same}
 use Rattle.zn_view.specs.Deciding.{IsTested}

@@ -1,7 +1,7 @@
 //! What a connection does.
 
 use ev_types::Ask;
-use zk_transcript::Cause;
+use zk_service::Cause;
 use zx_base::Bytes;
 
 /// What a connection does at an input: packets first, and then one ask, or the close, or neither.

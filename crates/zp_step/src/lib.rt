@@ -1,7 +1,7 @@
 //! One connection as a state machine: what it is handed, what it does then, and what a step of it is.
 //!
 //! A connection is handed one [`Input`] at a time, with the time at which it comes, and answers with [`Action`]s: asks for
-//! etcd, packets for its client, and at last the [cause](zk_transcript::Cause) for which it is closed. It has at most one ask
+//! etcd, packets for its client, and at last the [cause](zk_service::Cause) for which it is closed. It has at most one ask
 //! out, and answers its client's frames in order. The client is told of an update that fires one of its watches before it is sent
 //! a reply computed on a state with that update (ZooKeeper Programmer's Guide, "ZooKeeper Sessions", "ZooKeeper Watches",
 //! "Consistency Guarantees").

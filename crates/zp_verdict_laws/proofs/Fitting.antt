@@ -15,18 +15,18 @@ use Rattle.zk_transcript.proofs.Conditions.{attach-shows, reaped-lapsed}
 use Rattle.zk_transcript.proofs.Placed.{is_legal-at}
 use Rattle.zk_transcript.proofs.Prefixes.{begins-take, is_legal-begins, is_legal-take}
 use Rattle.zk_transcript.proofs.SoundHistories.{legal-sound}
-use Rattle.zk_transcript.specs.History.{Session, attached_session, connect, frame, opening, request, session_at, state_at}
+use Rattle.zk_service.specs.States.{Session, attached_session, session_at}
+use Rattle.zk_transcript.specs.History.{connect, frame, opening, request, state_at, begin_lines}
 use Rattle.zk_transcript.specs.Legal.{asks_anew, is_close, is_id, is_legal, is_live_as, is_next_zxid, is_small_frame, may_attach, may_update, offers}
-use Rattle.zk_transcript.specs.declared.transcript.Cause.TheVariants as cause
-use Rattle.zk_transcript.specs.declared.transcript.Cause.{Cause}
-use Rattle.zk_transcript.specs.declared.transcript.Ended.TheVariants as ended
-use Rattle.zk_transcript.specs.declared.transcript.Ended.{Ended}
+use Rattle.zk_service.specs.declared.cause.Cause.TheVariants as cause
+use Rattle.zk_service.specs.declared.cause.Cause.{Cause}
+use Rattle.zk_service.specs.declared.cause.Ended.TheVariants as ended
+use Rattle.zk_service.specs.declared.cause.Ended.{Ended}
 use Rattle.zk_transcript.specs.declared.transcript.TranscriptLine.TheVariants.{Close, Frame as FrameLine, Lapse as LapseLine, Open, Send, Update}
 use Rattle.zk_transcript.specs.declared.transcript.TranscriptLine.{TranscriptLine}
-use Rattle.zk_transcript.specs.declared.transcript.UpdateKind.TheVariants as kind
-use Rattle.zk_transcript.specs.declared.transcript.UpdateKind.{UpdateKind}
-use Rattle.zk_transcript.specs.declared.transcript.UpdateRec.{UpdateRec}
-use Rattle.zn_layout.specs.Begin.{begin_lines}
+use Rattle.zk_service.specs.declared.update.UpdateKind.TheVariants as kind
+use Rattle.zk_service.specs.declared.update.UpdateKind.{UpdateKind}
+use Rattle.zk_service.specs.declared.update.UpdateRec.{UpdateRec}
 use Rattle.zp_verdict_laws.proofs.Naturals.{IsNaturalEnd, IsNaturalLine}
 use Rattle.zp_verdict_laws.proofs.Running.{run-lines, run-natural}
 use Rattle.zp_verdict_laws.proofs.Stored.{IsNatural, IsNaturalCause}

@@ -16,15 +16,15 @@ use Rattle.zk_transcript.proofs.Placed.{is_legal-at}
 use Rattle.zk_transcript.proofs.Prefixes.{is_legal-take}
 use Rattle.zk_transcript.proofs.Zxids.{zxids-rise}
 use Rattle.zk_transcript.specs.Conversations.{IsShownFresh, close_shown}
-use Rattle.zk_transcript.specs.History.{State, after, asked_commit, change, connect, first_shown, frame, nothing_yet, opening, request, session_at}
+use Rattle.zk_service.specs.States.{State, nothing_yet, session_at}
+use Rattle.zk_transcript.specs.History.{after, asked_commit, change, connect, first_shown, frame, opening, request, begin_lines}
 use Rattle.zk_transcript.specs.Legal.{asks_anew, attach_of, begins, is_begin, is_close, is_legal, is_legal_line, is_next_zxid, is_resumed_by, is_small_frame, is_within_parts, may_attach, may_update, offers}
-use Rattle.zk_transcript.specs.declared.transcript.Ended.{Ended as SomeEnd}
+use Rattle.zk_service.specs.declared.cause.Ended.{Ended as SomeEnd}
 use Rattle.zk_transcript.specs.declared.transcript.TranscriptLine.TheVariants.{Close, Frame as FrameLine, Lapse, Open, Send, Update}
 use Rattle.zk_transcript.specs.declared.transcript.TranscriptLine.{TranscriptLine}
-use Rattle.zk_transcript.specs.declared.transcript.UpdateKind.TheVariants.{Asked, Attach, Begin, Closed, Reaped, Session as NewSession}
-use Rattle.zk_transcript.specs.declared.transcript.UpdateKind.{UpdateKind}
-use Rattle.zk_transcript.specs.declared.transcript.UpdateRec.{UpdateRec}
-use Rattle.zn_layout.specs.Begin.{begin_lines}
+use Rattle.zk_service.specs.declared.update.UpdateKind.TheVariants.{Asked, Attach, Begin, Closed, Reaped, Session as NewSession}
+use Rattle.zk_service.specs.declared.update.UpdateKind.{UpdateKind}
+use Rattle.zk_service.specs.declared.update.UpdateRec.{UpdateRec}
 use Rattle.zp_verdict_laws.proofs.Meaning.{framed-opened, found-as}
 use Rattle.zp_verdict_laws.proofs.Progress.{Broken, Ended, Opened, Progress, Unused, broken-later, progress, progress-append, progressed, takes}
 use Rattle.zp_world_laws.proofs.Executing.{same-nat}

@@ -7,7 +7,7 @@ use Rattle.zk_transcript.proofs.Histories.{first_shown-push}
 use Rattle.zk_transcript.proofs.Lookups.{first_shown-new, first_shown-skip}
 use Rattle.zk_transcript.specs.Conversations.{close_shown}
 use Rattle.zk_transcript.specs.History.{first_shown, frame, frame_shown, open_shown, opening, when}
-use Rattle.zk_transcript.specs.declared.transcript.Ended.{Ended as SomeEnd}
+use Rattle.zk_service.specs.declared.cause.Ended.{Ended as SomeEnd}
 use Rattle.zk_transcript.specs.declared.transcript.TranscriptLine.TheVariants.{Close, Frame as FrameLine, Lapse, Open, Send, Update}
 use Rattle.zk_transcript.specs.declared.transcript.TranscriptLine.{TranscriptLine}
 use Rattle.zp_verdict_laws.proofs.Progress.{Broken, Ended, Opened, Progress, Unused, closes, frames_of-append, opens, progress, progress_from, progressed, sends, takes}

@@ -14,7 +14,7 @@ use Rattle.zk_model.specs.Limits.{max_time}
 use Rattle.zk_transcript.specs.Legal.{Tick}
 use Rattle.zk_transcript.specs.declared.transcript.TranscriptLine.TheVariants.{Lapse as LapseLine, Open}
 use Rattle.zk_transcript.specs.declared.transcript.TranscriptLine.{TranscriptLine}
-use Rattle.zn_layout.specs.Begin.{begin_lines}
+use Rattle.zk_transcript.specs.History.{begin_lines}
 use Rattle.zp_script.specs.Effects.{Does, LapsesTo, PutTo, new_conn, new_reap, new_reaper, opened}
 use Rattle.zp_script.specs.Entries.{cursor_at, next_entry}
 use Rattle.zp_script.specs.Faults.{fault, flight_at}

@@ -23,8 +23,8 @@ use Rattle.zn_view.specs.Asks.{found_in}
 use Rattle.zx_base.proofs.MapLaws.{either, get-insert_other, get-insert_same, get-remove_other, get-remove_same, get-retain}
 use Rattle.zx_base.proofs.Options.{none_some, some_is}
 use Rattle.zx_base.specs.Maps.{Bytes}
-use Rattle.zk_transcript.specs.declared.transcript.Cause.TheVariants as cause
-use Rattle.zk_transcript.specs.declared.transcript.Cause.{Cause}
+use Rattle.zk_service.specs.declared.cause.Cause.TheVariants as cause
+use Rattle.zk_service.specs.declared.cause.Cause.{Cause}
 
 -- not below 0
 abbrev pub IsNatural : ℤ → Type 0

@@ -9,7 +9,7 @@ use Rattle.zk_transcript.specs.Conversations.{IsLawfulAndFresh, IsServed}
 use Rattle.zk_transcript.specs.Legal.{Tick, is_in_order, is_ordered, is_ordered_from}
 use Rattle.zk_transcript.specs.declared.transcript.TranscriptLine.TheVariants.{Update}
 use Rattle.zk_transcript.specs.declared.transcript.TranscriptLine.{TranscriptLine}
-use Rattle.zk_transcript.specs.declared.transcript.UpdateKind.TheVariants.{Asked}
+use Rattle.zk_service.specs.declared.update.UpdateKind.TheVariants.{Asked}
 use Rattle.zp_script.specs.Runs.{Runs}
 use Rattle.zp_script.specs.Worlds.{Actor, Closed, Conn, Connection, Reaper, World, conn_at}
 use Rattle.zp_verdict_laws.proofs.Formed.{IsUnbrokenRun, no-history-fault}

@@ -7,14 +7,14 @@ use Rattle.zt_lines.specs.Readable.{FitsFrameLength, FitsLine, FitsNumber, FitsP
 use Rattle.zt_lines.specs.Transcripts.{transcript}
 use Rattle.zk_model.specs.Limits.{max_long}
 use Rattle.zk_transcript.specs.Legal.{Tick}
-use Rattle.zk_transcript.specs.declared.transcript.Cause.TheVariants as cause
-use Rattle.zk_transcript.specs.declared.transcript.Cause.{Cause}
-use Rattle.zk_transcript.specs.declared.transcript.Ended.TheVariants as ended
-use Rattle.zk_transcript.specs.declared.transcript.Ended.{Ended}
+use Rattle.zk_service.specs.declared.cause.Cause.TheVariants as cause
+use Rattle.zk_service.specs.declared.cause.Cause.{Cause}
+use Rattle.zk_service.specs.declared.cause.Ended.TheVariants as ended
+use Rattle.zk_service.specs.declared.cause.Ended.{Ended}
 use Rattle.zk_transcript.specs.declared.transcript.TranscriptLine.TheVariants as shown
 use Rattle.zk_transcript.specs.declared.transcript.TranscriptLine.{TranscriptLine}
-use Rattle.zk_transcript.specs.declared.transcript.UpdateKind.TheVariants as kind
-use Rattle.zk_transcript.specs.declared.transcript.UpdateKind.{UpdateKind}
+use Rattle.zk_service.specs.declared.update.UpdateKind.TheVariants as kind
+use Rattle.zk_service.specs.declared.update.UpdateKind.{UpdateKind}
 use Rattle.zp_script.specs.Runs.{Runs}
 use Rattle.zp_script.specs.Worlds.{World}
 use Rattle.zp_verdict_laws.specs.Lawful.{AreCounted}

@@ -4,7 +4,8 @@ ghost use Rattle.zt_text.specs.Transcripts.{AreBytes};
 ghost use Rattle.zt_lines.specs.Readable.{FitsFrameLength, FitsNumber, FitsPassword, FitsPlace};
 ghost use Rattle.zp_verdict_laws.specs.Written.{AreTyped, IsInLong, IsTyped, IsTypedCause, IsTypedEnd, IsTypedKind};
 
-use zk_transcript::{Cause, Ended, TranscriptLine, UpdateKind};
+use zk_service::{Cause, Ended, UpdateKind};
+use zk_transcript::TranscriptLine;
 
 /// Proof only: in each line no number passes its type's end, and bytes are bytes. It takes time linear in the lines.
 pub fn lines_are_typed(lines: &[TranscriptLine])

@@ -8,15 +8,16 @@ use Rattle.ev_types.specs.Ranges.{Keys}
 use Rattle.ev_types.specs.Store.{Store, mod_of, new_store, present}
 use Rattle.ev_types.specs.declared.answer.Answer.{Answer}
 use Rattle.zk_model.specs.declared.node.Trigger.{Trigger}
-use Rattle.zk_transcript.specs.History.{after}
-use Rattle.zn_layout.specs.Begin.{Begins, begin_ask, begin_lines}
+use Rattle.zk_transcript.specs.History.{after, begin_lines}
+use Rattle.zn_layout.specs.Begin.{Begins, begin_ask}
 use Rattle.zn_layout.specs.Keys.{HeadKey}
 use Rattle.zn_layout.specs.Reading.{IsReadAs, IsHeadWithin, head_bytes}
 use Rattle.zn_layout.specs.Records.{IsHeadRec, head_value}
 use Rattle.zn_layout.specs.StandsFor.{HeadMeans, StandsFor, at}
 use Rattle.zn_layout.specs.declared.entry.Entry.{Entry}
 use Rattle.zn_layout.specs.declared.record.HeadRec.{HeadRec}
-use Rattle.zn_layout.proofs.First.{after-begin, first_state}
+use Rattle.zk_transcript.proofs.Begins.{after-begin}
+use Rattle.zk_service.specs.States.{first_state}
 use Rattle.zn_layout.proofs.ListRecords.{head_value-injective}
 use Rattle.zp_script.specs.Entries.{AreTriggersOf, IsEntryOf, triggers_of}
 use Rattle.zp_script.specs.Runs.{first_entry, world_over}
@@ -32,7 +33,7 @@ begun b s a h = ap (λ (p : Store × Answer). p.0) (some_is (sym b.carried ∙ h
 
 -- its keys stand for the state after the first update's line
 pub begun-stands : Begins 0 → (s : Store) → (a : Answer) × (carry new_store (begin_ask 0) ≡ Some (s, a)) → StandsFor (present s) (after (begin_lines 0))
-begun-stands b s h = subst (λ (t : Store). StandsFor (present t) (after (begin_lines 0))) (begun b s h.0 h.1) b.stands
+begun-stands b s h = subst (λ (t : Store). StandsFor (present t) (after (begin_lines 0))) (begun b s h.0 h.1) (subst (StandsFor (present b.new)) (sym (after-begin 0)) b.stands)
 
 -- ---- its entry
 

@@ -16,7 +16,7 @@ use Rattle.ev_types.specs.declared.answer.Answer.TheVariants as answer
 use Rattle.ev_types.specs.declared.answer.Kv.{Kv}
 use Rattle.ev_types.specs.declared.ask.Ask.{Ask}
 use Rattle.ev_types.specs.declared.ask.Ask.TheVariants as ask
-use Rattle.zk_transcript.specs.declared.transcript.UpdateKind.{UpdateKind}
+use Rattle.zk_service.specs.declared.update.UpdateKind.{UpdateKind}
 use Rattle.zn_view.specs.Adding.{AreNumbersIn}
 use Rattle.zn_view.specs.Seen.{AreCounts}
 use Rattle.zp_script.specs.Carrying.{CarriedBy, CarriesOut, Executes, ExecutesStray, ShowsUpdate}

@@ -5,7 +5,7 @@ use Rattle.ev_types.specs.Denials.{carry}
 use Rattle.ev_types.specs.Store.{Store}
 use Rattle.ev_types.specs.declared.answer.Answer.{Answer}
 use Rattle.ev_types.specs.declared.ask.Ask.{Ask}
-use Rattle.zk_transcript.specs.declared.transcript.UpdateKind.{UpdateKind}
+use Rattle.zk_service.specs.declared.update.UpdateKind.{UpdateKind}
 use Rattle.zp_script.specs.Carrying.{ShowsUpdate}
 use Rattle.zp_script.specs.Worlds.{World, zxid_at}
 use Rattle.zp_script.specs.declared.flight.Asking.{Asking}

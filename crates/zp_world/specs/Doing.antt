@@ -1,7 +1,7 @@
 -- What is done with a connection or a reaper that is held apart from its world while it takes a step.
 use Rattle.std.specs.Prelude.{◌≡◌, ℕ, List, Option, None, [], ◌∷◌, ◌++◌}
 use Rattle.std.specs.FinMap.{remove}
-use Rattle.zk_transcript.specs.declared.transcript.Ended.{Ended}
+use Rattle.zk_service.specs.declared.cause.Ended.{Ended}
 use Rattle.zk_transcript.specs.declared.transcript.TranscriptLine.{TranscriptLine}
 use Rattle.zk_transcript.specs.declared.transcript.TranscriptLine.TheVariants as line
 use Rattle.zp_script.specs.declared.flight.Flight.{Flight}

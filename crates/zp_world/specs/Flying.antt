@@ -2,9 +2,9 @@
 use Rattle.std.specs.Prelude.{◌≡◌, ◌≢◌, ◌⊎◌, pos, ◌≤ℤ◌, false, List, Option, Some, None, IfSome, All}
 use Rattle.ev_store.specs.Asks.{IsGrantable}
 use Rattle.ev_types.specs.declared.ask.Ask.{Ask}
-use Rattle.zk_transcript.specs.declared.transcript.Cause.{Cause}
-use Rattle.zk_transcript.specs.declared.transcript.UpdateKind.{UpdateKind}
-use Rattle.zk_transcript.specs.declared.transcript.UpdateKind.TheVariants as kind
+use Rattle.zk_service.specs.declared.cause.Cause.{Cause}
+use Rattle.zk_service.specs.declared.update.UpdateKind.{UpdateKind}
+use Rattle.zk_service.specs.declared.update.UpdateKind.TheVariants as kind
 use Rattle.zp_script.specs.declared.flight.Asking.{Asking}
 use Rattle.zp_script.specs.declared.flight.Flight.{Flight}
 use Rattle.zp_script.specs.declared.flight.Flight.TheVariants.{Out, Carried, Denied}

@@ -1,7 +1,7 @@
 -- What is out of a connection after a step.
 use Rattle.std.specs.Prelude.{◌≡◌, true, false, List, fold, Option, Some, None}
 use Rattle.ev_types.specs.declared.ask.Ask.{Ask}
-use Rattle.zk_transcript.specs.declared.transcript.UpdateKind.{UpdateKind}
+use Rattle.zk_service.specs.declared.update.UpdateKind.{UpdateKind}
 use Rattle.zp_script.specs.declared.flight.Flight.{Flight}
 use Rattle.zp_script.specs.declared.flight.Flight.TheVariants.{Out}
 use Rattle.zp_laws.specs.Ending.{asked_by, closes, ends_well}

@@ -16,7 +16,7 @@ use crate::head::head_of;
 use crate::world::World;
 use ev_store::StoreFault;
 use ev_types::{Answer, Ask};
-use zk_transcript::UpdateKind;
+use zk_service::UpdateKind;
 use zp_script::{Asking, Flight};
 use zx_base::Memory;
 

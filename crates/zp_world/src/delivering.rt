@@ -1,8 +1,8 @@
 //! An answer, a failure or an entry is delivered.
 
 ghost use Rattle.std.specs.Prelude.{◌≡◌, ◌+◌, ◌≤ℤ◌, length, [], pos, true, false, Some, None, IfSome, OnOk, option_copied};
-ghost use Rattle.zk_transcript.specs.declared.transcript.Cause.TheVariants as cause;
-ghost use Rattle.zk_transcript.specs.declared.transcript.Ended.TheVariants as finish;
+ghost use Rattle.zk_service.specs.declared.cause.Cause.TheVariants as cause;
+ghost use Rattle.zk_service.specs.declared.cause.Ended.TheVariants as finish;
 ghost use Rattle.zp_script.specs.Effects.{Delivers, EndsBy, EntersBy, LagsBy, new_reap, new_reaper};
 ghost use Rattle.zp_script.specs.Entries.{cursor_at, next_entry};
 ghost use Rattle.zp_script.specs.Faults.{ask_fault, fault, flight_at};
@@ -24,7 +24,7 @@ use crate::formed::kind_is_formed;
 use crate::refusals::MAX_KEPT;
 use crate::world::World;
 use ev_types::Answer;
-use zk_transcript::{Cause, Ended, UpdateKind};
+use zk_service::{Cause, Ended, UpdateKind};
 use zp_core::Core;
 use zp_script::{Asking, Flight};
 use zp_step::Input;

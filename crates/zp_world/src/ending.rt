@@ -3,7 +3,7 @@
 ghost use Rattle.std.specs.Prelude.{◌≡◌, ◌++◌, ◌∷◌, [], false, if◌then◌else◌, IfOk, IfSome, Some, OnOk};
 ghost use Rattle.std.specs.Vec.Iter.{into_iter_items};
 ghost use Rattle.zp_core.specs.Held.{IsHeld};
-ghost use Rattle.zk_transcript.specs.declared.transcript.Cause.TheVariants as cause;
+ghost use Rattle.zk_service.specs.declared.cause.Cause.TheVariants as cause;
 ghost use Rattle.zk_transcript.specs.declared.transcript.TranscriptLine.TheVariants.{Close as CloseLine};
 ghost use Rattle.zp_script.specs.Arriving.{frame_lines};
 ghost use Rattle.zp_script.specs.Effects.{restarted};
@@ -23,7 +23,8 @@ use crate::activity::{Activity, Actor, Seat};
 use crate::formed::{are_bytes, end_is_formed, is_number, is_signed, kind_is_formed};
 use crate::world::World;
 use std::vec::IntoIter;
-use zk_transcript::{Cause, Ended, TranscriptLine, UpdateKind};
+use zk_service::{Cause, Ended, UpdateKind};
+use zk_transcript::TranscriptLine;
 use zp_core::Core;
 use zp_ledger::Transcript;
 use zp_script::{Asking, Flight};

@@ -4,7 +4,7 @@ ghost use Rattle.std.specs.Prelude.{◌≡◌, pos, ◌≤ℤ◌};
 ghost use Rattle.zt_text.specs.Transcripts.{AreBytes, IsNumber, IsSignedNumber, IsWellFormedCause, IsWellFormedEnd, IsWellFormedKind};
 ghost use Rattle.zp_world.specs.Flying.{HasSession};
 
-use zk_transcript::{Cause, Ended, UpdateKind};
+use zk_service::{Cause, Ended, UpdateKind};
 
 /// Proof only: every byte is below 256.
 pub(crate) fn are_bytes(bytes: &[u8])

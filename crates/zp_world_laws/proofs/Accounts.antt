@@ -12,12 +12,13 @@ use Rattle.zk_transcript.proofs.Appending.{after-push}
 use Rattle.zk_transcript.proofs.Attachments.{attach_of-skip}
 use Rattle.zk_transcript.proofs.Lookups.{first_shown-new}
 use Rattle.zk_transcript.specs.Conversations.{IsInConnection, close_shown}
-use Rattle.zk_transcript.specs.History.{Session, State, after, frame_shown, lapsed_in, open_shown, opening, session_at, when}
+use Rattle.zk_service.specs.States.{Session, State, lapsed_in, session_at}
+use Rattle.zk_transcript.specs.History.{after, frame_shown, open_shown, opening, when}
 use Rattle.zk_transcript.specs.Legal.{Attachment, attach_shown}
 use Rattle.zk_transcript.specs.Walks.{packets}
 use Rattle.zk_transcript.specs.declared.transcript.TranscriptLine.TheVariants.{Lapse as LapseLine, Open, Update}
 use Rattle.zk_transcript.specs.declared.transcript.TranscriptLine.{TranscriptLine}
-use Rattle.zk_transcript.specs.declared.transcript.UpdateKind.{UpdateKind}
+use Rattle.zk_service.specs.declared.update.UpdateKind.{UpdateKind}
 use Rattle.zn_view.specs.Asks.{reading}
 use Rattle.zp_script.specs.Carrying.{CarriedBy, Executes, ExecutesStray}
 use Rattle.zp_script.specs.Effects.{LapsesTo, PutTo, new_conn, new_reap, new_reaper, opened}

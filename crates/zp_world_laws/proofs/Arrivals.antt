@@ -10,7 +10,7 @@ use Rattle.zk_jute.specs.JuteValues.{Spelled}
 use Rattle.zk_model.specs.Limits.{max_frame}
 use Rattle.zk_transcript.specs.History.{after}
 use Rattle.zk_transcript.specs.Walks.{placed_frame}
-use Rattle.zk_transcript.specs.declared.transcript.Cause.TheVariants as cause
+use Rattle.zk_service.specs.declared.cause.Cause.TheVariants as cause
 use Rattle.zk_transcript.specs.declared.transcript.TranscriptLine.TheVariants.{Frame as FrameLine}
 use Rattle.zk_transcript.specs.declared.transcript.TranscriptLine.{TranscriptLine}
 use Rattle.zp_script.specs.Arriving.{Arrives, EndsBadly, FramesArrive, frame_lines, shown_frame}

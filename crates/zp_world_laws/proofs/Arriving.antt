@@ -11,9 +11,10 @@ use Rattle.std.specs.Prelude.{All, MatchBool, None, Option, Some, if◌then◌el
 use Rattle.zk_jute.specs.Requests.{read_request}
 use Rattle.zk_model.specs.Limits.{max_frame}
 use Rattle.zk_transcript.specs.History.{after}
-use Rattle.zk_transcript.specs.Walks.{Walker, has_header}
-use Rattle.zk_transcript.specs.declared.transcript.Cause.TheVariants as cause
-use Rattle.zk_transcript.specs.declared.transcript.Cause.{Cause}
+use Rattle.zk_transcript.specs.Walks.{Walker}
+use Rattle.zk_service.specs.Answers.{has_header}
+use Rattle.zk_service.specs.declared.cause.Cause.TheVariants as cause
+use Rattle.zk_service.specs.declared.cause.Cause.{Cause}
 use Rattle.zk_transcript.specs.declared.transcript.TranscriptLine.TheVariants.{Frame as FrameLine}
 use Rattle.zk_transcript.specs.declared.transcript.TranscriptLine.{TranscriptLine}
 use Rattle.zp_script.specs.Arriving.{frame_lines, shown_frame}

@@ -16,8 +16,8 @@ use Rattle.zk_transcript.specs.Legal.{Attachment, attach_of, attach_shown, index
 use Rattle.zk_transcript.specs.Walks.{Walker, at_start, packets}
 use Rattle.zk_transcript.specs.declared.transcript.TranscriptLine.TheVariants.{Update}
 use Rattle.zk_transcript.specs.declared.transcript.TranscriptLine.{TranscriptLine}
-use Rattle.zk_transcript.specs.declared.transcript.UpdateKind.TheVariants.{Asked, Attach, Begin, Closed, Reaped, Session as NewSession}
-use Rattle.zk_transcript.specs.declared.transcript.UpdateKind.{UpdateKind}
+use Rattle.zk_service.specs.declared.update.UpdateKind.TheVariants.{Asked, Attach, Begin, Closed, Reaped, Session as NewSession}
+use Rattle.zk_service.specs.declared.update.UpdateKind.{UpdateKind}
 use Rattle.zp_script.specs.Worlds.{World}
 use Rattle.zp_script.specs.declared.flight.Asking.{Asking}
 use Rattle.zp_laws.specs.Inputs.{Precedes}

@@ -5,8 +5,9 @@ use Rattle.std.proofs.lemmas.Bool.Decides.{nat_tests}
 use Rattle.std.proofs.lemmas.Option.{slice_get_within}
 use Rattle.zk_transcript.proofs.Appending.{after-push}
 use Rattle.zk_model.specs.Limits.{max_frame}
-use Rattle.zk_transcript.specs.History.{State, after, frame, frame_shown, first_shown}
-use Rattle.zk_transcript.specs.declared.transcript.Ended.{Ended}
+use Rattle.zk_service.specs.States.{State}
+use Rattle.zk_transcript.specs.History.{after, frame, frame_shown, first_shown}
+use Rattle.zk_service.specs.declared.cause.Ended.{Ended}
 use Rattle.zk_transcript.specs.declared.transcript.TranscriptLine.{TranscriptLine}
 use Rattle.zk_transcript.specs.declared.transcript.TranscriptLine.TheVariants.{Frame as FrameLine, Close}
 use Rattle.zp_step.specs.Stages.{Core, is_shut}

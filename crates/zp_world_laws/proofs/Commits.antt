@@ -15,11 +15,12 @@ use Rattle.ev_types.specs.declared.ask.TxnReq.{TxnReq}
 use Rattle.zk_model.specs.Limits.{max_long}
 use Rattle.zk_transcript.proofs.Appending.{after-push, is_legal-push, is_ordered-push}
 use Rattle.zk_transcript.proofs.Histories.{next-above}
-use Rattle.zk_transcript.specs.History.{State, after, state_at, updated}
+use Rattle.zk_service.specs.States.{State}
+use Rattle.zk_transcript.specs.History.{after, state_at, updated}
 use Rattle.zk_transcript.specs.Legal.{is_next_zxid, may_update}
 use Rattle.zk_transcript.specs.declared.transcript.TranscriptLine.{TranscriptLine}
 use Rattle.zk_transcript.specs.declared.transcript.TranscriptLine.TheVariants.{Update}
-use Rattle.zk_transcript.specs.declared.transcript.UpdateKind.{UpdateKind}
+use Rattle.zk_service.specs.declared.update.UpdateKind.{UpdateKind}
 use Rattle.zn_layout.specs.Keys.{HeadKey, key_bytes}
 use Rattle.zn_layout.specs.StandsFor.{HeadMeans, StandsFor, at}
 use Rattle.zp_script.specs.Worlds.{zxid_at}

@@ -20,15 +20,16 @@ use Rattle.zk_transcript.proofs.Appending.{after-push, first_place-push}
 use Rattle.zk_transcript.proofs.Attachments.{attach_of-new}
 use Rattle.zk_transcript.proofs.Histories.{first_shown-push}
 use Rattle.zk_transcript.proofs.Lookups.{first_shown-place}
-use Rattle.zk_transcript.proofs.SessionMaps.{at-insert_same}
+use Rattle.zk_service.proofs.SessionMaps.{at-insert_same}
 use Rattle.zk_transcript.proofs.SoundHistories.{legal-bounded, legal-sound}
 use Rattle.zk_transcript.proofs.Walks.{first_place-bound}
-use Rattle.zk_transcript.specs.History.{IsSound, Session, State, after, attached_anew, connect, frame, frame_shown, granted_timeout, new_session, open_shown, opening, or_nothing, session_at, state_at, updated, when}
+use Rattle.zk_service.specs.States.{IsSound, Session, State, attached_anew, granted_timeout, new_session, or_nothing, session_at}
+use Rattle.zk_transcript.specs.History.{after, connect, frame, frame_shown, open_shown, opening, state_at, updated, when}
 use Rattle.zk_transcript.specs.Legal.{attach_in, attach_of, index_in, is_below_place}
 use Rattle.zk_transcript.specs.Walks.{packets}
 use Rattle.zk_transcript.specs.declared.transcript.TranscriptLine.{TranscriptLine}
-use Rattle.zk_transcript.specs.declared.transcript.UpdateKind.TheVariants.{Attach, Session as NewSession}
-use Rattle.zk_transcript.specs.declared.transcript.UpdateKind.{UpdateKind}
+use Rattle.zk_service.specs.declared.update.UpdateKind.TheVariants.{Attach, Session as NewSession}
+use Rattle.zk_service.specs.declared.update.UpdateKind.{UpdateKind}
 use Rattle.zn_layout.specs.StandsFor.{StandsFor}
 use Rattle.zn_layout.specs.declared.record.LeaseRec.{LeaseRec}
 use Rattle.zn_view.specs.Asks.{ranges_of}
@@ -55,7 +56,7 @@ use Rattle.zp_world_laws.specs.Bounds.{IsBound, IsBoundAs, IsBoundAsk, IsUnattac
 use Rattle.zp_world_laws.specs.Connecting.{HasOwnLine, IsConnectAnswer, IsConnectOut, IsConnecting, IsOwnSession, IsSeenLife, IsUntouched, RestsOn}
 use Rattle.zp_world_laws.specs.Connections.{HasSmallFrames}
 use Rattle.zp_world_laws.specs.Serving.{StoreServes, next_revision, only_reads, update_lines}
-use Rattle.zs_session.proofs.Attachments.{session-attached}
+use Rattle.zp_laws.proofs.Attachments.{session-attached}
 use Rattle.zs_session.proofs.Welcomes.{number-welcomed}
 use Rattle.zs_session.specs.Connecting.{asked_in_phase, number_shown, timeout_in}
 use Rattle.zs_session.specs.Sessions.{attach_changes, attach_guards, attach_txn, attach_wants, first_wants, new_session_changes, new_session_guards, new_session_txn, session_wants}

@@ -13,10 +13,11 @@ use Rattle.ev_types.specs.declared.ask.TxnReq.{TxnReq}
 use Rattle.zk_model.specs.Limits.{max_frame}
 use Rattle.zk_model.specs.declared.connect.ConnectRequest.{ConnectRequest}
 use Rattle.zk_transcript.proofs.SoundHistories.{legal-sound}
-use Rattle.zk_transcript.specs.History.{Session, after, connect, frame, granted_timeout, session_at, session_ended, updated}
+use Rattle.zk_service.specs.States.{Session, granted_timeout, session_at, session_ended}
+use Rattle.zk_transcript.specs.History.{after, connect, frame, updated}
 use Rattle.zk_transcript.specs.Legal.{asks_anew, attach_of, is_id, is_lapsed, is_resumed_by, is_small_frame, may_attach, may_update, offers}
 use Rattle.zk_transcript.specs.declared.transcript.TranscriptLine.{TranscriptLine}
-use Rattle.zk_transcript.specs.declared.transcript.UpdateKind.TheVariants.{Session as NewSession, Attach, Reaped}
+use Rattle.zk_service.specs.declared.update.UpdateKind.TheVariants.{Session as NewSession, Attach, Reaped}
 use Rattle.zn_layout.specs.Keys.{key_bytes}
 use Rattle.zn_layout.specs.Records.{lease_value}
 use Rattle.zn_layout.specs.StandsFor.{StandsFor, at}
@@ -24,8 +25,8 @@ use Rattle.zn_layout.specs.declared.record.LeaseRec.{LeaseRec}
 use Rattle.zn_view.specs.Asks.{picked}
 use Rattle.zn_view.proofs.Narrowing.{picked-among}
 use Rattle.zp_laws.proofs.Revisions.{as-it-was, may-commit}
-use Rattle.zs_session.proofs.Attachments.{session-attached}
-use Rattle.zs_session.proofs.NewSessions.{new_session-commits}
+use Rattle.zp_laws.proofs.Attachments.{session-attached}
+use Rattle.zp_laws.proofs.NewSessions.{new_session-commits}
 use Rattle.zs_session.specs.Sessions.{attach_guards, life_key, new_session_txn}
 use Rattle.zx_base.proofs.Options.{some_is}
 use Rattle.zp_world_laws.proofs.Commits.{stands-now, zxid-next}

@@ -16,7 +16,7 @@ use Rattle.zk_transcript.proofs.Appending.{after-push}
 use Rattle.zk_transcript.specs.History.{after}
 use Rattle.zk_transcript.specs.declared.transcript.TranscriptLine.{TranscriptLine}
 use Rattle.zk_transcript.specs.declared.transcript.TranscriptLine.TheVariants.{Lapse as LapseLine}
-use Rattle.zk_transcript.specs.declared.transcript.UpdateKind.{UpdateKind}
+use Rattle.zk_service.specs.declared.update.UpdateKind.{UpdateKind}
 use Rattle.zn_layout.proofs.Foreign.{foreign-stands}
 use Rattle.zn_layout.proofs.Lapses.{lapse-stands}
 use Rattle.zn_layout.specs.Keys.{front}

@@ -9,10 +9,11 @@ use Rattle.ev_types.specs.Store.{Store, present}
 use Rattle.zk_model.specs.Watches.{is_unarmed}
 use Rattle.zk_transcript.proofs.Lookups.{slice_get-front}
 use Rattle.zk_transcript.proofs.Walks.{state_at-push}
-use Rattle.zk_transcript.specs.History.{State, after}
+use Rattle.zk_service.specs.States.{State}
+use Rattle.zk_transcript.specs.History.{after, update_in, updates, begin_lines, updated}
 use Rattle.zk_transcript.specs.declared.transcript.TranscriptLine.{TranscriptLine}
 use Rattle.zk_transcript.specs.declared.transcript.TranscriptLine.TheVariants.{Update}
-use Rattle.zk_transcript.specs.declared.transcript.UpdateRec.{UpdateRec}
+use Rattle.zk_service.specs.declared.update.UpdateRec.{UpdateRec}
 use Rattle.zn_layout.specs.declared.entry.Entry.{Entry}
 use Rattle.zp_step.specs.declared.wants.Wants.TheVariants as wants
 use Rattle.zp_step.specs.Stages.{Core, Stage, Unconnected, Connecting, Ready, KeepingAlive, Checking, Reading, Committing, Waiting, Shut, wanted_in, wants_of}
@@ -27,9 +28,8 @@ use Rattle.ev_types.specs.declared.answer.Answer.{Answer}
 use Rattle.ev_types.specs.declared.answer.Kv.{Kv}
 use Rattle.zk_model.specs.declared.node.Trigger.{Trigger}
 use Rattle.zk_transcript.proofs.UpdateCounts.{legal-counts}
-use Rattle.zk_transcript.specs.History.{update_in, updates}
 use Rattle.zk_transcript.specs.Legal.{is_legal}
-use Rattle.zk_transcript.specs.declared.transcript.UpdateKind.{UpdateKind}
+use Rattle.zk_service.specs.declared.update.UpdateKind.{UpdateKind}
 use Rattle.zn_layout.proofs.ListRecords.{head_value-injective}
 use Rattle.zn_layout.specs.Keys.{HeadKey}
 use Rattle.zn_layout.specs.StandsFor.{HeadMeans, StandsFor, at}
@@ -37,9 +37,7 @@ use Rattle.zp_script.specs.Carrying.{CarriedBy, Executes, ExecutesStray, HasStor
 use Rattle.zp_script.specs.Entries.{AreTriggersOf, IsEntryOf as IsEntryOfHead}
 use Rattle.zp_script.specs.Runs.{IsFirst, first_entry}
 use Rattle.zp_script.specs.Worlds.{zxid_at}
-use Rattle.zn_layout.specs.Begin.{begin_lines}
-use Rattle.zk_transcript.specs.History.{updated}
-use Rattle.zk_transcript.specs.declared.transcript.UpdateKind.TheVariants.{Begin}
+use Rattle.zk_service.specs.declared.update.UpdateKind.TheVariants.{Begin}
 use Rattle.zp_world_laws.proofs.Commits.{stands-now}
 use Rattle.zp_world_laws.proofs.Effects.{executes-holds, stray-holds}
 use Rattle.zp_world_laws.proofs.Growing.{slice_get-one}

@@ -25,8 +25,8 @@ use Rattle.zk_transcript.specs.Legal.{attach_of, index_in, is_below_place, is_le
 use Rattle.zk_transcript.specs.Walks.{Walker, is_not_overtaken, own_update, own_update_shown, packets}
 use Rattle.zk_transcript.specs.declared.transcript.TranscriptLine.{TranscriptLine}
 use Rattle.zk_transcript.specs.declared.transcript.TranscriptLine.TheVariants.{Update}
-use Rattle.zk_transcript.specs.declared.transcript.UpdateKind.{UpdateKind}
-use Rattle.zk_transcript.specs.declared.transcript.UpdateKind.TheVariants.{Asked, Closed}
+use Rattle.zk_service.specs.declared.update.UpdateKind.{UpdateKind}
+use Rattle.zk_service.specs.declared.update.UpdateKind.TheVariants.{Asked, Closed}
 use Rattle.zn_layout.specs.Changes.{KeyChange}
 use Rattle.zn_layout.specs.StandsFor.{StandsFor}
 use Rattle.zn_layout.specs.Updates.{update_txn}

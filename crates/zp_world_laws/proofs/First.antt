@@ -11,7 +11,7 @@ use Rattle.zk_transcript.specs.Conversations.{IsShownFresh}
 use Rattle.zk_transcript.specs.History.{after}
 use Rattle.zk_transcript.specs.Legal.{is_legal, is_ordered, may_update}
 use Rattle.zn_layout.proofs.FirstUpdate.{begin_stands}
-use Rattle.zn_layout.specs.Begin.{begin_lines}
+use Rattle.zk_transcript.specs.History.{begin_lines}
 use Rattle.zn_layout.specs.StandsFor.{StandsFor}
 use Rattle.zp_script.specs.Runs.{IsFirst, world_over}
 use Rattle.zp_script.specs.Worlds.{World, conn_at}
@@ -21,6 +21,7 @@ use Rattle.zp_world_laws.proofs.Moments.{newer}
 use Rattle.zp_world_laws.specs.Connections.{Whole}
 use Rattle.zp_world_laws.specs.Holding.{Left, Of, Source, air, out_of}
 use Rattle.zp_world_laws.specs.Serving.{StoreServes}
+use Rattle.zk_transcript.proofs.Begins.{after-begin}
 
 first-legal : is_legal (begin_lines 0) ≡ true
 unfolding is_legal may_update
@@ -77,4 +78,4 @@ pub first-whole : (w : World) → IsFirst w → Whole w
 first-whole w (s, a, e, is) =
     let b = begin_stands 0 (omega arith) in
     let same : b.new ≡ s = ap (λ (x : Store × Answer). x.0) (some_is (sym b.carried ∙ e)) in
-    subst Whole (sym is) (over-whole s (first-serves s (ap revision (sym same) ∙ b.revision_is) (subst (λ (t : Store). StandsFor (present t) (after (begin_lines 0))) same b.stands)))
+    subst Whole (sym is) (over-whole s (first-serves s (ap revision (sym same) ∙ b.revision_is) (subst (λ (t : Store). StandsFor (present t) (after (begin_lines 0))) same (subst (StandsFor (present b.new)) (sym (after-begin 0)) b.stands))))

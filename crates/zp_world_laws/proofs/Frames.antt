@@ -10,9 +10,10 @@ use Rattle.zk_transcript.proofs.Histories.{first_shown-push}
 use Rattle.zk_transcript.proofs.Lookups.{first_place-new, first_place-skip}
 use Rattle.zk_transcript.specs.Conversations.{IsInConnection, close_shown}
 use Rattle.zk_transcript.specs.History.{after, frame_shown, open_shown, when}
-use Rattle.zk_transcript.specs.Walks.{Walker, has_header, placed_frame}
-use Rattle.zk_transcript.specs.declared.transcript.Cause.TheVariants as cause
-use Rattle.zk_transcript.specs.declared.transcript.Cause.{Cause}
+use Rattle.zk_transcript.specs.Walks.{Walker, placed_frame}
+use Rattle.zk_service.specs.Answers.{has_header}
+use Rattle.zk_service.specs.declared.cause.Cause.TheVariants as cause
+use Rattle.zk_service.specs.declared.cause.Cause.{Cause}
 use Rattle.zk_transcript.specs.declared.transcript.TranscriptLine.TheVariants.{Frame as FrameLine}
 use Rattle.zk_transcript.specs.declared.transcript.TranscriptLine.{TranscriptLine}
 use Rattle.zp_script.specs.Handing.{Handed}

@@ -11,16 +11,18 @@ use Rattle.zk_jute.specs.Packets.{connect_packet}
 use Rattle.zk_model.specs.Limits.{max_long}
 use Rattle.zk_model.specs.declared.connect.ConnectRequest.{ConnectRequest}
 use Rattle.zk_transcript.proofs.Lookups.{first_shown-place}
-use Rattle.zk_transcript.specs.Conversations.{IsInConnection, answered_read_only, may_refuse, refusal, welcome}
-use Rattle.zk_transcript.specs.History.{Session, after, frame_shown, state_at}
+use Rattle.zk_transcript.specs.Conversations.{IsInConnection}
+use Rattle.zk_service.specs.Answers.{answered_read_only, may_refuse, refusal, welcome}
+use Rattle.zk_service.specs.States.{Session}
+use Rattle.zk_transcript.specs.History.{after, frame_shown, state_at}
 use Rattle.zk_transcript.specs.Legal.{attach_of, is_legal}
 use Rattle.zk_transcript.specs.Walks.{at_start, packets_from, placed_frame}
-use Rattle.zk_transcript.specs.declared.transcript.Cause.TheVariants as cause
-use Rattle.zk_transcript.specs.declared.transcript.Cause.{Cause}
-use Rattle.zk_transcript.specs.declared.transcript.Ended.TheVariants as ended
+use Rattle.zk_service.specs.declared.cause.Cause.TheVariants as cause
+use Rattle.zk_service.specs.declared.cause.Cause.{Cause}
+use Rattle.zk_service.specs.declared.cause.Ended.TheVariants as ended
 use Rattle.zk_transcript.specs.declared.transcript.TranscriptLine.TheVariants.{Close, Send, Update}
 use Rattle.zk_transcript.specs.declared.transcript.TranscriptLine.{TranscriptLine}
-use Rattle.zk_transcript.specs.declared.transcript.UpdateKind.{UpdateKind}
+use Rattle.zk_service.specs.declared.update.UpdateKind.{UpdateKind}
 use Rattle.zn_view.specs.declared.plan.Who.{Who}
 use Rattle.zp_script.specs.Handing.{Handed}
 use Rattle.zp_script.specs.Kinds.{kind_asked}

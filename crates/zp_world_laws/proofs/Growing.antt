@@ -19,13 +19,14 @@ use Rattle.zk_transcript.proofs.Attachments.{attach_of-push}
 use Rattle.zk_transcript.proofs.Histories.{first_shown-push}
 use Rattle.zk_transcript.proofs.Walks.{state_at-push}
 use Rattle.zk_transcript.specs.Conversations.{IsShownFresh}
-use Rattle.zk_transcript.specs.History.{State, after, change, connect, frame, frame_shown, open_shown, state_at}
+use Rattle.zk_service.specs.States.{State}
+use Rattle.zk_transcript.specs.History.{after, change, connect, frame, frame_shown, open_shown, state_at}
 use Rattle.zk_transcript.specs.Legal.{attach_of, is_in_order, is_legal_line}
 use Rattle.zk_transcript.specs.Walks.{packets}
 use Rattle.zk_transcript.specs.declared.transcript.TranscriptLine.{TranscriptLine}
 use Rattle.zk_transcript.specs.declared.transcript.TranscriptLine.TheVariants.{Update, Frame as FrameLine, Lapse}
-use Rattle.zk_transcript.specs.declared.transcript.UpdateKind.{UpdateKind}
-use Rattle.zk_transcript.specs.declared.transcript.UpdateKind.TheVariants.{Begin, Session as NewSession, Attach, Asked, Closed, Reaped}
+use Rattle.zk_service.specs.declared.update.UpdateKind.{UpdateKind}
+use Rattle.zk_service.specs.declared.update.UpdateKind.TheVariants.{Begin, Session as NewSession, Attach, Asked, Closed, Reaped}
 use Rattle.zn_layout.specs.StandsFor.{StandsFor, at}
 use Rattle.zn_view.specs.Views.{Agrees}
 use Rattle.zp_laws.specs.Inputs.{Precedes}

@@ -11,7 +11,7 @@ use Rattle.zk_model.specs.Limits.{max_long}
 use Rattle.zk_transcript.specs.History.{after}
 use Rattle.zk_transcript.specs.Legal.{Attachment, attach_of, is_legal}
 use Rattle.zk_transcript.specs.Walks.{Due, Walker, at_start, packets, packets_from}
-use Rattle.zk_transcript.specs.declared.transcript.Ended.TheVariants as ended
+use Rattle.zk_service.specs.declared.cause.Ended.TheVariants as ended
 use Rattle.zk_transcript.specs.declared.transcript.TranscriptLine.TheVariants.{Close}
 use Rattle.zk_transcript.specs.declared.transcript.TranscriptLine.{TranscriptLine}
 use Rattle.zn_view.specs.declared.plan.Who.{Who}

@@ -13,7 +13,7 @@ use Rattle.zk_transcript.specs.History.{first_shown, frame, frame_shown}
 use Rattle.zk_transcript.specs.Legal.{is_legal}
 use Rattle.zk_transcript.specs.declared.transcript.TranscriptLine.{TranscriptLine}
 use Rattle.zk_transcript.specs.declared.transcript.TranscriptLine.TheVariants.{Lapse as LapseLine}
-use Rattle.zk_transcript.specs.declared.transcript.UpdateKind.{UpdateKind}
+use Rattle.zk_service.specs.declared.update.UpdateKind.{UpdateKind}
 use Rattle.zp_step.specs.Stages.{Core}
 use Rattle.zp_laws.specs.Frames.{is_served}
 use Rattle.zp_laws.specs.Inputs.{Precedes}

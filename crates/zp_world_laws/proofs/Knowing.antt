@@ -1,7 +1,7 @@
 -- What is known of a number stays known while lines that don't name it are added, and revisions.
 use Rattle.std.proofs.lemmas.List.Elements.{Contains-append_left, Contains-append_right}
 use Rattle.zp_script.specs.StepOutcomes.{StepOutcome, ends}
-use Rattle.zk_transcript.specs.declared.transcript.Ended.{Ended}
+use Rattle.zk_service.specs.declared.cause.Ended.{Ended}
 use Rattle.ev_types.specs.Store.{Store, present}
 use Rattle.ev_types.specs.declared.answer.Answer.TheVariants as answer
 use Rattle.ev_types.specs.declared.answer.Answer.{Answer}
@@ -22,11 +22,12 @@ use Rattle.zk_transcript.proofs.Lookups.{slice_get-front}
 use Rattle.zk_transcript.proofs.Walks.{state_at-push}
 use Rattle.zk_transcript.proofs.Zxids.{zxid-covers}
 use Rattle.zk_transcript.specs.Conversations.{close_shown}
-use Rattle.zk_transcript.specs.History.{IsSound, State, after, first_place, first_shown, frame_shown, open_shown, session_at, state_at}
+use Rattle.zk_service.specs.States.{IsSound, State, session_at}
+use Rattle.zk_transcript.specs.History.{after, first_place, first_shown, frame_shown, open_shown, state_at}
 use Rattle.zk_transcript.specs.Legal.{attach_of, is_legal}
 use Rattle.zk_transcript.specs.declared.transcript.TranscriptLine.TheVariants.{Update, Close}
 use Rattle.zk_transcript.specs.declared.transcript.TranscriptLine.{TranscriptLine}
-use Rattle.zk_transcript.specs.declared.transcript.UpdateKind.{UpdateKind}
+use Rattle.zk_service.specs.declared.update.UpdateKind.{UpdateKind}
 use Rattle.zn_layout.specs.StandsFor.{StandsFor}
 use Rattle.zn_layout.specs.declared.record.LeaseRec.{LeaseRec}
 use Rattle.zn_view.specs.Asks.{plan_txn}

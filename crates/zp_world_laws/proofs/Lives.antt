@@ -6,8 +6,8 @@ use Rattle.std.specs.FinMap.{entries, entries_sorted, find, get-entries, is_sort
 use Rattle.std.specs.Ordering.{nat_cmp}
 use Rattle.std.specs.Prelude.{None, Option, Some, fold, if◌then◌else◌, option_and_then}
 use Rattle.zk_transcript.specs.History.{after}
-use Rattle.zk_transcript.specs.declared.transcript.Cause.TheVariants as cause
-use Rattle.zk_transcript.specs.declared.transcript.Ended.TheVariants as ended
+use Rattle.zk_service.specs.declared.cause.Cause.TheVariants as cause
+use Rattle.zk_service.specs.declared.cause.Ended.TheVariants as ended
 use Rattle.zn_layout.specs.declared.entry.Entry.{Entry}
 use Rattle.zp_script.specs.Effects.{Delivers, EndsBy, EntersBy, IsEntry, LagsBy, is_open_at, restarted, stopped}
 use Rattle.zp_script.specs.Entries.{cursor_of, cursor_wanted, entry_after, next_entry}

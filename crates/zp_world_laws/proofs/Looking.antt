@@ -6,15 +6,15 @@ use Rattle.std.proofs.lemmas.Bool.Decides.{nat_tests}
 use Rattle.zk_jute.specs.Requests.{read_request}
 use Rattle.zk_transcript.proofs.Longer.{if_Some, then_Some, then_due-next}
 use Rattle.zk_transcript.proofs.Walks.{first_place-bound}
-use Rattle.zk_transcript.specs.Answers.{Told, plain_reply, xid_of}
+use Rattle.zk_service.specs.Answers.{Told, plain_reply, xid_of, has_header}
 use Rattle.zk_transcript.specs.History.{first_place, frame_shown, when}
 use Rattle.zk_transcript.specs.Legal.{attach_of, attach_shown, index_in, index_shown, is_below_place, is_legal}
-use Rattle.zk_transcript.specs.Walks.{Answer, Choice, Due, Plain, Tell, Walker, answer_as_of, answer_plainly, at_start, fired_above, has_header, later_of, may_answer_at, move, next_update, own_update, own_update_in, own_update_shown, placed_frame, plain_answer, reply_step_if, then_due, told_update, walk}
+use Rattle.zk_transcript.specs.Walks.{Answer, Choice, Due, Plain, Tell, Walker, answer_as_of, answer_plainly, at_start, fired_above, later_of, may_answer_at, move, next_update, own_update, own_update_in, own_update_shown, placed_frame, plain_answer, reply_step_if, then_due, told_update, walk}
 use Rattle.zk_transcript.specs.declared.transcript.TranscriptLine.{TranscriptLine}
 use Rattle.zk_transcript.specs.declared.transcript.TranscriptLine.TheVariants.{Update, Open, Frame as FrameLine, Send, Lapse, Close}
-use Rattle.zk_transcript.specs.declared.transcript.UpdateKind.{UpdateKind}
-use Rattle.zk_transcript.specs.declared.transcript.UpdateKind.TheVariants.{Begin, Session as NewSession, Attach, Asked, Closed, Reaped}
-use Rattle.zk_transcript.specs.declared.transcript.UpdateRec.{UpdateRec}
+use Rattle.zk_service.specs.declared.update.UpdateKind.{UpdateKind}
+use Rattle.zk_service.specs.declared.update.UpdateKind.TheVariants.{Begin, Session as NewSession, Attach, Asked, Closed, Reaped}
+use Rattle.zk_service.specs.declared.update.UpdateRec.{UpdateRec}
 use Rattle.zk_model.specs.Watches.{is_unarmed}
 use Rattle.zx_base.proofs.Options.{none_some, some_is}
 use Rattle.zp_step.specs.Stages.{Core}

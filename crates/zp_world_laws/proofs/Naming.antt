@@ -8,7 +8,7 @@ use Rattle.zk_transcript.specs.Legal.{Attachment, attach_of, attach_shown, index
 use Rattle.zk_transcript.specs.Walks.{Walker, own_update, own_update_shown, packets, packets_from}
 use Rattle.zk_transcript.specs.declared.transcript.TranscriptLine.TheVariants.{Close, Frame as FrameLine, Lapse as LapseLine, Open, Send, Update}
 use Rattle.zk_transcript.specs.declared.transcript.TranscriptLine.{TranscriptLine}
-use Rattle.zk_transcript.specs.declared.transcript.UpdateRec.{UpdateRec}
+use Rattle.zk_service.specs.declared.update.UpdateRec.{UpdateRec}
 use Rattle.zp_laws.specs.Standing.{is_ahead}
 use Rattle.zp_world_laws.proofs.Carrying.{no-attach, no-index, one, requested-for, unlike}
 use Rattle.zp_world_laws.proofs.Kept.{true-false}

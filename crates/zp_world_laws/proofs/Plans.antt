@@ -22,13 +22,14 @@ use Rattle.zk_model.specs.declared.request.Request.{Request}
 use Rattle.zk_model.specs.declared.request.Request.TheVariants as req
 use Rattle.zk_transcript.proofs.Lookups.{first_shown-place}
 use Rattle.zk_transcript.proofs.SoundHistories.{legal-sound}
-use Rattle.zk_transcript.specs.Answers.{Told, owned_limit_in, plain_request}
-use Rattle.zk_transcript.specs.History.{Commit, Session, State, after, asked_commit, asked_in, attached_session, commit, committed, frame, frame_shown, limit_of, request, session_at, updated}
+use Rattle.zk_service.specs.Answers.{Told, owned_limit_in, plain_request}
+use Rattle.zk_service.specs.States.{Commit, Session, State, attached_session, commit, committed, limit_of, session_at}
+use Rattle.zk_transcript.specs.History.{after, asked_commit, asked_in, frame, frame_shown, request, updated}
 use Rattle.zk_transcript.specs.Legal.{attach_of, follows, is_close, is_id, is_in_order, is_legal, is_live, is_live_as, is_small_frame, is_within_parts, may_update}
 use Rattle.zk_transcript.specs.declared.transcript.TranscriptLine.{TranscriptLine}
 use Rattle.zk_transcript.specs.declared.transcript.TranscriptLine.TheVariants.{Update}
-use Rattle.zk_transcript.specs.declared.transcript.UpdateKind.{UpdateKind}
-use Rattle.zk_transcript.specs.declared.transcript.UpdateKind.TheVariants.{Asked}
+use Rattle.zk_service.specs.declared.update.UpdateKind.{UpdateKind}
+use Rattle.zk_service.specs.declared.update.UpdateKind.TheVariants.{Asked}
 use Rattle.zn_layout.specs.Keys.{LeaseKey, key_bytes}
 use Rattle.zn_layout.specs.StandsFor.{StandsFor, at}
 use Rattle.zn_view.proofs.Tested.{session-lives}

@@ -10,12 +10,13 @@ use Rattle.std.proofs.Common.{Bool, List, [], ap, append-nil, arith, false, inl,
 use Rattle.std.proofs.lemmas.List.Elements.{All-nil}
 use Rattle.std.specs.FinMap.{get}
 use Rattle.std.specs.Prelude.{MatchBool, None, Some, if◌then◌else◌, int_lt, option_and_then, ◌⊎◌}
-use Rattle.zk_transcript.specs.History.{State, after}
-use Rattle.zk_transcript.specs.declared.transcript.Cause.TheVariants as cause
-use Rattle.zk_transcript.specs.declared.transcript.Ended.TheVariants as ended
-use Rattle.zk_transcript.specs.declared.transcript.Ended.{Ended}
+use Rattle.zk_service.specs.States.{State}
+use Rattle.zk_transcript.specs.History.{after}
+use Rattle.zk_service.specs.declared.cause.Cause.TheVariants as cause
+use Rattle.zk_service.specs.declared.cause.Ended.TheVariants as ended
+use Rattle.zk_service.specs.declared.cause.Ended.{Ended}
 use Rattle.zk_transcript.specs.declared.transcript.TranscriptLine.{TranscriptLine}
-use Rattle.zk_transcript.specs.declared.transcript.UpdateKind.TheVariants.{Reaped}
+use Rattle.zk_service.specs.declared.update.UpdateKind.TheVariants.{Reaped}
 use Rattle.zn_layout.specs.StandsFor.{StandsFor}
 use Rattle.zn_view.proofs.Asked.{stands-put}
 use Rattle.zn_view.proofs.Showing.{again-shown, first-shown, later-shown}

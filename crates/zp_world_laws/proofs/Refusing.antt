@@ -13,8 +13,8 @@ use Rattle.std.specs.Prelude.{None, Option, Some, int_le, nat_abs, not, ◌&&◌
 use Rattle.std.specs.Prelude.{bytes_eq, ◌||◌}
 use Rattle.zn_layout.specs.StandsFor.{life_record}
 use Rattle.zk_model.specs.declared.connect.ConnectRequest.{ConnectRequest}
-use Rattle.zk_transcript.specs.Conversations.{is_other_session, may_refuse}
-use Rattle.zk_transcript.specs.History.{IsSound, Session, State, session_at}
+use Rattle.zk_service.specs.Answers.{is_other_session, may_refuse}
+use Rattle.zk_service.specs.States.{IsSound, Session, State, session_at}
 use Rattle.zn_layout.proofs.Commits.{answer-is}
 use Rattle.zn_layout.specs.Keys.{key_bytes}
 use Rattle.zn_layout.specs.StandsFor.{LifeMeans, StandsFor, at, stored_of}

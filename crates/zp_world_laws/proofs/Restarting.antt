@@ -8,8 +8,8 @@ use Rattle.std.specs.Ordering.{is_lt, nat_cmp}
 use Rattle.std.proofs.lemmas.Bool.{and_parts}
 use Rattle.std.proofs.lemmas.Cmp.{nat_cmp_total, tied_itself}
 use Rattle.zk_transcript.specs.History.{after}
-use Rattle.zk_transcript.specs.declared.transcript.Cause.TheVariants as cause
-use Rattle.zk_transcript.specs.declared.transcript.Ended.TheVariants as ended
+use Rattle.zk_service.specs.declared.cause.Cause.TheVariants as cause
+use Rattle.zk_service.specs.declared.cause.Ended.TheVariants as ended
 use Rattle.zp_script.specs.Effects.{is_open_at, restarted, stopped}
 use Rattle.zp_script.specs.StepOutcomes.{ended_by, leaves}
 use Rattle.zp_script.specs.Worlds.{Closed, Conn, World, conn_at}

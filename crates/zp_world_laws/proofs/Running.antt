@@ -8,7 +8,7 @@ use Rattle.std.specs.Prelude.{All, None, Option, Some, if◌then◌else◌, is_s
 use Rattle.zk_jute.specs.JuteWriting.{with_length}
 use Rattle.zk_transcript.specs.Conversations.{IsInConnection}
 use Rattle.zk_transcript.specs.Legal.{Tick}
-use Rattle.zn_layout.specs.Begin.{begin_lines}
+use Rattle.zk_transcript.specs.History.{begin_lines}
 use Rattle.zp_script.specs.Effects.{Does}
 use Rattle.zp_script.specs.Entries.{cursor_at, next_entry}
 use Rattle.zp_script.specs.Faults.{fault, flight_at, if_fails, is_kept_key}

@@ -12,7 +12,7 @@ use Rattle.zk_transcript.specs.Legal.{Attachment, is_below_place, is_legal}
 use Rattle.zk_transcript.specs.Walks.{Walker, own_update, own_update_shown, packets}
 use Rattle.zk_transcript.specs.declared.transcript.TranscriptLine.{TranscriptLine}
 use Rattle.zk_transcript.specs.declared.transcript.TranscriptLine.TheVariants.{Update}
-use Rattle.zk_transcript.specs.declared.transcript.UpdateKind.{UpdateKind}
+use Rattle.zk_service.specs.declared.update.UpdateKind.{UpdateKind}
 use Rattle.zn_layout.specs.StandsFor.{StandsFor}
 use Rattle.zp_step.specs.Stages.{Core, Stage, Unconnected, Connecting, Ready, KeepingAlive, Checking, Reading, Committing, Waiting, Shut}
 use Rattle.zp_laws.proofs.Growing.{look-push, moment-push, past-push, stands-push}

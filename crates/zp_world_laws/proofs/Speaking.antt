@@ -6,7 +6,8 @@ use Rattle.std.specs.List.{list_all}
 use Rattle.std.specs.Prelude.{None, Some, if◌then◌else◌, ◌==◌}
 use Rattle.zk_transcript.proofs.Appending.{after-push}
 use Rattle.zk_transcript.specs.Conversations.{IsShownFresh}
-use Rattle.zk_transcript.specs.History.{State, after, first_place}
+use Rattle.zk_service.specs.States.{State}
+use Rattle.zk_transcript.specs.History.{after, first_place}
 use Rattle.zk_transcript.specs.Legal.{Attachment, attach_of, attach_shown, index_shown, is_below_place}
 use Rattle.zk_transcript.specs.Walks.{Walker, own_update, own_update_shown, packets, packets_from}
 use Rattle.zk_transcript.specs.declared.transcript.TranscriptLine.TheVariants.{Close, Frame as FrameLine, Lapse as LapseLine, Open, Send, Update}

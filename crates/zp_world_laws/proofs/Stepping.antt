@@ -5,8 +5,8 @@ use Rattle.std.specs.List.{list_all}
 use Rattle.std.specs.Prelude.{Option, Some, if◌then◌else◌}
 use Rattle.zk_transcript.specs.Conversations.{IsInConnection}
 use Rattle.zk_transcript.specs.History.{after}
-use Rattle.zk_transcript.specs.declared.transcript.Cause.{Cause}
-use Rattle.zk_transcript.specs.declared.transcript.Ended.TheVariants as ended
+use Rattle.zk_service.specs.declared.cause.Cause.{Cause}
+use Rattle.zk_service.specs.declared.cause.Ended.TheVariants as ended
 use Rattle.zk_transcript.specs.declared.transcript.TranscriptLine.TheVariants.{Close}
 use Rattle.zk_transcript.specs.declared.transcript.TranscriptLine.{TranscriptLine}
 use Rattle.zp_script.specs.Handing.{Handed}

@@ -13,8 +13,8 @@ use Rattle.zk_transcript.specs.Legal.{Attachment, index_shown, is_below_place}
 use Rattle.zk_transcript.specs.Walks.{Choice, Due, Walker, all_choices, are_fresh, are_in_turn, are_sent, at_start, is_fresh, is_in_turn, own_update_shown, packets, packets_from, walk}
 use Rattle.zk_transcript.specs.declared.transcript.TranscriptLine.{TranscriptLine}
 use Rattle.zk_transcript.specs.declared.transcript.TranscriptLine.TheVariants.{Update, Lapse}
-use Rattle.zk_transcript.specs.declared.transcript.UpdateKind.{UpdateKind}
-use Rattle.zk_transcript.specs.declared.transcript.UpdateKind.TheVariants.{Begin, Session as NewSession, Attach, Asked, Closed, Reaped}
+use Rattle.zk_service.specs.declared.update.UpdateKind.{UpdateKind}
+use Rattle.zk_service.specs.declared.update.UpdateKind.TheVariants.{Begin, Session as NewSession, Attach, Asked, Closed, Reaped}
 use Rattle.zp_laws.proofs.WalkMoves.{walk-append}
 use Rattle.zp_laws.specs.Standing.{is_ahead}
 use Rattle.zp_world_laws.proofs.Packets.{FromPlace, UpToPlace, all_sent, are_sent-append, both-true, packets-append, packets-from}

@@ -12,15 +12,14 @@ use Rattle.zk_transcript.proofs.Appending.{first_place-push}
 use Rattle.zk_transcript.proofs.Lookups.{slice_get-front}
 use Rattle.zk_transcript.proofs.Placed.{asked-framed}
 use Rattle.zk_transcript.proofs.Walks.{first_place-bound}
-use Rattle.zk_transcript.specs.History.{frame_shown}
+use Rattle.zk_transcript.specs.History.{frame_shown, begin_lines}
 use Rattle.zk_transcript.specs.Legal.{IsClockBetween, IsPunctual, Tick, frame_place, lines_before}
 use Rattle.zk_transcript.specs.Walks.{placed_frame}
 use Rattle.zk_transcript.specs.declared.transcript.TranscriptLine.TheVariants.{Update}
 use Rattle.zk_transcript.specs.declared.transcript.TranscriptLine.{TranscriptLine}
-use Rattle.zk_transcript.specs.declared.transcript.UpdateKind.TheVariants.{Asked}
-use Rattle.zk_transcript.specs.declared.transcript.UpdateKind.{UpdateKind}
-use Rattle.zk_transcript.specs.declared.transcript.UpdateRec.{UpdateRec}
-use Rattle.zn_layout.specs.Begin.{begin_lines}
+use Rattle.zk_service.specs.declared.update.UpdateKind.TheVariants.{Asked}
+use Rattle.zk_service.specs.declared.update.UpdateKind.{UpdateKind}
+use Rattle.zk_service.specs.declared.update.UpdateRec.{UpdateRec}
 use Rattle.zp_script.specs.Happens.{Happens, max_settling}
 use Rattle.zp_script.specs.Runs.{IsFirst, Runs, RunsFrom, tick_of}
 use Rattle.zp_script.specs.Worlds.{World}

@@ -13,8 +13,9 @@ use Rattle.std.specs.Ordering.{int_eq}
 use Rattle.std.specs.Prelude.{Contains, MatchBool, None, Some, if◌then◌else◌, int_lt, ◌<ℤ◌, ◌≤ℤ◌}
 use Rattle.zk_model.specs.declared.connect.ConnectRequest.{ConnectRequest}
 use Rattle.zk_model.specs.declared.reply.Reply.TheVariants as reply
-use Rattle.zk_transcript.specs.Conversations.{answered_read_only, may_refuse}
-use Rattle.zk_transcript.specs.History.{IsSound, State, state_at}
+use Rattle.zk_service.specs.Answers.{answered_read_only, may_refuse}
+use Rattle.zk_service.specs.States.{IsSound, State}
+use Rattle.zk_transcript.specs.History.{state_at}
 use Rattle.zk_transcript.specs.Legal.{attach_of}
 use Rattle.zk_transcript.specs.declared.transcript.TranscriptLine.{TranscriptLine}
 use Rattle.zn_layout.specs.Changes.{update_acts}

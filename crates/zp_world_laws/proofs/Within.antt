@@ -12,11 +12,13 @@ use Rattle.zk_transcript.proofs.Attachments.{attach_of-skip}
 use Rattle.zk_transcript.proofs.Histories.{first_shown-push}
 use Rattle.zk_transcript.proofs.Lookups.{first_place-new, within}
 use Rattle.zk_transcript.proofs.Walks.{state_at-push}
-use Rattle.zk_transcript.specs.Conversations.{IsConnectAnswered, IsInConnection, IsRefused, IsWelcomed, are_before_close, close_shown, is_before, may_refuse, refusal, welcome}
-use Rattle.zk_transcript.specs.History.{Session, connect, first_place, frame, frame_shown, open_shown, opening, session_at, state_at, when}
+use Rattle.zk_transcript.specs.Conversations.{IsConnectAnswered, IsInConnection, IsRefused, IsWelcomed, are_before_close, close_shown, is_before}
+use Rattle.zk_service.specs.Answers.{may_refuse, refusal, welcome}
+use Rattle.zk_service.specs.States.{Session, session_at}
+use Rattle.zk_transcript.specs.History.{connect, first_place, frame, frame_shown, open_shown, opening, state_at, when}
 use Rattle.zk_transcript.specs.Legal.{Attachment, attach_of}
 use Rattle.zk_transcript.specs.Walks.{Due, packets, packets_from, placed_frame}
-use Rattle.zk_transcript.specs.declared.transcript.Ended.{Ended}
+use Rattle.zk_service.specs.declared.cause.Ended.{Ended}
 use Rattle.zk_transcript.specs.declared.transcript.TranscriptLine.TheVariants.{Close, Frame as FrameLine, Lapse as LapseLine, Open, Send, Update}
 use Rattle.zk_transcript.specs.declared.transcript.TranscriptLine.{TranscriptLine}
 use Rattle.zp_world_laws.proofs.Actions.{said, said-speech}

@@ -9,12 +9,13 @@ use Rattle.ev_types.specs.declared.ask.TxnReq.{TxnReq}
 use Rattle.zk_model.specs.Limits.{max_frame, max_long}
 use Rattle.zk_model.specs.declared.connect.ConnectRequest.{ConnectRequest}
 use Rattle.zk_model.specs.declared.request.Request.{Request}
-use Rattle.zk_transcript.specs.History.{connect, frame, granted_timeout, opening}
+use Rattle.zk_transcript.specs.History.{connect, frame, opening}
+use Rattle.zk_service.specs.States.{granted_timeout}
 use Rattle.zk_transcript.specs.Legal.{Attachment, attach_of}
 use Rattle.zk_transcript.specs.Walks.{packets}
 use Rattle.zk_transcript.specs.declared.transcript.TranscriptLine.{TranscriptLine}
-use Rattle.zk_transcript.specs.declared.transcript.UpdateKind.{UpdateKind}
-use Rattle.zk_transcript.specs.declared.transcript.UpdateKind.TheVariants.{Begin, Session as NewSession, Attach, Asked, Closed, Reaped}
+use Rattle.zk_service.specs.declared.update.UpdateKind.{UpdateKind}
+use Rattle.zk_service.specs.declared.update.UpdateKind.TheVariants.{Begin, Session as NewSession, Attach, Asked, Closed, Reaped}
 use Rattle.zn_layout.specs.Records.{IsLeaseRec, lease_value}
 use Rattle.zn_layout.specs.StandsFor.{at}
 use Rattle.zn_layout.specs.declared.record.LeaseRec.{LeaseRec}

@@ -8,12 +8,13 @@ use Rattle.std.specs.Prelude.{List, None, Option, Some, [], length, pos, slice_g
 use Rattle.zk_jute.specs.Connects.{read_connect}
 use Rattle.zk_model.specs.Limits.{max_long}
 use Rattle.zk_model.specs.declared.connect.ConnectRequest.{ConnectRequest}
-use Rattle.zk_transcript.specs.History.{IsSound, Session, after, opening, session_at, state_at}
+use Rattle.zk_service.specs.States.{IsSound, Session, session_at}
+use Rattle.zk_transcript.specs.History.{after, opening, state_at}
 use Rattle.zk_transcript.specs.Legal.{attach_of}
 use Rattle.zk_transcript.specs.Walks.{packets, placed_frame}
 use Rattle.zk_transcript.specs.declared.transcript.TranscriptLine.TheVariants.{Update}
 use Rattle.zk_transcript.specs.declared.transcript.TranscriptLine.{TranscriptLine}
-use Rattle.zk_transcript.specs.declared.transcript.UpdateRec.{UpdateRec}
+use Rattle.zk_service.specs.declared.update.UpdateRec.{UpdateRec}
 use Rattle.zn_layout.specs.Records.{IsLeaseRec}
 use Rattle.zn_layout.specs.StandsFor.{StandsFor}
 use Rattle.zn_layout.specs.declared.record.LeaseRec.{LeaseRec}

@@ -2,7 +2,7 @@
 -- stands; and one that was never used is named by no line.
 use Rattle.ev_types.specs.Store.{Store}
 use Rattle.std.specs.Prelude.{Contains, List, None, Some, true, ℕ, ◌≡◌}
-use Rattle.zk_transcript.specs.declared.transcript.Ended.{Ended}
+use Rattle.zk_service.specs.declared.cause.Ended.{Ended}
 use Rattle.zk_transcript.specs.declared.transcript.TranscriptLine.TheVariants.{Close}
 use Rattle.zk_transcript.specs.declared.transcript.TranscriptLine.{TranscriptLine}
 use Rattle.zp_script.specs.Worlds.{Actor, Closed, Conn, Connection, Reaper, World, conn_at}

@@ -4,7 +4,7 @@ use Rattle.ev_types.specs.Store.{Store, present, store_at}
 use Rattle.ev_types.specs.declared.answer.Answer.{Answer}
 use Rattle.ev_types.specs.declared.ask.Ask.{Ask}
 use Rattle.std.specs.Prelude.{None, Option, Some, length, pos, ℕ, ℤ, ◌≡◌, ◌≤◌}
-use Rattle.zk_transcript.specs.History.{State}
+use Rattle.zk_service.specs.States.{State}
 use Rattle.zn_layout.specs.StandsFor.{StandsFor}
 use Rattle.zn_view.specs.Asks.{plan_txn, reading, transaction}
 use Rattle.zn_view.specs.declared.plan.Plan.{Plan}

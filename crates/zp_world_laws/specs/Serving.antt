@@ -11,7 +11,7 @@ use Rattle.zk_transcript.specs.History.{after, state_at, updated}
 use Rattle.zk_transcript.specs.Legal.{is_in_order, is_legal, is_ordered, may_update}
 use Rattle.zk_transcript.specs.declared.transcript.TranscriptLine.{TranscriptLine}
 use Rattle.zk_transcript.specs.declared.transcript.TranscriptLine.TheVariants.{Update, Lapse}
-use Rattle.zk_transcript.specs.declared.transcript.UpdateKind.{UpdateKind}
+use Rattle.zk_service.specs.declared.update.UpdateKind.{UpdateKind}
 use Rattle.zn_layout.specs.StandsFor.{StandsFor}
 use Rattle.zp_script.specs.Carrying.{update_line_of}
 use Rattle.zp_script.specs.Worlds.{zxid_at}

@@ -13,8 +13,8 @@ use Rattle.zk_model.specs.declared.request.Request.TheVariants as req
 use Rattle.zk_model.specs.Limits.{max_owned}
 use Rattle.zk_model.specs.Znodes.{owned}
 use Rattle.zk_model.specs.Watches.{no_watches}
-use Rattle.zk_transcript.specs.Answers.{tree_reply}
-use Rattle.zk_transcript.specs.History.{State, Session, IsSound, limit_of, session_at, session_ended}
+use Rattle.zk_service.specs.Answers.{tree_reply}
+use Rattle.zk_service.specs.States.{State, Session, IsSound, limit_of, session_at, session_ended}
 use Rattle.zx_base.specs.Maps.{Bytes}
 use Rattle.zn_layout.specs.Keys.{SessionKey, LeaseKey, key_bytes}
 use Rattle.zn_layout.specs.StandsFor.{NodesMean, LifeMeans, StandsFor, stored_of}

@@ -18,9 +18,9 @@ use Rattle.zk_model.specs.Paths.{root, is_child}
 use Rattle.zk_model.specs.Single.{without_child}
 use Rattle.zk_model.specs.Znodes.{num_children, owned, owned_by}
 use Rattle.zk_model.proofs.Paths.{parent-from_child}
-use Rattle.zk_transcript.specs.History.{State, Session, IsSound, session_at, session_ended}
-use Rattle.zk_transcript.proofs.Owned.{if_owned, get-owned_as}
-use Rattle.zk_transcript.proofs.SessionMaps.{at-remove_same, at-remove_other}
+use Rattle.zk_service.specs.States.{State, Session, IsSound, session_at, session_ended}
+use Rattle.zk_service.proofs.Owned.{if_owned, get-owned_as}
+use Rattle.zk_service.proofs.SessionMaps.{at-remove_same, at-remove_other}
 use Rattle.zn_layout.specs.declared.record.CountRec.{CountRec}
 use Rattle.zn_layout.specs.Changes.{Put, last, put_or_else}
 use Rattle.zn_layout.specs.Fits.{KeyFits, ChangesFit}

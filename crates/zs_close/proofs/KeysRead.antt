@@ -10,7 +10,7 @@ use Rattle.zk_model.specs.declared.request.Request.TheVariants as req
 use Rattle.zk_model.specs.Paths.{parent, is_child}
 use Rattle.zk_model.specs.Watches.{no_watches}
 use Rattle.zk_model.proofs.Paths.{is_child-yes, parent-from_child}
-use Rattle.zk_transcript.specs.Answers.{plain_request}
+use Rattle.zk_service.specs.Answers.{plain_request}
 use Rattle.zn_layout.specs.Keys.{Key, HeadKey, CountsKey, SessionKey, LeaseKey, key_bytes}
 use Rattle.zn_layout.proofs.ListRecords.{session_value-injective}
 use Rattle.zn_view.specs.declared.plan.Plan.{Plan}

@@ -16,7 +16,7 @@ use Rattle.zx_base.proofs.MapLaws.{same-refl, same-false}
 use Rattle.ev_types.proofs.Names.{names-tie}
 use Rattle.zk_model.specs.declared.node.Node.{Node}
 use Rattle.zk_model.specs.Znodes.{Tree, owned, owned_by}
-use Rattle.zk_transcript.proofs.Owned.{if_owned, get-owned_as}
+use Rattle.zk_service.proofs.Owned.{if_owned, get-owned_as}
 use Rattle.zs_close.proofs.Removed.{AreApart}
 
 -- ---- a list in order

@@ -13,8 +13,8 @@ use Rattle.zk_model.specs.Paths.{parent, is_child, is_at_path}
 use Rattle.zk_model.specs.Single.{removed, removed_under, at_parent, without_child}
 use Rattle.zk_model.specs.Znodes.{Tree, below, num_children}
 use Rattle.zk_model.proofs.Paths.{is_child-yes, parent-from_child, apart_from_parent}
-use Rattle.zk_transcript.specs.History.{removed_all}
-use Rattle.zk_transcript.proofs.Children.{get-below_child, num_children-change}
+use Rattle.zk_service.specs.States.{removed_all}
+use Rattle.zk_service.proofs.Children.{get-below_child, num_children-change}
 
 -- ---- who is left
 

@@ -13,7 +13,7 @@ use Rattle.zk_model.specs.declared.node.Node.{Node}
 use Rattle.zk_model.specs.declared.node.Trigger.{Trigger}
 use Rattle.zk_model.specs.Paths.{is_child, is_path}
 use Rattle.zk_model.specs.Znodes.{num_children, owned}
-use Rattle.zk_transcript.specs.History.{State, IsSound}
+use Rattle.zk_service.specs.States.{State, IsSound}
 use Rattle.zx_base.specs.Maps.{Bytes, same}
 use Rattle.zn_layout.specs.Changes.{KeyChange, head_put, are_distinct, update_acts}
 use Rattle.zn_layout.specs.Keys.{Key, HeadKey, CountsKey, SessionKey, LeaseKey, key_bytes}

@@ -5,7 +5,7 @@ use Rattle.ev_types.specs.Ranges.{Keys}
 use Rattle.ev_types.specs.Store.{acts_applied, last_revision}
 use Rattle.zk_model.specs.declared.request.Request.TheVariants as req
 use Rattle.zk_model.specs.Limits.{max_owned}
-use Rattle.zk_transcript.specs.History.{State, Session, IsSound, session_at, session_ended}
+use Rattle.zk_service.specs.States.{State, Session, IsSound, session_at, session_ended}
 use Rattle.zx_base.specs.Maps.{Bytes}
 use Rattle.zn_layout.specs.Keys.{SessionKey, LeaseKey, key_bytes}
 use Rattle.zn_layout.specs.StandsFor.{StandsFor}

@@ -2,7 +2,7 @@
 
 ghost use Rattle.std.specs.Prelude.{◌≡◌, ◌≤ℤ◌, ℤ, true, false, [], All, pos, nat_abs, IfOk};
 ghost use Rattle.zk_model.specs.declared.request.Request.TheVariants as req;
-ghost use Rattle.zk_transcript.specs.History.{State, IsSound};
+ghost use Rattle.zk_service.specs.States.{State, IsSound};
 ghost use Rattle.zn_layout.specs.Keys.{CountsKey, LeaseKey, SessionKey};
 ghost use Rattle.zn_layout.specs.Records.{IsSessionRec};
 ghost use Rattle.zn_view.specs.Lookups.{sees, HasSeen};

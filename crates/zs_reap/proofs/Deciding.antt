@@ -7,8 +7,8 @@ use Rattle.ev_types.specs.declared.answer.Kv.{Kv}
 use Rattle.zk_model.specs.declared.request.Request.TheVariants as req
 use Rattle.zk_model.specs.Limits.{max_owned}
 use Rattle.zk_model.specs.Watches.{no_watches}
-use Rattle.zk_transcript.specs.Answers.{plain_request}
-use Rattle.zk_transcript.specs.History.{State, IsSound}
+use Rattle.zk_service.specs.Answers.{plain_request}
+use Rattle.zk_service.specs.States.{State, IsSound}
 use Rattle.zx_base.specs.declared.memory.Memory.{Memory as Refused}
 use Rattle.zx_base.specs.Maps.{Bytes}
 use Rattle.zx_base.proofs.Options.{some_is}

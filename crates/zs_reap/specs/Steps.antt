@@ -9,7 +9,7 @@ use Rattle.ev_types.specs.declared.ask.Ask.{Ask}
 use Rattle.ev_types.specs.declared.ask.Ask.TheVariants as ask
 use Rattle.zk_model.specs.declared.request.Request.TheVariants as req
 use Rattle.zk_model.specs.Limits.{max_owned}
-use Rattle.zk_transcript.specs.History.{State, IsSound}
+use Rattle.zk_service.specs.States.{State, IsSound}
 use Rattle.zx_base.specs.Maps.{Bytes}
 use Rattle.zn_layout.specs.Keys.{SessionKey}
 use Rattle.zn_view.specs.declared.want.Want.{Want}

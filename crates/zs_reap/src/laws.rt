@@ -1,7 +1,7 @@
 //! The laws of reaps. Each function does nothing, and its contract is the law.
 
 ghost use Rattle.std.specs.Prelude.{ℤ, pos, ◌≤ℤ◌};
-ghost use Rattle.zk_transcript.specs.History.{State, IsSound};
+ghost use Rattle.zk_service.specs.States.{State, IsSound};
 ghost use Rattle.zn_view.specs.Seen.{View};
 ghost use Rattle.zn_view.specs.Views.{IsOf};
 ghost use Rattle.zs_reap.specs.Steps.{AreFewOwned};

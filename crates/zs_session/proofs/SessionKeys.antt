@@ -6,8 +6,8 @@ use Rattle.ev_types.specs.declared.answer.Kv.{Kv}
 use Rattle.ev_types.specs.Ranges.{Keys}
 use Rattle.ev_types.specs.Store.{mod_of}
 use Rattle.zk_model.specs.Znodes.{owned}
-use Rattle.zk_transcript.specs.History.{State, Session, advanced, session_at, with_session}
-use Rattle.zk_transcript.proofs.SessionMaps.{at-insert_same, at-insert_other}
+use Rattle.zk_service.specs.States.{State, Session, advanced, session_at, with_session}
+use Rattle.zk_service.proofs.SessionMaps.{at-insert_same, at-insert_other}
 use Rattle.zx_base.specs.Maps.{Bytes}
 use Rattle.zn_layout.specs.Changes.{Put, put_or_else}
 use Rattle.zn_layout.specs.Fits.{KeyFits}

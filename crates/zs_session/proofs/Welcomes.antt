@@ -8,7 +8,7 @@ use Rattle.ev_types.specs.Denials.{carry}
 use Rattle.ev_types.specs.Store.{Store, present}
 use Rattle.zk_model.specs.declared.reply.Body.TheVariants as body
 use Rattle.zk_model.specs.declared.reply.Reply.TheVariants as reply
-use Rattle.zk_transcript.specs.History.{State}
+use Rattle.zk_service.specs.States.{State}
 use Rattle.zn_layout.specs.Changes.{KeyChange, acts_of, head_put, update_acts}
 use Rattle.zn_layout.specs.StandsFor.{StandsFor}
 use Rattle.zn_layout.specs.Updates.{update_txn}

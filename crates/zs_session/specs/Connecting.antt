@@ -9,8 +9,8 @@ use Rattle.ev_types.specs.declared.answer.Kv.{Kv}
 use Rattle.ev_types.specs.declared.ask.Ask.{Ask}
 use Rattle.ev_types.specs.declared.ask.Ask.TheVariants as ask
 use Rattle.zk_model.specs.declared.connect.ConnectRequest.{ConnectRequest}
-use Rattle.zk_transcript.specs.Conversations.{answered_read_only}
-use Rattle.zk_transcript.specs.History.{granted_timeout}
+use Rattle.zk_service.specs.Answers.{answered_read_only}
+use Rattle.zk_service.specs.States.{granted_timeout}
 use Rattle.zx_base.specs.Maps.{Bytes}
 use Rattle.zn_layout.specs.declared.record.LeaseRec.{LeaseRec}
 use Rattle.zn_layout.specs.Keys.{Key, HeadKey, key_bytes}

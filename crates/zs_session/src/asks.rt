@@ -1,7 +1,7 @@
 //! What is read for a session, and the lease of a new one.
 
 ghost use Rattle.std.specs.Prelude.{◌≡◌, pos, ◌≤ℤ◌, ◌∷◌, [], IfOk};
-ghost use Rattle.zk_transcript.specs.History.{granted_timeout as timeout_by};
+ghost use Rattle.zk_service.specs.States.{granted_timeout as timeout_by};
 ghost use Rattle.zn_view.specs.Asks.{head_want};
 ghost use Rattle.zs_session.specs.Sessions.{lease_seconds as seconds_of, session_wants as wants_of_session, attach_wants as wants_of_attach, first_wants as wants_of_first};
 

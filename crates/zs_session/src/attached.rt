@@ -1,7 +1,7 @@
 //! The session that a connection got.
 
 ghost use Rattle.std.specs.Prelude.{◌≡◌, pos};
-ghost use Rattle.zk_transcript.specs.Conversations.{answered_read_only as read_only_by};
+ghost use Rattle.zk_service.specs.Answers.{answered_read_only as read_only_by};
 ghost use Rattle.zn_layout.specs.Keys.{HeadKey, key_bytes};
 ghost use Rattle.zn_view.specs.Asks.{found_in as kvs_in, kept_under, last_part};
 ghost use Rattle.zn_view.specs.Seen.{head_number};

@@ -9,8 +9,8 @@
 //! A step does no IO and reads no clock: the caller has the ask carried out, and makes the next step with the answer.
 //!
 //! In `specs/`, in reading order: `Sessions` (what is asked for a session), `Answering` (which answers an ask may have),
-//! `Connecting` (`asked_in_phase`: what is asked in each phase; `ConnectSteps`: what a step does), `Alive`, `Laws`. The laws are the
-//! functions of `laws`: what keys stand for after the transactions, and what their answers show.
+//! `Connecting` (`asked_in_phase`: what is asked in each phase; `ConnectSteps`: what a step does), `Alive`. The laws are the functions of
+//! `laws`: the transactions may be sent, and what their answers show. What keys stand for after them is a law of `zp_laws`.
 //!
 //! A step takes memory for its ask, and copies what a look shows once; it keeps no view between two steps.
 #![tactic(auto)]
@@ -34,8 +34,5 @@ pub use attached::number_in;
 pub use connect::{Connect, ConnectStep, Fresh, Phase};
 pub use connecting::Connecting;
 pub use fault::StepFault;
-pub use laws::{
-    a_new_session_commits, a_session_is_attached, a_session_is_sendable,
-    a_session_shows_its_number, sessions_are_read_again,
-};
+pub use laws::{a_session_is_sendable, a_session_shows_its_number, sessions_are_read_again};
 pub use looks::look;

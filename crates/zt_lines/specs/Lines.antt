@@ -1,11 +1,11 @@
 -- The lines of a transcript (this project's own format): the first word tells the form, and the others what the line says.
 use Rattle.std.specs.Prelude.{ℕ, ℤ, List, [], ◌∷◌, length, nat_lt, bytes_eq, codes, Option, Some, None, if◌then◌else◌}
-use Rattle.zk_transcript.specs.declared.transcript.Cause.{Cause}
-use Rattle.zk_transcript.specs.declared.transcript.Cause.TheVariants as cause
-use Rattle.zk_transcript.specs.declared.transcript.Ended.{Ended}
-use Rattle.zk_transcript.specs.declared.transcript.Ended.TheVariants as ended
-use Rattle.zk_transcript.specs.declared.transcript.UpdateKind.{UpdateKind}
-use Rattle.zk_transcript.specs.declared.transcript.UpdateKind.TheVariants as kind
+use Rattle.zk_service.specs.declared.cause.Cause.{Cause}
+use Rattle.zk_service.specs.declared.cause.Cause.TheVariants as cause
+use Rattle.zk_service.specs.declared.cause.Ended.{Ended}
+use Rattle.zk_service.specs.declared.cause.Ended.TheVariants as ended
+use Rattle.zk_service.specs.declared.update.UpdateKind.{UpdateKind}
+use Rattle.zk_service.specs.declared.update.UpdateKind.TheVariants as kind
 use Rattle.zk_transcript.specs.declared.transcript.TranscriptLine.{TranscriptLine}
 use Rattle.zk_transcript.specs.declared.transcript.TranscriptLine.TheVariants as line
 use Rattle.zt_text.specs.Scripts.{hex, max_line, number, one_word, password, pieces, session_id, three_words, two_words, four_words, ◌>>=◌}

@@ -2,12 +2,12 @@
 -- which texts are read as given lines.
 use Rattle.std.specs.Prelude.{◌≡◌, ◌⊎◌, ℕ, ℤ, pos, negsuc, ◌<◌, ◌≤◌, ◌≤ℤ◌, ⊤, List, [], ◌∷◌, ◌++◌, length, None}
 use Rattle.zk_model.specs.Limits.{max_long}
-use Rattle.zk_transcript.specs.declared.transcript.Cause.{Cause}
-use Rattle.zk_transcript.specs.declared.transcript.Cause.TheVariants as cause
-use Rattle.zk_transcript.specs.declared.transcript.Ended.{Ended}
-use Rattle.zk_transcript.specs.declared.transcript.Ended.TheVariants as ended
-use Rattle.zk_transcript.specs.declared.transcript.UpdateKind.{UpdateKind}
-use Rattle.zk_transcript.specs.declared.transcript.UpdateKind.TheVariants as kind
+use Rattle.zk_service.specs.declared.cause.Cause.{Cause}
+use Rattle.zk_service.specs.declared.cause.Cause.TheVariants as cause
+use Rattle.zk_service.specs.declared.cause.Ended.{Ended}
+use Rattle.zk_service.specs.declared.cause.Ended.TheVariants as ended
+use Rattle.zk_service.specs.declared.update.UpdateKind.{UpdateKind}
+use Rattle.zk_service.specs.declared.update.UpdateKind.TheVariants as kind
 use Rattle.zk_transcript.specs.declared.transcript.TranscriptLine.{TranscriptLine}
 use Rattle.zk_transcript.specs.declared.transcript.TranscriptLine.TheVariants as line
 use Rattle.zt_text.specs.declared.script.Unread.{Unread}

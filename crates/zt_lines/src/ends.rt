@@ -7,7 +7,8 @@ ghost use Rattle.zt_lines.specs.Lines.{bad_length_end as bad_length_of, caused, 
 use crate::numbers::{length, long, place};
 use crate::updates::is;
 use std::alloc::Global;
-use zk_transcript::{Cause, Ended, TranscriptLine};
+use zk_service::{Cause, Ended};
+use zk_transcript::TranscriptLine;
 use zt_text::{Words, first_word, hex, number};
 use zx_base::Memory;
 

@@ -5,7 +5,8 @@ ghost use Rattle.zt_text.specs.Words.{words_of};
 ghost use Rattle.zt_lines.specs.Lines.{asked_words, attach_words, begin_words, closed_words, id_and_connection as id_and_connection_of, kind_of_form as kind_of_form_of, kind_read, reaped_words, session_words, update_line};
 
 use crate::numbers::{long, place};
-use zk_transcript::{TranscriptLine, UpdateKind, UpdateRec};
+use zk_service::{UpdateKind, UpdateRec};
+use zk_transcript::TranscriptLine;
 use zt_text::{Words, first_word, number, one_word, session_id, three_words, two_words};
 
 /// `update Z ..`

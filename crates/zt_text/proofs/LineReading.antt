@@ -1,12 +1,12 @@
 -- A line of a transcript, read back from its words.
 use Rattle.std.proofs.Common.{◌≡◌, ℕ, ℤ, List, [], ◌∷◌, Option, Some, None, option_map, if◌then◌else◌, refl, ap, ◌∙◌}
 use Rattle.std.specs.Prelude.{bytes_eq, codes, option_and_then}
-use Rattle.zk_transcript.specs.declared.transcript.Cause.{Cause}
-use Rattle.zk_transcript.specs.declared.transcript.Cause.TheVariants as cause
-use Rattle.zk_transcript.specs.declared.transcript.Ended.{Ended}
-use Rattle.zk_transcript.specs.declared.transcript.Ended.TheVariants as ended
-use Rattle.zk_transcript.specs.declared.transcript.UpdateKind.{UpdateKind}
-use Rattle.zk_transcript.specs.declared.transcript.UpdateKind.TheVariants as kind
+use Rattle.zk_service.specs.declared.cause.Cause.{Cause}
+use Rattle.zk_service.specs.declared.cause.Cause.TheVariants as cause
+use Rattle.zk_service.specs.declared.cause.Ended.{Ended}
+use Rattle.zk_service.specs.declared.cause.Ended.TheVariants as ended
+use Rattle.zk_service.specs.declared.update.UpdateKind.{UpdateKind}
+use Rattle.zk_service.specs.declared.update.UpdateKind.TheVariants as kind
 use Rattle.zk_transcript.specs.declared.transcript.TranscriptLine.{TranscriptLine}
 use Rattle.zk_transcript.specs.declared.transcript.TranscriptLine.TheVariants as line
 use Rattle.zt_text.specs.Scripts.{hex}

@@ -5,7 +5,8 @@ ghost use Rattle.zt_text.specs.Transcripts.{cause_words, end_words, kind_words, 
 ghost use Rattle.zt_text.specs.Written.{close_text, update_text, word_text};
 
 use crate::word::{Word, push_words};
-use zk_transcript::{Cause, Ended, TranscriptLine, UpdateKind};
+use zk_service::{Cause, Ended, UpdateKind};
+use zk_transcript::TranscriptLine;
 use zx_base::Memory;
 
 /// Adds a line, with its line feed. Without memory, what was there stays.

@@ -1,5 +1,5 @@
 use Rattle.std.proofs.Common.{◌≡◌, ◌+◌, take}
-use Rattle.zk_transcript.proofs.ReplySizes.{size}
+use Rattle.zk_service.proofs.ReplySizes.{size}
 use Rattle.zk_answers.proofs.listings.fit.Given as goal
 
 abbrev pub invariant-loop-text : goal.invariant-loop-text

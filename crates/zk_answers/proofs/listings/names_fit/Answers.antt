@@ -1,5 +1,5 @@
 use Rattle.std.proofs.Common.{◌∙◌}
-use Rattle.zk_transcript.proofs.ReplySizes.{fits-names}
+use Rattle.zk_service.proofs.ReplySizes.{fits-names}
 use Rattle.zk_answers.proofs.listings.names_fit.Goals as goal
 
 pub returns : goal.returns

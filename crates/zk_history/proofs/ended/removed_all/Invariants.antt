@@ -1,5 +1,5 @@
 use Rattle.std.proofs.Common.{◌≡◌, drop}
-use Rattle.zk_transcript.specs.History.{removed_all}
+use Rattle.zk_service.specs.States.{removed_all}
 use Rattle.zk_history.proofs.ended.removed_all.Given as goal
 
 abbrev pub invariant-loop-path : goal.invariant-loop-path

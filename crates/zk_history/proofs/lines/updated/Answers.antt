@@ -1,10 +1,11 @@
 use Rattle.std.proofs.Common.{◌≡◌, ℕ, ℤ, List, w64, to_z, of_z, rules}
 use Rattle.std.proofs.lemmas.Int.{to_z-of_z}
 use Rattle.std.proofs.lemmas.Result.{err_from_is_err_and}
-use Rattle.zk_transcript.specs.declared.transcript.UpdateKind.{UpdateKind}
-use Rattle.zk_transcript.specs.declared.transcript.UpdateKind.TheVariants.{Asked}
+use Rattle.zk_service.specs.declared.update.UpdateKind.{UpdateKind}
+use Rattle.zk_service.specs.declared.update.UpdateKind.TheVariants.{Asked}
 use Rattle.zk_transcript.specs.declared.transcript.TranscriptLine.{TranscriptLine}
-use Rattle.zk_transcript.specs.History.{State, request, session_of}
+use Rattle.zk_service.specs.States.{State, session_of}
+use Rattle.zk_transcript.specs.History.{request}
 use Rattle.zk_machine.specs.declared.fault.Fault.{Fault}
 use Rattle.zk_machine.specs.Faults.{BeyondUnless}
 use Rattle.zk_machine.proofs.FaultLaws.{beyond-weaker}

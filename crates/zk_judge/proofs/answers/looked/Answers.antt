@@ -1,7 +1,7 @@
 use Rattle.std.proofs.Common.{◌≡◌, true, false, Option, ap, sym, ◌∙◌, subst, IfOk}
 use Rattle.std.specs.Prelude.{is_some, option_and_then, option_map}
 use Rattle.zk_model.specs.Limits.{max_owned}
-use Rattle.zk_transcript.specs.Answers.{Told, tree_reply}
+use Rattle.zk_service.specs.Answers.{Told, tree_reply}
 use Rattle.zk_transcript.specs.History.{asked_in}
 use Rattle.zk_answers.specs.Outcomes.{told_of}
 use Rattle.zk_judge.specs.Seen.{IsShortFrame, frame_as}

@@ -1,6 +1,7 @@
 use Rattle.std.proofs.Common.{◌≡◌, ◌+◌, ℕ, ℤ, List, Some, None, length, ap, sym, ◌∙◌}
 use Rattle.zk_transcript.specs.declared.transcript.TranscriptLine.{TranscriptLine}
-use Rattle.zk_transcript.specs.History.{Session, State, session_at, state_at}
+use Rattle.zk_service.specs.States.{Session, State, session_at}
+use Rattle.zk_transcript.specs.History.{state_at}
 use Rattle.zk_legal.specs.Faults.{history_fault}
 use Rattle.zk_legal.specs.Passwords.{OfferPasswords}
 use Rattle.zk_legal.proofs.Passwords.{open-password}

@@ -1,7 +1,8 @@
 use Rattle.std.proofs.Common.{◌≡◌, ◌+◌, Bool, List, [], pos, ap, sym, ◌∙◌, drop, subst, rules, refl}
 use Rattle.std.specs.Prelude.{◌<ℤ◌, ◌↔◌, IsTrue}
 use Rattle.std.proofs.lemmas.Result.{IfOk-weaker}
-use Rattle.zk_transcript.specs.History.{State, connect, session_at}
+use Rattle.zk_service.specs.States.{State, session_at}
+use Rattle.zk_transcript.specs.History.{connect}
 use Rattle.zk_transcript.specs.Walks.{Due, Walker, at_start, packets}
 use Rattle.zk_transcript.specs.Conversations.{IsLawfulAndFresh, IsWelcomed}
 use Rattle.zk_least.specs.LeastSteps.{is_least}

@@ -1,7 +1,7 @@
 use Rattle.std.proofs.Common.{ap, sym, ◌∙◌}
 use Rattle.std.specs.Prelude.{option_map}
 use Rattle.zk_model.specs.Watches.{Watches}
-use Rattle.zk_transcript.specs.Answers.{plain_request}
+use Rattle.zk_service.specs.Answers.{plain_request}
 use Rattle.zk_answers.specs.Outcomes.{told_of}
 use Rattle.zk_judge.specs.Seen.{reply_in}
 use Rattle.zk_judge.proofs.frames.plain_answer.Goals as goal

@@ -1,7 +1,7 @@
 use Rattle.std.proofs.Common.{ℤ, Some, w32, ap, ◌∙◌}
 use Rattle.std.proofs.lemmas.Int.{to_z-of_z}
 use Rattle.zk_model.specs.Watches.{is_watched}
-use Rattle.zk_transcript.specs.Answers.{Told, names_watches, only, told_of_watches}
+use Rattle.zk_service.specs.Answers.{Told, names_watches, only, told_of_watches}
 use Rattle.zk_judge.proofs.PlainAnswers.{watcher-only}
 use Rattle.zk_judge.proofs.frames.watcher_said.Goals as goal
 

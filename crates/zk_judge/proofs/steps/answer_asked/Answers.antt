@@ -1,6 +1,7 @@
 use Rattle.std.proofs.Common.{◌≡◌, List, Option, true, false, ◌&&◌, subst, ◌∙◌, IfOk}
 use Rattle.std.specs.Prelude.{option_map}
-use Rattle.zk_transcript.specs.Walks.{Due, Walker, has_header, may_answer_at}
+use Rattle.zk_transcript.specs.Walks.{Due, Walker, may_answer_at}
+use Rattle.zk_service.specs.Answers.{has_header}
 use Rattle.zk_judge.specs.Seen.{fired_of, frame_as, step_of, walker_of}
 use Rattle.zk_judge.proofs.AnswersAsOf.{answer-fired, answered, asked-placed, not-answered}
 use Rattle.zk_judge.proofs.steps.answer_asked.Goals as goal

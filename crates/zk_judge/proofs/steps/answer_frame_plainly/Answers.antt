@@ -1,7 +1,7 @@
 use Rattle.std.proofs.Common.{◌≡◌, ℕ, ℤ, None, Some, ap, sym, ◌∙◌, rules, w64, to_z, of_z}
 use Rattle.std.specs.Prelude.{option_map}
 use Rattle.std.proofs.lemmas.Int.{to_z-of_z}
-use Rattle.zk_transcript.specs.Answers.{xid_of, plain_reply}
+use Rattle.zk_service.specs.Answers.{xid_of, plain_reply}
 use Rattle.zk_transcript.specs.Walks.{plain_answer}
 use Rattle.zk_judge.specs.Seen.{frame_as, said_of, walker_of}
 use Rattle.zk_judge.proofs.PlainAnswers.{plainly-none, plainly-said, said-sent}

@@ -3,7 +3,7 @@ use Rattle.std.proofs.lemmas.Grind.{common_steps}
 use Rattle.zk_jute.specs.Packets.{reply_packet}
 use Rattle.zk_model.specs.declared.reply.Notice.{Notice}
 use Rattle.zk_transcript.specs.declared.transcript.TranscriptLine.{TranscriptLine}
-use Rattle.zk_transcript.specs.Answers.{Told, xid_of}
+use Rattle.zk_service.specs.Answers.{Told, xid_of}
 use Rattle.zk_transcript.specs.History.{after}
 use Rattle.zk_transcript.specs.Walks.{Due, Walker, after_update, due_notices, later_of, reply_step}
 use Rattle.zk_judge.specs.NextFrames.{before_frame}

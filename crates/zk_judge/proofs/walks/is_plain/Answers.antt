@@ -1,7 +1,7 @@
 use Rattle.std.proofs.Common.{◌≡◌, Bool, Some, None, ap, sym, ◌∙◌, subst, IfOk}
 use Rattle.zk_jute.specs.Requests.{Frame}
 use Rattle.zk_model.specs.Watches.{no_watches}
-use Rattle.zk_transcript.specs.Answers.{plain_reply}
+use Rattle.zk_service.specs.Answers.{plain_reply}
 use Rattle.zk_least.specs.LeastWalk.{is_plain}
 use Rattle.zk_judge.specs.Seen.{frame_as, reply_in}
 use Rattle.zk_judge.proofs.PlainAnswers.{plain-is, plain-is-not, plain-sent}

@@ -1,6 +1,7 @@
 use Rattle.std.proofs.Common.{◌≡◌, ℕ, ◌+◌, ◌<◌, true, false, List, [], length, take, sym, ap, ◌∙◌, subst, arith, length-take}
 use Rattle.zk_transcript.specs.declared.transcript.TranscriptLine.{TranscriptLine}
-use Rattle.zk_transcript.specs.History.{State, change}
+use Rattle.zk_service.specs.States.{State}
+use Rattle.zk_transcript.specs.History.{change}
 use Rattle.zk_history.specs.Fits.{Fits}
 use Rattle.zk_history.proofs.Looking.{front}
 use Rattle.zk_legal.specs.Counted.{AreCounts}

@@ -1,5 +1,5 @@
 use Rattle.std.proofs.Common.{◌≡◌, [], take, drop}
-use Rattle.zk_transcript.specs.History.{nothing_yet}
+use Rattle.zk_service.specs.States.{nothing_yet}
 use Rattle.zk_legal.specs.Counted.{AreCounts}
 use Rattle.zk_legal.specs.Faults.{IsRunTo, history_fault_from}
 use Rattle.zk_legal.proofs.history.first_fault.Given as goal

@@ -4,7 +4,7 @@ use Rattle.std.proofs.lemmas.Int.{to_z-of_z}
 use Rattle.zk_model.specs.declared.request.Part.TheVariants as part
 use Rattle.zk_model.specs.Single.{form_refusal}
 use Rattle.zk_model.specs.Watches.{Watches, no_watches}
-use Rattle.zk_transcript.specs.Answers.{names_watches, plain_request, told_of_watcher, told_refusal}
+use Rattle.zk_service.specs.Answers.{names_watches, plain_request, told_of_watcher, told_refusal}
 use Rattle.zn_ops.proofs.Unwatched.{check-plain, remove-plain}
 use Rattle.zn_ops.proofs.form.plain_reply.Goals as goal
 

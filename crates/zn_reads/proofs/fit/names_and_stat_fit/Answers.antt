@@ -1,5 +1,5 @@
 use Rattle.std.proofs.Common.{◌∙◌}
-use Rattle.zk_transcript.proofs.ReplySizes.{fits-names_stat}
+use Rattle.zk_service.proofs.ReplySizes.{fits-names_stat}
 use Rattle.zn_reads.proofs.fit.names_and_stat_fit.Goals as goal
 
 pub returns : goal.returns

@@ -4,7 +4,7 @@ use Rattle.std.proofs.lemmas.Int.{to_z-of_z}
 use mir.Val.{SFits}
 use Rattle.zk_model.specs.declared.node.Stat.{Stat}
 use Rattle.zk_model.specs.declared.request.Request.TheVariants as req
-use Rattle.zk_transcript.specs.History.{made_stat}
+use Rattle.zk_service.specs.States.{made_stat}
 use Rattle.zn_view.specs.Deciding.{IfPlanned, IsToldByForm, is_by_tree}
 use Rattle.zn_view.specs.Needs.{IsWhole}
 use Rattle.zn_updates.specs.Deciding.{IsBySound, IsGuarded}

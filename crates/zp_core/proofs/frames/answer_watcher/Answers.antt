@@ -1,7 +1,7 @@
 -- The reply is sent with the watches that are left.
 use Rattle.std.proofs.Common.{w32, subst, IfOk}
 use Rattle.std.proofs.lemmas.Int.{to_z-of_z}
-use Rattle.zk_transcript.specs.Answers.{Told}
+use Rattle.zk_service.specs.Answers.{Told}
 use Rattle.zp_step.specs.Replies.{Is}
 use Rattle.zp_step.specs.Taking.{plainly}
 use Rattle.zp_core.specs.Meanings.{Leads, ready}

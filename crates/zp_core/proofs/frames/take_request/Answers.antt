@@ -6,7 +6,7 @@ use Rattle.zx_base.specs.Maps.{Bytes}
 use Rattle.zk_jute.specs.Requests.{Asks}
 use Rattle.zk_model.specs.declared.request.Request.{Request}
 use Rattle.zk_model.specs.Watches.{no_watches}
-use Rattle.zk_transcript.specs.Answers.{Told, plain_request, told_of_watches}
+use Rattle.zk_service.specs.Answers.{Told, plain_request, told_of_watches}
 use Rattle.zp_step.specs.Replies.{Is}
 use Rattle.zp_step.specs.Taking.{TakesReadable, plainly}
 use Rattle.zp_core.specs.Meanings.{Leads, ready, told_with}

@@ -1,7 +1,7 @@
 -- By its length a frame has a header or not.
 use Rattle.std.proofs.Common.{◌<◌, ◌≤◌, length, sym, subst, arith}
 use Rattle.std.proofs.lemmas.Result.{IfOk-weaker}
-use Rattle.zk_transcript.specs.declared.transcript.Cause.TheVariants as cause
+use Rattle.zk_service.specs.declared.cause.Cause.TheVariants as cause
 use Rattle.zp_core.specs.Meanings.{Shuts}
 use Rattle.zp_core.specs.declared.moves.Move.{Move}
 use Rattle.zp_core.proofs.Coming.{ComesLater, later-closes, later-waits}

@@ -5,7 +5,7 @@ use Rattle.std.proofs.lemmas.Int.{to_z-of_z}
 use Rattle.std.proofs.lemmas.Result.{IfOk-weaker}
 use mir.Val.{SFits}
 use Rattle.zk_jute.specs.Requests.{read_request}
-use Rattle.zk_transcript.specs.Answers.{xid_of}
+use Rattle.zk_service.specs.Answers.{xid_of}
 use Rattle.zn_view.specs.Lookups.{found_at}
 use Rattle.zs_session.specs.Sessions.{life_key}
 use Rattle.zp_step.specs.Keepalives.{Looked}

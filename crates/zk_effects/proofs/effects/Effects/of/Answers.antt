@@ -4,7 +4,8 @@ use Rattle.zk_model.specs.declared.node.Trigger.{Trigger}
 use Rattle.zk_model.specs.declared.reply.Body.{Body}
 use Rattle.std.proofs.lemmas.Option.{slice_get_read}
 use Rattle.zk_transcript.specs.declared.transcript.TranscriptLine.{TranscriptLine}
-use Rattle.zk_transcript.specs.History.{State, after, state_at}
+use Rattle.zk_service.specs.States.{State}
+use Rattle.zk_transcript.specs.History.{after, state_at}
 use Rattle.zk_history.specs.Commits.{response_to}
 use Rattle.zk_history.proofs.Looking.{front}
 use Rattle.zk_effects.specs.Effects.{effect_at, kept_of}

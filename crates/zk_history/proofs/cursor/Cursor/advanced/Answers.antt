@@ -3,7 +3,8 @@ use Rattle.std.proofs.lemmas.Grind.{common_steps}
 use Rattle.std.proofs.lemmas.List.{drop_more, take_more, take-append-drop}
 use Rattle.std.proofs.lemmas.Option.{get_or_from_slice_get}
 use Rattle.zk_transcript.specs.declared.transcript.TranscriptLine.{TranscriptLine}
-use Rattle.zk_transcript.specs.History.{State, after, change}
+use Rattle.zk_service.specs.States.{State}
+use Rattle.zk_transcript.specs.History.{after, change}
 use Rattle.zk_transcript.proofs.Appending.{after-push}
 use Rattle.zk_machine.proofs.FaultLaws.{beyond-weaker}
 use Rattle.zk_history.specs.Commits.{response_to}

@@ -1,5 +1,6 @@
 use Rattle.std.proofs.Common.{◌≡◌, [], take, ap, sym, ◌∙◌, refl}
-use Rattle.zk_transcript.specs.History.{after, nothing_yet}
+use Rattle.zk_transcript.specs.History.{after}
+use Rattle.zk_service.specs.States.{nothing_yet}
 use Rattle.zk_history.proofs.cursor.Cursor.new.Goals as goal
 
 after-none : after [] ≡ nothing_yet

@@ -1,7 +1,7 @@
 use Rattle.std.proofs.Common.{ap, sym, ◌∙◌}
 use Rattle.std.specs.Prelude.{Option, option_map}
 use Rattle.zk_transcript.specs.Walks.{own_update_shown}
-use Rattle.zk_transcript.specs.declared.transcript.UpdateRec.{UpdateRec}
+use Rattle.zk_service.specs.declared.update.UpdateRec.{UpdateRec}
 use Rattle.zk_history.specs.Pasts.{lines_of}
 use Rattle.zk_history.specs.Shown.{own_mark, is_mark}
 use Rattle.zk_history.proofs.Looking.{own-marked, found-before, found-line, found-none, found-within, place-some, place-none}

@@ -1,7 +1,7 @@
 use Rattle.std.proofs.Common.{ap, sym, ◌∙◌, subst, w64, to_z, of_z}
 use Rattle.std.proofs.lemmas.Int.{to_z-of_z}
 use Rattle.std.specs.FinMap.{remove}
-use Rattle.zk_transcript.specs.History.{Sessions}
+use Rattle.zk_service.specs.States.{Sessions}
 use Rattle.zk_history.specs.Attachments.{AreAttached}
 use Rattle.zk_history.proofs.SessionLaws.{get-numbered, numbered, numbered-remove}
 use Rattle.zk_history.proofs.sessions.Sessions.without.Goals as goal

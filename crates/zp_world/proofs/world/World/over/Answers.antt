@@ -1,7 +1,7 @@
 use Rattle.std.proofs.Common.{◌≡◌, ◌∙◌, refl, rules}
 use Rattle.std.specs.Prelude.{pos}
 use Rattle.ev_types.specs.Store.{present}
-use Rattle.zn_layout.specs.Begin.{begin_lines}
+use Rattle.zk_transcript.specs.History.{begin_lines}
 use Rattle.zp_world.proofs.Beginning.{first-entries, first-world}
 use Rattle.zp_world.proofs.world.World.over.Goals as goal
 

@@ -1,7 +1,7 @@
 use Rattle.std.proofs.Common.{◌≡◌, ℤ, refl, subst, rules, w64, to_z, of_z}
 use Rattle.std.specs.Prelude.{None, OnOk}
-use Rattle.zk_transcript.specs.declared.transcript.Ended.{Ended}
-use Rattle.zk_transcript.specs.declared.transcript.Ended.TheVariants.{Reaped, Kept, Gone}
+use Rattle.zk_service.specs.declared.cause.Ended.{Ended}
+use Rattle.zk_service.specs.declared.cause.Ended.TheVariants.{Reaped, Kept, Gone}
 use Rattle.zs_reap.specs.declared.reap.ReapStep.TheVariants as reaped
 use Rattle.zp_world.specs.Doing.{ended}
 use Rattle.zp_world.proofs.Delivered.{reap-asked, reap-damaged, reap-ended}

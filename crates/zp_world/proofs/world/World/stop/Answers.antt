@@ -2,8 +2,8 @@ use Rattle.std.proofs.Common.{◌++◌, ◌∷◌, [], sym, ap, ◌∙◌}
 use Rattle.std.specs.FinMap.{get}
 use Rattle.std.proofs.lemmas.Result.{on_ok_weaker}
 use Rattle.zx_base.proofs.Options.{some_is}
-use Rattle.zk_transcript.specs.declared.transcript.Cause.TheVariants as cause
-use Rattle.zk_transcript.specs.declared.transcript.Ended.TheVariants as ended
+use Rattle.zk_service.specs.declared.cause.Cause.TheVariants as cause
+use Rattle.zk_service.specs.declared.cause.Ended.TheVariants as ended
 use Rattle.zk_transcript.specs.declared.transcript.TranscriptLine.TheVariants.{Close as CloseLine}
 use Rattle.zp_script.specs.StepOutcomes.{left_by}
 use Rattle.zp_script.specs.Worlds.{World}

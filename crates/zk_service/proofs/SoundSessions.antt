@@ -18,13 +18,13 @@ use Rattle.zk_model.specs.declared.node.Node.{Node}
 use Rattle.zk_model.specs.Paths.{root, parent}
 use Rattle.zk_model.specs.Znodes.{Tree, owned, owned_by}
 use Rattle.zk_model.specs.Single.{removed_under, at_parent, removed, without_child}
-use Rattle.zk_transcript.specs.History.{Session, Sessions, IsSoundTree, limit_of, removed_all}
+use Rattle.zk_service.specs.States.{Session, Sessions, IsSoundTree, limit_of, removed_all}
 use Rattle.zk_model.proofs.Paths.{apart_from_parent}
-use Rattle.zk_transcript.proofs.Children.{some_or_none, not_root}
-use Rattle.zk_transcript.proofs.Owned.{num_owned, get-owned_as}
-use Rattle.zk_transcript.proofs.SessionMaps.{either_id, at-insert_same, at-insert_other, at-remove_other, each_session-put, each_session-gone}
-use Rattle.zk_transcript.proofs.SoundTrees.{Each, each-put, still_there}
-use Rattle.zk_transcript.proofs.SoundEffects.{Stands, stands-removed}
+use Rattle.zk_service.proofs.Children.{some_or_none, not_root}
+use Rattle.zk_service.proofs.Owned.{num_owned, get-owned_as}
+use Rattle.zk_service.proofs.SessionMaps.{either_id, at-insert_same, at-insert_other, at-remove_other, each_session-put, each_session-gone}
+use Rattle.zk_service.proofs.SoundTrees.{Each, each-put, still_there}
+use Rattle.zk_service.proofs.SoundEffects.{Stands, stands-removed}
 
 -- ---- a session changes, and may own what it might
 

@@ -1,5 +1,5 @@
 -- What the service answers to a frame (ZooKeeper API; Programmer's Guide, "ZooKeeper Watches", "ZooKeeper Sessions").
-use Rattle.std.specs.Prelude.{ℕ, ℤ, pos, Bool, true, false, not, ◌&&◌, List, [], length, nat_lt, ◌==◌, if◌then◌else◌, Option, Some, None, bytes_eq, codes}
+use Rattle.std.specs.Prelude.{ℕ, ℤ, pos, Bool, true, false, not, ◌&&◌, List, [], length, nat_lt, ◌==◌, if◌then◌else◌, Option, Some, None, bytes_eq, codes, ◌||◌, replicate, int_le, option_map}
 use Rattle.zk_model.specs.declared.node.Node.{Node}
 use Rattle.zk_model.specs.declared.reply.Body.{Body}
 use Rattle.zk_model.specs.declared.reply.Body.TheVariants as body
@@ -18,8 +18,11 @@ use Rattle.zk_model.specs.Znodes.{Tree, stat_of, child_names}
 use Rattle.zk_model.specs.Single.{Outcome, Refused, Done, single, form_refusal}
 use Rattle.zk_model.specs.Multi.{Several, Denied, Codes, All as AllDone, several}
 use Rattle.zk_model.specs.Watches.{Watches, Seen, arm_data, arm_children, set_watches, is_watcher_type, is_watched, unwatched}
-use Rattle.zk_transcript.specs.History.{Session, limit_of}
+use Rattle.zk_service.specs.States.{Session, limit_of, State, session_at}
 use Rattle.zk_model.specs.Limits.{max_parts}
+use Rattle.std.specs.Ordering.{int_eq}
+use Rattle.zk_model.specs.declared.connect.ConnectRequest.{ConnectRequest}
+use Rattle.zk_model.specs.declared.connect.ConnectResponse.{ConnectResponse}
 
 -- ---- what a client is told
 
@@ -100,6 +103,18 @@ xid_of (Unreadable xid place) = xid
 xid_of (Unknown xid kind) = xid
 xid_of (Asks xid r) = xid
 
+-- the refusal of an auth, after which no request is answered
+abbrev pub is_auth_refusal : Reply → Bool
+is_auth_refusal (reply.Refused code) = int_eq code auth_failed
+is_auth_refusal (reply.Good b) = false
+
+-- a frame without a header is never answered
+abbrev pub has_header : Frame → Bool
+has_header NoHeader = false
+has_header (Unreadable xid place) = true
+has_header (Unknown xid kind) = true
+has_header (Asks xid r) = true
+
 -- ---- the session test
 
 -- the refusal where the session is not open or has lapsed, or is attached to another connection than c
@@ -174,3 +189,24 @@ tree_reply t limit session w req.Close = None
 tree_reply t limit session w (req.Create2 p d a f) = refusal_of w (single t limit session (part.Create p d a f) (pos 0) 0)
 tree_reply t limit session w (req.CheckWatches p kind) = None
 tree_reply t limit session w (req.RemoveWatches p kind) = None
+
+-- ---- the answer to the connect
+
+-- the answer has the field where the connect has it, and says that the service is not read-only
+abbrev pub answered_read_only : ConnectRequest → Option Bool
+answered_read_only r = option_map (λ (b : Bool). false) r.read_only
+
+abbrev pub welcome : ConnectRequest → ℤ → Session → ConnectResponse
+welcome r id x = record { timeout = x.timeout; session = id; passwd = x.passwd; read_only = answered_read_only r }
+
+abbrev pub refusal : ConnectRequest → ConnectResponse
+refusal r = record { timeout = pos 0; session = pos 0; passwd = replicate 16 0; read_only = answered_read_only r }
+
+-- the session is not open, has lapsed, or has another password than the connect shows
+abbrev pub is_other_session : ConnectRequest → Option Session → Bool
+is_other_session r None = true
+is_other_session r (Some x) = x.lapsed || not (bytes_eq r.passwd x.passwd)
+
+-- the connect names a session, its client has seen no later zxid than the state's, and the session cannot be resumed
+abbrev pub may_refuse : ConnectRequest → State → Bool
+may_refuse r s = not (int_eq r.session (pos 0)) && int_le r.last_zxid s.zxid && is_other_session r (session_at r.session s)

@@ -22,15 +22,15 @@ use Rattle.zk_jute.specs.Records.{part_contents}
 use Rattle.zk_model.specs.Znodes.{Tree, num_children, owned, new_node}
 use Rattle.zk_model.specs.Single.{Outcome, Refused, Done, form_refusal, path_refusal, or_else, with_child, without_child, named, made_path, is_full, is_ephemeral, is_sequential, create_node, create_under, create_at, create, removed_under, at_parent, removed, delete, with_content, set_data, check, matches, effect, unless_refused, single}
 use Rattle.zk_model.specs.Multi.{Parts, Stopped, Passed, then_parts, touched_by, parts_of, Several, Denied, Codes, All as AllDone, settled, several, load}
-use Rattle.zk_transcript.specs.History.{Session, Sessions, IsCounted, IsSoundTree, IsPast, IsBoundedNode, limit_of}
+use Rattle.zk_service.specs.States.{Session, Sessions, IsCounted, IsSoundTree, IsPast, IsBoundedNode, limit_of}
 use Rattle.zk_model.specs.Codes.{bad_arguments}
 use Rattle.zk_jute.proofs.Lists.{first_of_both, second_of_both}
 use Rattle.zk_model.proofs.Paths.{apart_from_parent}
 use Rattle.zk_model.proofs.SequencePaths.{sequence-valid}
 use Rattle.zk_model.proofs.SequenceParents.{parent-sequence}
-use Rattle.zk_transcript.proofs.Children.{num_children-change, none-from_count}
-use Rattle.zk_transcript.proofs.Owned.{num_owned-change}
-use Rattle.zk_transcript.proofs.SoundTrees.{Each, each-put, each-gone, MayOwn, sound-change, sound-new, sound-gone}
+use Rattle.zk_service.proofs.Children.{num_children-change, none-from_count}
+use Rattle.zk_service.proofs.Owned.{num_owned-change}
+use Rattle.zk_service.proofs.SoundTrees.{Each, each-put, each-gone, MayOwn, sound-change, sound-new, sound-gone}
 
 -- a sound tree under these open sessions, and what is true of each node
 pub record Holds (opened : Sessions) (Q : Bytes → Node → Type 0) (t : Tree) : Type 0 where

@@ -11,10 +11,10 @@ use Rattle.zk_model.specs.Limits.{max_frame}
 use Rattle.zk_model.specs.declared.node.Node.{Node}
 use Rattle.zk_model.specs.Paths.{root, parent}
 use Rattle.zk_model.specs.Znodes.{Tree, num_children, owned}
-use Rattle.zk_transcript.specs.History.{Session, Sessions, HasPlain, HasParent, IsCounted, IsSoundTree, limit_of}
+use Rattle.zk_service.specs.States.{Session, Sessions, HasPlain, HasParent, IsCounted, IsSoundTree, limit_of}
 use Rattle.zk_model.proofs.Paths.{apart_from_parent, is_child-no}
-use Rattle.zk_transcript.proofs.Children.{num_children-change, num_children-new, num_children-new_other, num_children-gone, no_children-absent}
-use Rattle.zk_transcript.proofs.Owned.{num_owned-change, num_owned-new, num_owned-new_other, num_owned-gone}
+use Rattle.zk_service.proofs.Children.{num_children-change, num_children-new, num_children-new_other, num_children-gone, no_children-absent}
+use Rattle.zk_service.proofs.Owned.{num_owned-change, num_owned-new, num_owned-new_other, num_owned-gone}
 
 pub same_node : (t : Tree) (p : Bytes) (x y : Node) → get t p ≡ Some x → get t p ≡ Some y → x ≡ y
 same_node t p x y a b = some_is (sym a ∙ b)

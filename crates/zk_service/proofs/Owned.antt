@@ -12,7 +12,7 @@ use Rattle.zx_base.proofs.MapLaws.{either, ext, get-retain, get-insert_same, get
 use Rattle.zk_model.specs.declared.node.Node.{Node}
 use Rattle.zk_model.specs.Paths.{parent}
 use Rattle.zk_model.specs.Znodes.{Tree, is_owner, owned_by, owned}
-use Rattle.zk_transcript.proofs.Children.{fewer, create_tree, create_new, create_parent, create_other}
+use Rattle.zk_service.proofs.Children.{fewer, create_tree, create_new, create_parent, create_other}
 
 -- a session is not number 0
 pub not_zero : (id : ℤ) → pos 1 ≤ℤ id → int_eq (pos 0) id ≡ false

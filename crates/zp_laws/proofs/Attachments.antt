@@ -10,8 +10,9 @@ use Rattle.ev_types.specs.Ranges.{Keys}
 use Rattle.ev_types.specs.Store.{acts_applied, holds, last_revision, mod_of}
 use Rattle.zk_model.specs.Limits.{max_long}
 use Rattle.zk_transcript.specs.declared.transcript.TranscriptLine.{TranscriptLine}
-use Rattle.zk_transcript.specs.declared.transcript.UpdateKind.TheVariants.{Attach}
-use Rattle.zk_transcript.specs.History.{State, Session, advanced, attached_anew, session_at, updated}
+use Rattle.zk_service.specs.declared.update.UpdateKind.TheVariants.{Attach}
+use Rattle.zk_service.specs.States.{State, Session, advanced, attached_anew, session_at}
+use Rattle.zk_transcript.specs.History.{updated}
 use Rattle.zn_layout.specs.declared.record.LeaseRec.{LeaseRec}
 use Rattle.zn_layout.specs.Changes.{last, update_acts}
 use Rattle.zn_layout.specs.Fits.{ChangesFit, KeyFits}
@@ -21,7 +22,7 @@ use Rattle.zn_layout.specs.StandsFor.{at, stored_of, life_record, LifeMeans, Sta
 use Rattle.zn_layout.proofs.Leases.{lease_value-injective}
 use Rattle.zn_layout.proofs.Stands.{stands_after}
 use Rattle.zn_view.proofs.Committing.{zxid-least}
-use Rattle.zs_session.specs.Laws.{IsAttachedAnew}
+use Rattle.zp_laws.specs.Opening.{IsAttachedAnew}
 use Rattle.zs_session.specs.Sessions.{attach_changes, attach_guards, attach_txn, life_key, next_attach, next_life}
 use Rattle.zs_session.proofs.SessionKeys.{no_triggers-within, guarded-there, life-found, opened, life-fits, nodes-stay}
 

@@ -4,8 +4,9 @@ use Rattle.ev_types.specs.Ranges.{Keys}
 use Rattle.ev_types.specs.Store.{acts_applied}
 use Rattle.ev_types.specs.declared.ask.TxnReq.{TxnReq}
 use Rattle.zk_transcript.specs.declared.transcript.TranscriptLine.{TranscriptLine}
-use Rattle.zk_transcript.specs.declared.transcript.UpdateKind.TheVariants.{Session as NewSession, Attach}
-use Rattle.zk_transcript.specs.History.{State, Session, session_at, updated}
+use Rattle.zk_service.specs.declared.update.UpdateKind.TheVariants.{Session as NewSession, Attach}
+use Rattle.zk_service.specs.States.{State, Session, session_at}
+use Rattle.zk_transcript.specs.History.{updated}
 use Rattle.zn_layout.specs.StandsFor.{StandsFor}
 use Rattle.zn_layout.specs.declared.record.LeaseRec.{LeaseRec}
 

@@ -10,7 +10,7 @@ use Rattle.std.proofs.lemmas.Cmp.{int_cmp_total, tied_itself}
 use Rattle.std.proofs.lemmas.Map.Lookups.{exact_signed}
 use Rattle.std.specs.FinMap.{get, insert, remove, entries, entries_sorted, get-entries, get-insert, get-remove, find, is_sorted}
 use Rattle.std.specs.FinMap.Entries.{below_all}
-use Rattle.zk_transcript.specs.History.{State, Session, Sessions, session_at, is_attached_to, attached_in, attached_session}
+use Rattle.zk_service.specs.States.{State, Session, Sessions, session_at, is_attached_to, attached_in, attached_session}
 
 pub either_id : (a b : ℤ) → (a ≡ b) ⊎ (a ≢ b)
 either_id a b = by_test (int_eq a b) refl

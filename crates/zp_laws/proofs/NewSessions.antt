@@ -11,9 +11,10 @@ use Rattle.zk_model.specs.declared.connect.ConnectRequest.{ConnectRequest}
 use Rattle.zk_model.specs.Limits.{max_timeout, min_timeout}
 use Rattle.zk_model.specs.Znodes.{owned}
 use Rattle.zk_transcript.specs.declared.transcript.TranscriptLine.{TranscriptLine}
-use Rattle.zk_transcript.specs.declared.transcript.UpdateKind.TheVariants.{Session as NewSession}
-use Rattle.zk_transcript.specs.History.{State, Session, IsSound, advanced, connect, granted_timeout, new_session, opening, session_at, updated, with_session}
-use Rattle.zk_transcript.proofs.SoundSessions.{owns_none}
+use Rattle.zk_service.specs.declared.update.UpdateKind.TheVariants.{Session as NewSession}
+use Rattle.zk_service.specs.States.{State, Session, IsSound, advanced, granted_timeout, new_session, session_at, with_session}
+use Rattle.zk_transcript.specs.History.{connect, opening, updated}
+use Rattle.zk_service.proofs.SoundSessions.{owns_none}
 use Rattle.zx_base.specs.Maps.{Bytes}
 use Rattle.zn_layout.specs.Changes.{last, update_acts}
 use Rattle.zn_layout.specs.Fits.{ChangesFit, KeyFits}
@@ -24,7 +25,7 @@ use Rattle.zn_layout.proofs.Sessions.{none_within}
 use Rattle.zn_layout.proofs.Stands.{stands_after}
 use Rattle.zn_view.proofs.Committing.{zxid-least}
 use Rattle.zs_session.specs.declared.connect.Fresh.{Fresh}
-use Rattle.zs_session.specs.Laws.{IsOpened}
+use Rattle.zp_laws.specs.Opening.{IsOpened}
 use Rattle.zs_session.specs.Sessions.{first_life, new_session_changes, new_session_guards, new_session_txn}
 use Rattle.zs_session.proofs.SessionKeys.{length-none, no_triggers-within, guarded-absent, nodes-none, opened, life-fits, nodes-fit}
 

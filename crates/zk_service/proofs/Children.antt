@@ -8,7 +8,7 @@ use Rattle.zx_base.proofs.MapLaws.{ext, get-insert_same, get-insert_other, get-r
 use Rattle.zk_model.specs.declared.node.Node.{Node}
 use Rattle.zk_model.specs.Paths.{root, parent, is_child}
 use Rattle.zk_model.specs.Znodes.{Tree, below, num_children}
-use Rattle.zk_transcript.specs.History.{State, IsSound, HasParent}
+use Rattle.zk_service.specs.States.{State, IsSound, HasParent}
 use Rattle.zk_model.proofs.Paths.{is_child-yes, is_child-no, parent-from_child, apart_from_parent, parent-root}
 
 pub get-below_child : (t : Tree) (p q : Bytes) → is_child p q ≡ true → get (below t p) q ≡ get t q

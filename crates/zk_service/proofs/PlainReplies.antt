@@ -14,8 +14,7 @@ use Rattle.zk_model.specs.Paths.{is_path}
 use Rattle.zk_model.specs.Single.{form_refusal}
 use Rattle.zk_model.specs.Watches.{Watches, is_watched, unwatched}
 use Rattle.zk_jute.specs.Requests.{Frame, NoHeader, Unreadable, Unknown, Asks}
-use Rattle.zk_transcript.specs.Walks.{is_auth_refusal}
-use Rattle.zk_transcript.specs.Answers.{Told, asks_of_watches, names_watches, only, told, plain_request, plain_reply, told_of_watcher, told_refusal, told_of_path}
+use Rattle.zk_service.specs.Answers.{is_auth_refusal, Told, asks_of_watches, names_watches, only, told, plain_request, plain_reply, told_of_watcher, told_refusal, told_of_path}
 
 -- the reply of what is told
 abbrev pub reply_in : Option Told → Option Reply

@@ -11,7 +11,7 @@ use Rattle.zk_model.specs.declared.reply.Body.TheVariants as body
 use Rattle.zk_model.specs.declared.reply.Reply.TheVariants as reply
 use Rattle.zk_jute.specs.JuteWriting.{int_bytes, long_bytes, string_bytes, vector_bytes, written}
 use Rattle.zk_jute.specs.Records.{stat_values}
-use Rattle.zk_transcript.specs.Answers.{fits_reply}
+use Rattle.zk_service.specs.Answers.{fits_reply}
 use Rattle.zk_jute.specs.Packets.{reply_bytes}
 use Rattle.zk_jute.proofs.Lengths.{length-int_bytes, length-long_bytes, length-string_bytes, length-vector_bytes}
 

@@ -1,0 +1,57 @@
+//! Why a connection ends.
+
+use zx_base::Bytes;
+
+/// Why a connection ended. `place` counts the bytes of the client's stream; `rev` is a revision of etcd.
+#[derive(Drop)]
+pub enum Cause {
+    /// A closeSession was answered.
+    Closed,
+    /// The client's stream ended after so many bytes.
+    ClientEnd { place: u64 },
+    /// The client's stream could not be read.
+    ReadFault,
+    /// The client's stream could not be written.
+    WriteFault,
+    /// Byte `place` of the stream begins a length that is out of range.
+    BadLength { place: u64, length: i32 },
+    /// Byte `place` of the stream begins a frame of fewer than 8 bytes, or a first frame that is no connect.
+    NoHeader { place: u64 },
+    /// The client sent an `auth` with a scheme that is not served.
+    AuthRefused,
+    /// The session to be resumed is not open, has lapsed, or has another password.
+    Unknown,
+    /// The client has seen zxid `client`; the last update of this store is `head`.
+    ZxidAhead { client: i64, head: i64 },
+    /// The number of a new session is in use, as seen at this revision.
+    Taken { rev: i64 },
+    /// The session has lapsed or ended, as seen at this revision.
+    Expired { rev: i64 },
+    /// Another connection resumed the session by the update with zxid `found`; this one was attached by that with zxid `mine`.
+    Moved { mine: i64, found: i64 },
+    /// The link to etcd failed, or etcd denied what it was asked.
+    LinkFault,
+    /// The client was told the updates up to number `cursor`; those up to number `floor` are no longer kept.
+    Lagged { cursor: i64, floor: i64 },
+    /// No more updates are told.
+    FeedClosed,
+    /// The value under this key of the service is no record.
+    Damaged { key: Bytes, value: Bytes },
+    /// The proxy restarted.
+    Restart,
+    /// Out of memory.
+    Memory,
+}
+
+/// How a connection or a reaper ended.
+#[derive(Drop)]
+pub enum Ended {
+    /// A connection ended, or a reaper failed.
+    Cause(Cause),
+    /// The session was removed by the update with this zxid.
+    Reaped { zxid: i64 },
+    /// The session was alive at this revision.
+    Kept { rev: i64 },
+    /// The session was not open at this revision.
+    Gone { rev: i64 },
+}
