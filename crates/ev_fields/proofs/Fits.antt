@@ -23,6 +23,8 @@ use Rattle.std.proofs.lemmas.List.{drop_all, drop_more}
 use Rattle.json.specs.declared.error.Error.{Error}
 use Rattle.json.specs.declared.error.Error.TheVariants as error
 use Rattle.ev_fields.proofs.Placed.{read_at, data_at-is}
+use Rattle.zx_base.proofs.Booleans.{and-split, and-true}
+use Rattle.zx_base.proofs.Options.{none-unless_some, some-from_is_some}
 
 -- ---- the test, by the value that the tokens spell
 
@@ -46,10 +48,6 @@ abbrev mutual
 and_assoc : (a b c : Bool) → ((a && b) && c) ≡ (a && (b && c))
 and_assoc true b c = refl
 and_assoc false b c = refl
-
-and_true : (a : Bool) → (a && true) ≡ a
-and_true true = refl
-and_true false = refl
 
 at_if : (b : Bool) (d : ℕ) (ts : List Token) → fits_at (if b then Some d else None) ts ≡ (b && fits_at (Some d) ts)
 unfolding fits_at
@@ -88,31 +86,23 @@ mutual
 
 fits_is : (j : Json) → fits_at (Some 0) (json_tokens j) ≡ ok 0 j
 unfolding fits_at
-fits_is j = ap (fits_at (Some 0)) (sym (append-nil (json_tokens j))) ∙ split j 0 [] ∙ and_true (ok 0 j)
+fits_is j = ap (fits_at (Some 0)) (sym (append-nil (json_tokens j))) ∙ split j 0 [] ∙ and-true (ok 0 j)
 
 -- ---- what a passed test shows
-
-both : (a b : Bool) → (a && b) ≡ true → (a ≡ true) × (b ≡ true)
-both true b e = (refl, e)
-both false b e = absurd (true≢false (sym e))
-
-some_of : {A : Type 0} (o : Option A) → is_some o ≡ true → (a : A) × (o ≡ Some a)
-some_of None e = absurd (true≢false (sym e))
-some_of (Some a) e = (a, refl)
 
 mutual
   holds : (j : Json) (d : ℕ) → d ≤ 127 → ok d j ≡ true → (x : Data) × (d + tree.depth j ≤ 127) × (of_json j ≡ Some x)
   holds json.null d le e = (null, omega arith, refl)
   holds (json.boolean b) d le e = (boolean b, omega arith, refl)
-  holds (json.number s) d le e = let n = some_of (number_of s) e in (number n.0, omega arith, ap (option_map number) n.1)
+  holds (json.number s) d le e = let n = some-from_is_some (number_of s) e in (number n.0, omega arith, ap (option_map number) n.1)
   holds (json.string s) d le e = (string s, omega arith, refl)
   holds (json.array js) d le e =
-      let h = both (nat_lt d 127) (ok_items (d + 1) js) e in
+      let h = and-split (nat_lt d 127) (ok_items (d + 1) js) e in
       let lt = ltb-true d 127 h.0 in
       let i = holds_items js (d + 1) (omega (arith, lt)) h.1 in
       (array i.0, omega (arith, i.1), ap (option_map array) i.2)
   holds (json.object ms) d le e =
-      let h = both (nat_lt d 127) (ok_members (d + 1) ms) e in
+      let h = and-split (nat_lt d 127) (ok_members (d + 1) ms) e in
       let lt = ltb-true d 127 h.0 in
       let i = holds_members ms (d + 1) no_members (omega (arith, lt)) h.1 in
       (object i.0, omega (arith, i.1), ap (option_map object) i.2)
@@ -120,7 +110,7 @@ mutual
   holds_items : (js : json.Items) (d : ℕ) → d ≤ 127 → ok_items d js ≡ true → (ds : Items) × (d + tree.items_depth js ≤ 127) × (of_items js ≡ Some ds)
   holds_items json.no_items d le e = (no_items, omega arith, refl)
   holds_items (json.item j js) d le e =
-      let h = both (ok d j) (ok_items d js) e in
+      let h = and-split (ok d j) (ok_items d js) e in
       let x = holds j d le h.0 in
       let xs = holds_items js d le h.1 in
       (item x.0 xs.0, omega (arith, x.1, xs.1), ap (option_and_then (λ y. option_map (item y) (of_items js))) x.2 ∙ ap (option_map (item x.0)) xs.2)
@@ -128,7 +118,7 @@ mutual
   holds_members : (ms : json.Members) (d : ℕ) (found : Members) → d ≤ 127 → ok_members d ms ≡ true → (out : Members) × (d + tree.members_depth ms ≤ 127) × (of_members ms found ≡ Some out)
   holds_members json.no_members d found le e = (found, omega arith, refl)
   holds_members (json.member k j ms) d found le e =
-      let h = both (ok d j) (ok_members d ms) e in
+      let h = and-split (ok d j) (ok_members d ms) e in
       let x = holds j d le h.0 in
       let xs = holds_members ms d (put k x.0 found) le h.1 in
       (xs.0, omega (arith, x.1, xs.1), ap (option_and_then (λ y. of_members ms (put k y found))) x.2 ∙ xs.2)
@@ -138,10 +128,6 @@ mutual
 not_both : (a b : Bool) → a ≡ true → (a && b) ≡ false → b ≡ false
 not_both true b t e = e
 not_both false b t e = absurd (true≢false (sym t))
-
-none_of : {A : Type 0} (o : Option A) → is_some o ≡ false → o ≡ None
-none_of None e = refl
-none_of (Some a) e = absurd (true≢false e)
 
 to_none : {A B : Type 0} (f : A → Option B) → ((a : A) → f a ≡ None) → (o : Option A) → option_and_then f o ≡ None
 to_none f none None = refl
@@ -161,7 +147,7 @@ mutual
   fails : (j : Json) (d : ℕ) → d + tree.depth j ≤ 127 → ok d j ≡ false → of_json j ≡ None
   fails json.null d le e = absurd (true≢false e)
   fails (json.boolean b) d le e = absurd (true≢false e)
-  fails (json.number s) d le e = ap (option_map number) (none_of (number_of s) e)
+  fails (json.number s) d le e = ap (option_map number) (none-unless_some (number_of s) e)
   fails (json.string s) d le e = absurd (true≢false e)
   fails (json.array js) d le e = ap (option_map array) (fails_items js (d + 1) (omega (arith, le)) (not_both (nat_lt d 127) (ok_items (d + 1) js) (lt-ltb d 127 (omega (arith, le))) e))
   fails (json.object ms) d le e = ap (option_map object) (fails_members ms (d + 1) no_members (omega (arith, le)) (not_both (nat_lt d 127) (ok_members (d + 1) ms) (lt-ltb d 127 (omega (arith, le))) e))
@@ -208,7 +194,7 @@ pub unreadable : (text : List ℕ) → document text ≡ None → read text ≡ 
 unreadable text none = invalid_at text none (value 127 (tokens text)) refl
 
 document_of : (text : List ℕ) → IsSome (document text) → (j : Json) × (document text ≡ Some j)
-document_of text h = some_of (document text) h
+document_of text h = some-from_is_some (document text) h
 
 pub readable : (text : List ℕ) (tape : List Token) → tape ≡ tokens text → IsSome (document text) → fits_at (Some 0) tape ≡ true → IsHeld tape × (read text ≡ Some (data_at tape))
 readable text tape is some fits =

@@ -27,6 +27,8 @@ use Rattle.ev_fields.specs.declared.field.Field.{Field}
 use Rattle.ev_fields.specs.Names.{snake, camel}
 use Rattle.ev_fields.specs.Members.{members_from, object_of}
 use Rattle.ev_fields.specs.Kinds.{or_else, member_of}
+use Rattle.zx_base.proofs.Orders.{equal-from_is_eq, less-from_is_lt}
+use Rattle.zx_base.proofs.Booleans.{cond-same}
 
 -- ---- members that may be left out
 
@@ -61,16 +63,6 @@ abbrev pub rising : List (Field × Option Data) → Bool
 rising [] = true
 rising (p ∷ ps) = above (snake p.0) ps && rising ps
 
-less : (o : Ordering) → is_lt o ≡ true → o ≡ Less
-less Less h = refl
-less Equal h = absurd cc
-less Greater h = absurd cc
-
-equal : (o : Ordering) → is_eq o ≡ true → o ≡ Equal
-equal Less h = absurd cc
-equal Equal h = refl
-equal Greater h = absurd cc
-
 -- ---- looking for a member
 
 abbrev pub looked_up : List ℕ → List (Field × Option Data) → Option Data
@@ -81,10 +73,6 @@ or_else-None : (o : Option Data) → or_else o None ≡ o
 or_else-None None = refl
 or_else-None (Some d) = refl
 
-cond_same : {A : Type 0} (b : Bool) (x : A) → cond b x x ≡ x
-cond_same true x = refl
-cond_same false x = refl
-
 matched : (o : Ordering) (d : Data) (rest : Option Data) → match_ordering o rest (Some d) rest ≡ cond (is_eq o) (Some d) rest
 matched Less d rest = refl
 matched Equal d rest = refl
@@ -92,7 +80,7 @@ matched Greater d rest = refl
 
 get_member-piece : (k : List ℕ) (f : Field) (o : Option Data) (fs : List (List ℕ × Data))
     → get_member k (members_from (piece f o ++ fs)) ≡ cond (is_eq (slice_cmp nat_cmp k (snake f))) (or_else o (get_member k (members_from fs))) (get_member k (members_from fs))
-get_member-piece k f None fs = sym (cond_same (is_eq (slice_cmp nat_cmp k (snake f))) (get_member k (members_from fs)))
+get_member-piece k f None fs = sym (cond-same (is_eq (slice_cmp nat_cmp k (snake f))) (get_member k (members_from fs)))
 get_member-piece k f (Some d) fs = matched (slice_cmp nat_cmp k (snake f)) d (get_member k (members_from fs))
 
 absent_piece : (b : Bool) (o rest : Option Data) → b ≡ false → rest ≡ None → cond b (or_else o rest) rest ≡ None
@@ -119,7 +107,7 @@ get_member-pieces k [] h = refl
 get_member-pieces k (p ∷ ps) h =
     let both = and_parts (above (snake p.0) ps) (rising ps) h in
     get_member-piece k p.0 p.1 (pieces ps) ∙ found_piece (is_eq (slice_cmp nat_cmp k (snake p.0))) p.1 (get_member k (members_from (pieces ps))) (looked_up k ps)
-    (λ same. get_member-absent k ps (subst (λ (l : List ℕ). above l ps ≡ true) (sym (exact_bytes k (snake p.0) (equal _ same))) both.0))
+    (λ same. get_member-absent k ps (subst (λ (l : List ℕ). above l ps ≡ true) (sym (exact_bytes k (snake p.0) (equal-from_is_eq _ same))) both.0))
     (get_member-pieces k ps both.1)
 
 or_else-same : (o : Option Data) → or_else o o ≡ o
@@ -245,7 +233,7 @@ under-push : (acc : List (List ℕ × Data)) (l : List ℕ) (d : Data) (ps : Lis
 under-push acc l d [] h a = tt
 under-push acc l d (p ∷ ps) h a =
     let both = and_parts (is_lt (slice_cmp nat_cmp l (snake p.0))) (above l ps) a in
-    let greater : slice_cmp nat_cmp (snake p.0) l ≡ Greater = nat_list_cmp_total.antisymm (snake p.0) l ∙ ap ordering_reverse (less _ both.0) in
+    let greater : slice_cmp nat_cmp (snake p.0) l ≡ Greater = nat_list_cmp_total.antisymm (snake p.0) l ∙ ap ordering_reverse (less-from_is_lt _ both.0) in
     (below-push (snake p.0) acc l d h.0 greater, under-push acc l d ps h.1 both.1)
 
 abbrev pub PlainIf : ℕ → Option Data → Type 0

@@ -1,5 +1,5 @@
 -- Empty lines in front of a head.
-use Rattle.std.proofs.Common.{◌≡◌, ℕ, List, [], ◌∷◌, ◌++◌, Bool, true, false, ◌&&◌, IsTrue, refl, sym, ap, subst, ◌∙◌, arith, ◌⊎◌, inl, inr}
+use Rattle.std.proofs.Common.{◌≡◌, ℕ, List, [], ◌∷◌, ◌++◌, true, false, IsTrue, refl, sym, ap, subst, ◌∙◌, arith, ◌⊎◌, inl, inr}
 use Rattle.std.specs.List.{list_all}
 use Rattle.std.proofs.lemmas.Bool.Decides.{nat_tests}
 use Rattle.std.proofs.lemmas.List.Elements.{All-head}
@@ -9,16 +9,13 @@ use Rattle.httparse.proofs.GrammarLemmas.{print_request-append, print_response-a
 use Rattle.ev_http.specs.declared.head.Kind.{Kind}
 use Rattle.ev_http.specs.declared.head.Kind.TheVariants as kind
 use Rattle.ev_http.specs.Heads.{is_blank_byte, HasNoHead}
-
-both : (a b : Bool) → (a && b) ≡ true → (a ≡ true) × (b ≡ true)
-both true b e = (refl, e)
-both false b e = absurd (let apart : false ≡ true = e in cc)
+use Rattle.zx_base.proofs.Booleans.{and-split}
 
 rest_blank : (a b : List ℕ) → list_all is_blank_byte (a ++ b) ≡ true → list_all is_blank_byte b ≡ true
-rest_blank a b e = (both _ _ (sym (list_all-append is_blank_byte a b) ∙ e)).1
+rest_blank a b e = (and-split _ _ (sym (list_all-append is_blank_byte a b) ∙ e)).1
 
 front : (a b : List ℕ) → list_all is_blank_byte (a ++ b) ≡ true → list_all is_blank_byte a ≡ true
-front a b e = (both _ _ (sym (list_all-append is_blank_byte a b) ∙ e)).0
+front a b e = (and-split _ _ (sym (list_all-append is_blank_byte a b) ∙ e)).0
 
 pub blank-append : (a b : List ℕ) → list_all is_blank_byte a ≡ true → list_all is_blank_byte b ≡ true → list_all is_blank_byte (a ++ b) ≡ true
 blank-append a b first second = list_all-append is_blank_byte a b ∙ rw (first, second) refl
@@ -36,7 +33,7 @@ token_is_not_blank b token blank =
 
 token_begins : (m more : List ℕ) → IsToken m → list_all is_blank_byte (m ++ more) ≡ true → ⊥
 token_begins [] more token blank = omega (arith, token.0)
-token_begins (b ∷ m) more token blank = token_is_not_blank b (All-head (λ x. IsTrue (is_token_byte x)) b m token.1) (both _ _ blank).0
+token_begins (b ∷ m) more token blank = token_is_not_blank b (All-head (λ x. IsTrue (is_token_byte x)) b m token.1) (and-split _ _ blank).0
 
 -- no head is made of CR and LF alone
 pub no_head-blank : (k : Kind) (bytes : List ℕ) → list_all is_blank_byte bytes ≡ true → HasNoHead k bytes

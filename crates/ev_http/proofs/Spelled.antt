@@ -27,24 +27,21 @@ use Rattle.ev_http.specs.Framing.{is_word, count_of, after_field, framing_of}
 use Rattle.ev_http.specs.Messages.{path_of, is_post, HoldsRequest, HoldsResponse, HoldsStatus}
 use Rattle.ev_http.specs.Sending.{IsHost, IsPlainRequest, IsPlainResponse, common_fields, phrase_of, text_of, request_head, response_head}
 use Rattle.ev_http.proofs.Framings.{some_count}
+use Rattle.zx_base.proofs.Booleans.{and-split}
 
 -- ---- bytes
-
-pub both : (a b : Bool) → (a && b) ≡ true → (a ≡ true) × (b ≡ true)
-both true b e = (refl, e)
-both false b e = absurd (let apart : false ≡ true = e in cc)
 
 -- a test that computes
 pub all_pass : (test : ℕ → Bool) (xs : List ℕ) → list_all test xs ≡ true → AllPass test xs
 all_pass test [] e = All-nil (λ b. IsTrue (test b))
 all_pass test (x ∷ xs) e =
-    let two = both (test x) (list_all test xs) e in
+    let two = and-split (test x) (list_all test xs) e in
     All-cons (λ b. IsTrue (test b)) x xs two.0 (all_pass test xs two.1)
 
 ascii : (xs : List ℕ) → list_all (λ b. nat_lt b 128) xs ≡ true → IsAscii xs
 ascii [] e = IsAscii-nil
 ascii (x ∷ xs) e =
-    let two = both (nat_lt x 128) (list_all (λ b. nat_lt b 128) xs) e in
+    let two = and-split (nat_lt x 128) (list_all (λ b. nat_lt b 128) xs) e in
     IsAscii-cons x xs (search rules) (ascii xs two.1)
 
 -- ---- digits
@@ -227,7 +224,7 @@ taken_phrase false x is = refl
 phrase_passes : (status : ℕ) → (list_all is_value_byte (phrase_of status) ≡ true) × (length (phrase_of status) ≤ 40)
 unfolding good
 phrase_passes status =
-    let is = both _ _ (taken_phrase (nat_le 100 status && nat_lt status 1000) (unwrap_or (reason_phrase status) []) (good_phrase status).is) in
+    let is = and-split _ _ (taken_phrase (nat_le 100 status && nat_lt status 1000) (unwrap_or (reason_phrase status) []) (good_phrase status).is) in
     (is.0, search (rules, is.1))
 
 -- ---- fields

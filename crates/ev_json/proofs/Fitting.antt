@@ -34,6 +34,7 @@ use Rattle.ev_json.specs.Answers.{revision_in, kv_in, found_in, put_done_in, del
 use Rattle.ev_json.specs.Asks.{guard_in, range_in, put_in, delete_in, range_act_in, act_in, txn_in, txn_ask_in, range_ask_in, grant_in, alive_in, ask_in, watch_in}
 use Rattle.ev_json.specs.Ranges.{GuardFits, RangeFits, ActFits, TxnFits, AskFits, KvFits, FoundFits, PartFits, PartsFit, CanCome, AnswerFits, LineFits}
 use Rattle.ev_json.proofs.Decoded.{decoded_is_bytes}
+use Rattle.zx_base.proofs.Options.{some_is}
 
 -- ---- one step of a reading
 
@@ -46,9 +47,6 @@ read_as x = Ok x
 
 ok_is : {A : Type 0} {x y : A} → read_as x ≡ Ok y → x ≡ y
 ok_is e = cc
-
-some_is : {A : Type 0} {x y : A} → Some x ≡ Some y → x ≡ y
-some_is e = cc
 
 known_some : {A : Type 0} (g : Field) (o : Option A) (x : A) → known g o ≡ Ok x → o ≡ Some x
 known_some g None x e = absurd cc

@@ -15,6 +15,7 @@ use Rattle.ev_store.specs.FirstDenial.{full, lapse_denial}
 use Rattle.ev_store.specs.declared.fault.Denied.{Denied}
 use Rattle.ev_store.specs.declared.fault.Denied.TheVariants as denied
 use Rattle.ev_shared.specs.History.{IsFull, IsSettled, lapsed}
+use Rattle.zx_base.proofs.Booleans.{and-false}
 
 -- ---- denied
 
@@ -50,17 +51,13 @@ full_denied s id r e = by_lease (has_lease s id) _ _ (denied.Full r) e (at_last 
 
 -- ---- done
 
-none_there : (b : Bool) → (b && false) ≡ false
-none_there true = refl
-none_there false = refl
-
 pub lapse_settles : (s t : Store) (id : ℤ) → lapse s id ≡ Some t → IsSettled t id
 lapse_settles s t id e =
     let gone : get t.leases id ≡ None = ap (λ m. get m id) (lapse-lease s t id e) ∙ get-remove int_cmp_total s.leases id id ∙ ap (λ b. cond b None (get s.leases id)) (ap is_eq (tied_itself int_cmp_total id)) in
-    inl (rw gone (none_there (is_lease id)))
+    inl (rw gone (and-false (is_lease id)))
 
 cleared : (b l : Bool) (o : Option ℤ) → (l && is_some o) ≡ false → (l && is_some (cond b None o)) ≡ false
-cleared true l o h = none_there l
+cleared true l o h = and-false l
 cleared false l o h = h
 
 still_gone : (s t : Store) (id i : ℤ) → lapse s id ≡ Some t → has_lease s i ≡ false → has_lease t i ≡ false

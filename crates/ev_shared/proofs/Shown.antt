@@ -24,6 +24,7 @@ use Rattle.ev_shared.specs.declared.shared_store.Watched.TheVariants as watched
 use Rattle.ev_shared.specs.declared.watch.Look.TheVariants as look
 use Rattle.ev_shared.specs.Watching.{IsNext, Looks, key_at, listed, found_in, put_by, put_at, NonePut, Unseen}
 use Rattle.zx_base.specs.Maps.{Bytes}
+use Rattle.zx_base.proofs.Booleans.{pos-nonzero}
 
 one_at : (k : Bytes) (n : ℕ) (m : Keys) → found (key_at k n) m ≡ one_found (get m k)
 unfolding in_range
@@ -41,15 +42,8 @@ neither : (a b : Bool) → (a || b) ≡ false → a ≡ false
 neither true b e = absurd cc
 neither false b e = refl
 
-false_by : (b : Bool) → (b ≡ true → ⊥) → b ≡ false
-false_by true h = absurd (h refl)
-false_by false h = refl
-
-nonzero : (n : ℕ) → 1 ≤ n → int_eq (pos n) (pos 0) ≡ false
-nonzero n some = false_by (int_eq (pos n) (pos 0)) (λ t. let e = (Decides-int_eq (pos n) (pos 0)).0 t in omega (arith, ints))
-
 past : (s : Store) (n : ℕ) → 1 ≤ n → looked_at s (present s) (pos n) ≡ store_at s n
-past s n some = ap (λ (b : Bool). if b then present s else store_at s n) (nonzero n some)
+past s n some = ap (λ (b : Bool). if b then present s else store_at s n) (pos-nonzero n some)
 
 pub ranged : (s t : Store) (k : Bytes) (n : ℕ) (a : Answer) → 1 ≤ n → carry s (ask.Range (key_at k n)) ≡ Some (t, a)
     → (t ≡ s) × (found_in a ≡ listed (get (store_at s n) k)) × (n ≤ length s.revisions)

@@ -1,8 +1,8 @@
 -- A sorted map of std as a finite map: the leases, and the keys that a range met.
-use Rattle.std.proofs.Common.{◌≡◌, Bool, true, false, cond, ◌&&◌, Some, None, List, [], ◌∷◌, map, refl, sym, ap, ◌∙◌, subst}
+use Rattle.std.proofs.Common.{◌≡◌, cond, Some, None, List, [], ◌∷◌, map, refl, sym, ap, ◌∙◌, subst}
 use Rattle.std.specs.Prelude.{T, IfSome, Option}
 use Rattle.std.specs.declared.cmp.Ordering.{Ordering}
-use Rattle.std.specs.declared.cmp.Ordering.TheVariants.{Less, Equal, Greater}
+use Rattle.std.specs.declared.cmp.Ordering.TheVariants.{Less}
 use Rattle.std.specs.Ordering.{is_lt, eq_by_cmp, nat_cmp}
 use Rattle.std.specs.Cmp.{IsTotalOrder, eq_by_cmp_equiv}
 use Rattle.std.specs.Cmp.Lexicographic.{slice_cmp, nat_list_cmp_total}
@@ -20,10 +20,8 @@ use Rattle.zx_base.proofs.MapLaws.{get-retain}
 use Rattle.ev_types.specs.declared.answer.Kv.{Kv}
 use Rattle.ev_types.specs.declared.ask.RangeReq.{RangeReq}
 use Rattle.ev_types.specs.Ranges.{Keys, is_within, in_range}
-
-both : (a b : Bool) → T a → T b → T (a && b)
-both true b p q = q
-both false b p q = p
+use Rattle.zx_base.proofs.Booleans.{T-and, T-first, T-second}
+use Rattle.zx_base.proofs.Orders.{less-from_T}
 
 module _ {K X : Type 0} (R : K → K → Ordering) where
   find-lookup : (q : K) (es : List (K × X)) → find R q es ≡ lookup (is_at (R q)) es
@@ -32,12 +30,12 @@ module _ {K X : Type 0} (R : K → K → Ordering) where
 
   below_all-from_sorted : (k : K) (es : List (K × X)) → AllByRecursion (λ y. R k y ≡ Less) (keys_of es) → T (below_all R k es)
   below_all-from_sorted k [] h = tt
-  below_all-from_sorted k (e ∷ es) h = both _ _ (subst (λ (o : Ordering). T (is_lt o)) (sym h.0) tt) (below_all-from_sorted k es h.1)
+  below_all-from_sorted k (e ∷ es) h = T-and _ _ (subst (λ (o : Ordering). T (is_lt o)) (sym h.0) tt) (below_all-from_sorted k es h.1)
 
   is_sorted-from_keys : (es : List (K × X)) → IsStrictlySortedBy R (keys_of es) → T (is_sorted R es)
   unfolding IsStrictlySortedBy
   is_sorted-from_keys [] h = tt
-  is_sorted-from_keys (e ∷ es) h = both _ _ (below_all-from_sorted e.0 es h.0) (is_sorted-from_keys es h.1)
+  is_sorted-from_keys (e ∷ es) h = T-and _ _ (below_all-from_sorted e.0 es h.0) (is_sorted-from_keys es h.1)
 
 module _ {K X : Type 0} {R : K → K → Ordering} (o : IsTotalOrder R) where
   pub get-lookup : (es : List (K × X)) (q : K) → get (from_entries {R = R} es) q ≡ lookup (is_at (R q)) es
@@ -74,19 +72,6 @@ values-in_range r m es ordered gets =
 
 -- ---- what holds of each value that a map answers holds of all its values
 
-first_of_two : (a b : Bool) → T (a && b) → T a
-first_of_two true b h = tt
-first_of_two false b h = h
-
-second_of_two : (a b : Bool) → T (a && b) → T b
-second_of_two true b h = h
-second_of_two false b h = absurd h
-
-less-from_is_lt : (o : Ordering) → T (is_lt o) → o ≡ Less
-less-from_is_lt Less h = refl
-less-from_is_lt Equal h = absurd h
-less-from_is_lt Greater h = absurd h
-
 if_found : {X : Type 0} (P : X → Type 0) (o : Option X) → ((x : X) → o ≡ Some x → P x) → IfSome o P
 if_found P None h = tt
 if_found P (Some x) h = h x refl
@@ -94,12 +79,12 @@ if_found P (Some x) h = h x refl
 module _ {K X : Type 0} (R : K → K → Ordering) where
   keys-below_all : (k : K) (es : List (K × X)) → T (below_all R k es) → AllByRecursion (λ y. R k y ≡ Less) (keys_of es)
   keys-below_all k [] h = tt
-  keys-below_all k (e ∷ es) h = (less-from_is_lt (R k e.0) (first_of_two _ _ h), keys-below_all k es (second_of_two _ _ h))
+  keys-below_all k (e ∷ es) h = (less-from_T (R k e.0) (T-first _ _ h), keys-below_all k es (T-second _ _ h))
 
   keys-is_sorted : (es : List (K × X)) → T (is_sorted R es) → IsStrictlySortedBy R (keys_of es)
   unfolding IsStrictlySortedBy
   keys-is_sorted [] h = tt
-  keys-is_sorted (e ∷ es) h = (keys-below_all e.0 es (first_of_two _ _ h), keys-is_sorted es (second_of_two _ _ h))
+  keys-is_sorted (e ∷ es) h = (keys-below_all e.0 es (T-first _ _ h), keys-is_sorted es (T-second _ _ h))
 
   pub All-values : (o : IsTotalOrder R) (P : X → Type 0) (m : FinMap R X) → ((k : K) (x : X) → get m k ≡ Some x → P x) → All P (values m)
   All-values o P m h =

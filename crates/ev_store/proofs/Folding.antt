@@ -4,7 +4,7 @@ use Rattle.std.proofs.Common.{◌≡◌, ℕ, ◌+◌, ◌≤◌, ◌<◌, ◌-�
 use Rattle.std.specs.Int.{saturate_signed}
 use Rattle.std.specs.List.{list_any, list_all}
 use Rattle.std.specs.FinMap.{get, insert, remove, empty, get-empty}
-use Rattle.std.specs.Cmp.Lexicographic.{slice_cmp, nat_list_eq_equiv}
+use Rattle.std.specs.Cmp.Lexicographic.{slice_cmp}
 use Rattle.std.specs.Ordering.{nat_cmp}
 use Rattle.zx_base.specs.Maps.{Bytes, same}
 use Rattle.zx_base.proofs.MapLaws.{same-true, apart-from_same, get-insert_same, get-insert_other, get-remove_same, get-remove_other}
@@ -14,9 +14,7 @@ use Rattle.ev_types.specs.Store.{Change, Puts, Removes, put_over, changed, after
 use Rattle.ev_store.specs.Changes.{put_keys, puts_once}
 use Rattle.std.proofs.lemmas.Bool.{or_parts, and_parts, not-true}
 use Rattle.ev_store.specs.Folds.{kv_after_put, key_after_change, key_after_changes, key_after_revisions}
-
-pub same-symm : (p q : Bytes) → same p q ≡ same q p
-same-symm p q = nat_list_eq_equiv.symm p q
+use Rattle.zx_base.proofs.Numbers.{same-symm}
 
 -- ---- maps at a key, by the test
 

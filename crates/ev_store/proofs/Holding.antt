@@ -19,6 +19,7 @@ use Rattle.ev_store.specs.Changes.{change_of, puts_once}
 use Rattle.ev_store.proofs.Entries.{values-in_range}
 use Rattle.ev_store.proofs.Folding.{get-after_changes}
 use Rattle.ev_store.specs.Folds.{kv_after_put, key_after_change, key_after_changes, key_after_revisions, within_change, within_changes, within_revisions}
+use Rattle.zx_base.proofs.Booleans.{cond-same}
 
 -- the range of all keys
 pub is_within_all : (k : Bytes) → is_within [] (0 ∷ []) k ≡ true
@@ -31,10 +32,6 @@ pub held_all : (range : RangeReq) (css : List (List Change)) (f : Bytes → Opti
     ((q : Bytes) → f q ≡ within_revisions range 1 q None css) → (q : Bytes) → f q ≡ key_after_revisions 1 q None css
 held_all range css f all gets q = gets q ∙ ap (λ b. cond b (key_after_revisions 1 q None css) None) (all q)
 
-either_way : {A : Type 0} (b : Bool) (x : A) → cond b x x ≡ x
-either_way true x = refl
-either_way false x = refl
-
 module _ (range : RangeReq) where
   within : Bytes → Bool
   within = is_within range.key range.end
@@ -46,7 +43,7 @@ module _ (range : RangeReq) where
       ap (λ b. cond b (w (f k)) (f q)) (names-tie k q)
       ∙ elim (same k q) as (λ b. same k q ≡ b → cond b (w (f k)) (f q) ≡ cond (within q) (cond b (w (f q)) (f q)) (f q)) [
         | true ↦ λ e. ap (λ x. w (f x)) (same-true k q e) ∙ ap (λ b. cond b (w (f q)) (f q)) (sym (subst (λ (x : Bytes). within x ≡ true) (same-true k q e) inside))
-        | false ↦ λ e. sym (either_way (within q) (f q))
+        | false ↦ λ e. sym (cond-same (within q) (f q))
       ] refl
 
   pub hold-put : (r : ℤ) (k v : Bytes) (lease : ℤ) (found : Kv) (f g : Bytes → Option Kv) → is_within range.key range.end k ≡ true → found ≡ kv_after_put r k v lease (f k) →
@@ -64,7 +61,7 @@ module _ (range : RangeReq) where
   passed k q x o outside =
       elim (same k q) as (λ b. same k q ≡ b → o ≡ cond (within q) (cond b x o) o) [
         | true ↦ λ e. ap (λ b. cond b x o) (sym (subst (λ (y : Bytes). within y ≡ false) (same-true k q e) outside))
-        | false ↦ λ e. sym (either_way (within q) o)
+        | false ↦ λ e. sym (cond-same (within q) o)
       ] refl
 
   -- a change outside the range

@@ -26,6 +26,7 @@ use Rattle.ev_store.specs.Leased.{with_lease}
 use Rattle.ev_store.specs.FirstDenial.{full, lapse_denial, foreign_denial}
 use Rattle.ev_store.proofs.Denying.{full-there}
 use Rattle.ev_store.proofs.Entries.{entries_from_gets}
+use Rattle.zx_base.proofs.Options.{none-from_is_none}
 
 -- ---- the loop over the keys
 
@@ -109,12 +110,8 @@ lapse-named s id =
     ∙ (λ i. not (has_lease s id) || full-there s (removals (leased_keys s id)) i)
     ∙ sym (none-there (not (has_lease s id) || is_full_store s (removals (leased_keys s id))) (grown (record s { leases = remove s.leases id }) (removals (leased_keys s id))))
 
-is_nothing : {A : Type 0} (o : Option A) → is_none o ≡ true → o ≡ None
-is_nothing None h = refl
-is_nothing (Some x) h = absurd cc
-
 pub lapse_denied : (s : Store) (id : ℤ) (d : Denied) → lapse_denial s id ≡ Some d → lapse s id ≡ None
-lapse_denied s id d h = is_nothing (lapse s id) (sym (lapse-named s id) ∙ ap is_some h)
+lapse_denied s id d h = none-from_is_none (lapse s id) (sym (lapse-named s id) ∙ ap is_some h)
 
 -- ---- a put of another user
 
@@ -129,4 +126,4 @@ unfolding foreign
 foreign-named s k v = full-there s (Puts k v (pos 0) ∷ []) ∙ sym (none-there (is_full_store s (Puts k v (pos 0) ∷ [])) (grown s (Puts k v (pos 0) ∷ [])))
 
 pub foreign_denied : (s : Store) (k v : Bytes) (d : Denied) → foreign_denial s k v ≡ Some d → foreign s k v ≡ None
-foreign_denied s k v d h = is_nothing (foreign s k v) (sym (foreign-named s k v) ∙ ap is_some h)
+foreign_denied s k v d h = none-from_is_none (foreign s k v) (sym (foreign-named s k v) ∙ ap is_some h)

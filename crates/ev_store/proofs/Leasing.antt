@@ -20,19 +20,12 @@ use Rattle.ev_store.specs.Folds.{kv_after_put, key_after_change, key_after_chang
 use Rattle.ev_store.specs.Leased.{with_lease, named_with, names, gives_lease, KeepsNames, NamesChange, NamesLeased, all_held}
 use Rattle.ev_store.specs.Versions.{last_state, state_at, taken, versions_of, nth_changes, AddsChange, StandFor}
 use Rattle.ev_store.proofs.Index.{last_state-add}
+use Rattle.zx_base.proofs.Booleans.{or-second, or-first}
 
 -- ---- one key more
 
-or_left : (a b : Bool) → a ≡ true → (a || b) ≡ true
-or_left true b h = refl
-or_left false b h = absurd cc
-
-or_right : (a b : Bool) → b ≡ true → (a || b) ≡ true
-or_right true b h = refl
-or_right false b h = h
-
 names-last : (ks : List Bytes) (k : Bytes) → names (ks ++ k ∷ []) k ≡ true
-names-last ks k = list_any-append (λ x. same x k) ks (k ∷ []) ∙ or_right (names ks k) _ (or_left (same k k) false (same-refl k))
+names-last ks k = list_any-append (λ x. same x k) ks (k ∷ []) ∙ or-second (names ks k) _ (or-first (same k k) false (same-refl k))
 
 module _ (old new : BTreeMap ℤ (List Bytes)) (id : ℤ) (w : List Bytes) (writes : (j : ℤ) → get int_cmp new j ≡ cond (is_at (int_cmp id) j) (Some w) (get int_cmp old j)) where
   named-own : named_with new id ≡ w

@@ -7,7 +7,6 @@ use Rattle.std.specs.Option.{option_map}
 use Rattle.std.specs.Ordering.{int_eq}
 use Rattle.std.specs.FinMap.{get, empty}
 use Rattle.std.proofs.lemmas.Bool.{or_parts, and_parts, not-true}
-use Rattle.std.proofs.lemmas.Bool.Decides.{Decides-int_eq}
 use Rattle.std.proofs.lemmas.List.{take_all, take_more, drop_more, length-take-le}
 use Rattle.std.proofs.lemmas.List.Elements.{All-nil, All-cons}
 use Rattle.std.proofs.lemmas.Option.{slice_get_within, get_or_from_slice_get}
@@ -32,6 +31,7 @@ use Rattle.ev_store.specs.Compaction.{compact}
 use Rattle.ev_store.specs.Events.{puts_in, puts_from, puts_above, is_put, put_of}
 use Rattle.ev_store.proofs.Keys.{store_at-first, keys_from-append}
 use Rattle.ev_store.proofs.Revisions.{put_over-mod}
+use Rattle.zx_base.proofs.Booleans.{pos-nonzero}
 
 -- ---- the keys after each revision
 
@@ -61,16 +61,10 @@ carried-read s q allowed = ap (λ b. cond b None (Some (s, answer.Range (revisio
 pub read-present : (s : Store) (q : RangeReq) → q.revision ≡ pos 0 → is_denied s (ask.Range q) ≡ false → carry s (ask.Range q) ≡ Some (s, answer.Range (revision s) (found q (present s)))
 read-present s q now allowed = carried-read s q allowed ∙ ap (λ n. Some (s, answer.Range (revision s) (found q (looked_at s (present s) n)))) now
 
-not_zero : (r : ℕ) → 1 ≤ r → int_eq (pos r) (pos 0) ≡ false
-not_zero r some = elim (int_eq (pos r) (pos 0)) as (λ b. int_eq (pos r) (pos 0) ≡ b → b ≡ false) [
-  | true ↦ λ h. absurd (let e : pos r ≡ pos 0 = (Decides-int_eq (pos r) (pos 0)).0 h in omega (arith, ints))
-  | false ↦ λ h. refl
-] refl
-
 pub read-named : (s : Store) (q : RangeReq) (r : ℕ) → 1 ≤ r → q.revision ≡ pos r → is_denied s (ask.Range q) ≡ false → carry s (ask.Range q) ≡ Some (s, answer.Range (revision s) (found q (store_at s r)))
 read-named s q r some named allowed =
     carried-read s q allowed ∙ ap (λ n. Some (s, answer.Range (revision s) (found q (looked_at s (present s) n)))) named
-    ∙ ap (λ b. Some (s, answer.Range (revision s) (found q (cond b (present s) (store_at s r))))) (not_zero r some)
+    ∙ ap (λ b. Some (s, answer.Range (revision s) (found q (cond b (present s) (store_at s r))))) (pos-nonzero r some)
 
 -- ---- the puts of each revision
 

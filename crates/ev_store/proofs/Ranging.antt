@@ -16,26 +16,19 @@ use Rattle.std.specs.Ordering.{nat_cmp, is_lt, is_le, is_eq, ordering_reverse}
 use Rattle.std.specs.Cmp.Lexicographic.{slice_cmp, nat_list_cmp_total}
 use Rattle.std.proofs.lemmas.Map.Entries.{lookup-filter-keys}
 use Rattle.zx_base.specs.Maps.{Bytes, same}
-use Rattle.zx_base.proofs.MapLaws.{same-true, apart-from_same}
+use Rattle.zx_base.proofs.MapLaws.{same-true}
 use Rattle.ev_types.proofs.Names.{names-tie}
 use Rattle.ev_types.specs.declared.answer.Kv.{Kv}
 use Rattle.ev_types.specs.Ranges.{is_within, is_below, comes_before}
 use Rattle.ev_store.specs.declared.versions.Version.{Version}
 use Rattle.ev_store.specs.Versions.{state_at, versions_of, all_taken, AreInOrder}
-
-same-flip : (p q : Bytes) → same p q ≡ same q p
-same-flip p q = go (same p q) (same q p) refl refl
-  where
-    go : (a b : Bool) → same p q ≡ a → same q p ≡ b → a ≡ b
-    go true true e f = refl
-    go false false e f = refl
-    go true false e f = absurd (apart-from_same q p f (sym (same-true p q e)))
-    go false true e f = absurd (apart-from_same p q e (sym (same-true q p f)))
+use Rattle.zx_base.proofs.Orders.{less-from_is_lt}
+use Rattle.zx_base.proofs.Numbers.{same-symm}
 
 -- ---- the keys of a sorted list, each with what it has
 
 later-apart : (q k : Bytes) → slice_cmp nat_cmp q k ≡ Less → same k q ≡ false
-later-apart q k less = same-flip k q ∙ sym (names-tie q k) ∙ ap is_eq less
+later-apart q k less = same-symm k q ∙ sym (names-tie q k) ∙ ap is_eq less
 
 absent : (r : ℕ) (q : Bytes) (o : Option Kv) (es : List (Bytes × List Version)) → AllByRecursion (λ y. slice_cmp nat_cmp q y ≡ Less) (keys_of es) → all_taken r q o es ≡ o
 absent r q o [] h = refl
@@ -53,7 +46,7 @@ taken-is r q [] h = refl
 taken-is r q (e ∷ es) h = go (same e.0 q) refl (taken-is r q es h.1)
   where
     found : (b : Bool) → same e.0 q ≡ b → lookup (is_at (slice_cmp nat_cmp q)) (e ∷ es) ≡ cond b (Some e.1) (lookup (is_at (slice_cmp nat_cmp q)) es)
-    found b is = ap (λ t. cond t (Some e.1) (lookup (is_at (slice_cmp nat_cmp q)) es)) (names-tie q e.0 ∙ same-flip q e.0 ∙ is)
+    found b is = ap (λ t. cond t (Some e.1) (lookup (is_at (slice_cmp nat_cmp q)) es)) (names-tie q e.0 ∙ same-symm q e.0 ∙ is)
 
     go : (b : Bool) → same e.0 q ≡ b → all_taken r q None es ≡ state_at q r (unwrap_or (lookup (is_at (slice_cmp nat_cmp q)) es) []) →
         all_taken r q None (e ∷ es) ≡ state_at q r (unwrap_or (lookup (is_at (slice_cmp nat_cmp q)) (e ∷ es)) [])
@@ -128,7 +121,7 @@ twice-not false = refl
 
 pub within-one : (from end q : Bytes) → same end [] ≡ true → is_within from end q ≡ same from q
 unfolding is_within
-within-one from end q e = ap (λ b. cond b (same q from) (not (comes_before q from) && is_below end q)) e ∙ same-flip q from
+within-one from end q e = ap (λ b. cond b (same q from) (not (comes_before q from) && is_below end q)) e ∙ same-symm q from
 
 within-two : (from end q : Bytes) → same end [] ≡ false → is_within from end q ≡ (not (comes_before q from) && is_below end q)
 unfolding is_within
@@ -147,11 +140,6 @@ within-closed from end q e f =
     ∙ ap (λ b. not (comes_before q from) && (b || comes_before q end)) (sym f)
     ∙ sym (within-two from end q e)
 
-less-from : (o : Ordering) → is_lt o ≡ true → o ≡ Less
-less-from Less h = refl
-less-from Equal h = cc
-less-from Greater h = cc
-
 truly : (b : Bool) → b ≡ true → IsTrue b
 truly true h = search rules
 truly false h = cc
@@ -166,7 +154,7 @@ within-none from end q e f empty =
     go false false x y = refl
     go false true x y =
         let le : is_le (slice_cmp nat_cmp from q) ≡ true = not-before from q ∙ ap not x in
-        let lt : slice_cmp nat_cmp from end ≡ Less = le_lt_trans nat_list_cmp_total from q end (truly _ le) (less-from _ y) in
+        let lt : slice_cmp nat_cmp from end ≡ Less = le_lt_trans nat_list_cmp_total from q end (truly _ le) (less-from_is_lt _ y) in
         sym (ap is_lt lt) ∙ empty
 
 -- ---- one key

@@ -1,10 +1,9 @@
 -- A key that was put last at one revision is one at every revision where that is so.
-use Rattle.std.proofs.Common.{◌≡◌, ℕ, zero, suc, ◌+◌, ◌≤◌, ◌<◌, Bool, true, false, cond, ℤ, pos, List, [], ◌∷◌, ◌++◌, length, take, Option, Some, None, refl, sym, ap, ◌∙◌, ◌⊎◌, inl, inr, arith}
+use Rattle.std.proofs.Common.{◌≡◌, ℕ, suc, ◌+◌, ◌≤◌, ◌<◌, Bool, true, false, cond, ℤ, pos, List, [], ◌∷◌, length, take, Option, Some, None, refl, sym, ap, ◌∙◌, ◌⊎◌, inl, inr, arith}
 use Rattle.std.specs.FinMap.{get, empty, get-empty}
 use Rattle.std.specs.Ordering.{nat_cmp}
 use Rattle.std.specs.Cmp.Lexicographic.{slice_cmp}
 use Rattle.std.proofs.lemmas.Bool.{cases_order}
-use Rattle.std.proofs.lemmas.Int.{ints}
 use Rattle.zx_base.specs.Maps.{Bytes, same}
 use Rattle.zx_base.proofs.Options.{none_some}
 use Rattle.ev_types.specs.declared.answer.Kv.{Kv}
@@ -12,6 +11,8 @@ use Rattle.ev_types.specs.Ranges.{Keys}
 use Rattle.ev_types.specs.Store.{Store, Change, Puts, Removes, put_over, changed, after_changes, keys_from, store_at, mod_of}
 use Rattle.ev_store.proofs.Folding.{get-insert_at, get-remove_at}
 use Rattle.ev_store.proofs.Keys.{keys_from-append}
+use Rattle.zx_base.proofs.Numbers.{pos-same}
+use Rattle.zx_base.proofs.Lists.{take-more}
 
 pub put_over-mod : (r : ℤ) (k v : Bytes) (lease : ℤ) (o : Option Kv) → (put_over r k v lease o).mod_revision ≡ r
 put_over-mod r k v lease None = refl
@@ -59,18 +60,12 @@ pub put_by : (s : Store) (a : ℕ) (q : Bytes) (kv : Kv) → get (store_at s a) 
 unfolding store_at
 put_by s a q kv h = elim (keys_from-from 1 empty (take a s.revisions) q kv h) [ inl p ↦ p | inr e ↦ absurd (none_some (sym (get-empty (slice_cmp nat_cmp) q) ∙ e)) ]
 
-take_further : {A : Type 0} (a b : ℕ) (xs : List A) → a ≤ b → (more : List A) × (take b xs ≡ take a xs ++ more)
-take_further zero b xs h = (take b xs, refl)
-take_further (suc a) zero xs h = absurd (omega (arith, h))
-take_further (suc a) (suc b) [] h = ([], refl)
-take_further (suc a) (suc b) (x ∷ xs) h = let rest = take_further a b xs (omega (arith, h)) in (rest.0, ap (λ l. x ∷ l) rest.1)
-
 -- at a later revision a key was put since, or is as it was
 since : (s : Store) (a b : ℕ) (q : Bytes) (kv : Kv) → a ≤ b → get (store_at s b) q ≡ Some kv
     → ((n : ℕ) × (length (take a s.revisions) < n) × (kv.mod_revision ≡ pos n)) ⊎ (get (store_at s a) q ≡ Some kv)
 unfolding store_at
 since s a b q kv le h =
-    let t = take_further a b s.revisions le in
+    let t = take-more a b s.revisions le in
     let before = take a s.revisions in
     let e : get (keys_from (1 + length before) (keys_from 1 empty before) t.0) q ≡ Some kv = ap (λ (m : Keys). get m q) (sym (ap (keys_from 1 empty) t.1 ∙ keys_from-append 1 empty before t.0)) ∙ h in
     elim (keys_from-from (1 + length before) (keys_from 1 empty before) t.0 q kv e) [
@@ -78,17 +73,14 @@ since s a b q kv le h =
       | inr f ↦ inr f
     ]
 
-pos_same : (m n : ℕ) → pos m ≡ pos n → m ≡ n
-pos_same m n h = omega (arith, ints, h)
-
 one_value : (s : Store) (a b : ℕ) (q : Bytes) (x y : Kv) → a ≤ b → get (store_at s a) q ≡ Some x → get (store_at s b) q ≡ Some y → x.mod_revision ≡ y.mod_revision → get (store_at s a) q ≡ Some y
 one_value s a b q x y le hx hy same = elim (since s a b q y le hy) [
-  | inl n ↦ let p = put_by s a q x hx in absurd (omega (arith, n.1, p.most, pos_same p.revision n.0 (sym p.put ∙ same ∙ n.2)))
+  | inl n ↦ let p = put_by s a q x hx in absurd (omega (arith, n.1, p.most, pos-same p.revision n.0 (sym p.put ∙ same ∙ n.2)))
   | inr e ↦ e
 ]
 
 not_at_zero : (s : Store) (a : ℕ) (q : Bytes) (kv : Kv) → get (store_at s a) q ≡ Some kv → kv.mod_revision ≡ pos 0 → ⊥
-not_at_zero s a q kv h none = let p = put_by s a q kv h in omega (arith, p.least, pos_same p.revision 0 (sym p.put ∙ none))
+not_at_zero s a q kv h none = let p = put_by s a q kv h in omega (arith, p.least, pos-same p.revision 0 (sym p.put ∙ none))
 
 later_as_it_was : (s : Store) (a b : ℕ) (q : Bytes) → a ≤ b → mod_of (get (store_at s a) q) ≡ mod_of (get (store_at s b) q) → get (store_at s a) q ≡ get (store_at s b) q
 later_as_it_was s a b q le h = go (get (store_at s a) q) (get (store_at s b) q) refl refl h

@@ -1,5 +1,5 @@
 -- A transaction that only reads isn't denied, and changes nothing.
-use Rattle.std.proofs.Common.{◌≡◌, ◌≤◌, Bool, true, false, ◌||◌, not, ◌&&◌, pos, List, [], ◌∷◌, length, refl, ap, ◌∙◌, arith}
+use Rattle.std.proofs.Common.{◌≡◌, ◌≤◌, Bool, true, false, not, ◌&&◌, pos, List, [], ◌∷◌, length, refl, ap, ◌∙◌, arith}
 use Rattle.std.specs.Prelude.{int_lt}
 use Rattle.std.specs.List.{list_any}
 use Rattle.std.specs.Ordering.{int_eq}
@@ -14,21 +14,19 @@ use Rattle.ev_types.specs.Store.{Store, succeeds, chosen, worked}
 use Rattle.ev_types.specs.Denials.{is_future, names_missing, writes_twice, max_operations, has_long_list, is_full_store, chosen_acts, is_denied}
 use Rattle.ev_types.specs.Reads.{are_present_reads}
 use Rattle.ev_types.proofs.Transactions.{unchanged-reads}
-
-pub both_false : (a b : Bool) → a ≡ false → b ≡ false → (a || b) ≡ false
-both_false a b g h = ap (λ x. x || b) g ∙ h
+use Rattle.zx_base.proofs.Booleans.{or-neither}
 
 -- a range of the present names a revision that there is
 pub present_named : (s : Store) (q : RangeReq) → int_eq q.revision (pos 0) ≡ true → names_missing s (act.Range q) ≡ false
 present_named s q h =
     let e = (Decides-int_eq q.revision (pos 0)).0 h in
-    both_false _ _ (ap (is_future s) e ∙ le-ltb (length s.revisions) 0 (omega arith)) (ap (λ b. not b && int_lt q.revision s.floor) h)
+    or-neither _ _ (ap (is_future s) e ∙ le-ltb (length s.revisions) 0 (omega arith)) (ap (λ b. not b && int_lt q.revision s.floor) h)
 
 pub reads_named : (s : Store) (acts : List Act) → are_present_reads acts ≡ true → list_any (names_missing s) acts ≡ false
 reads_named s [] h = refl
 reads_named s (act.Put k v lease ∷ acts) h = cc
 reads_named s (act.Delete k ∷ acts) h = cc
-reads_named s (act.Range q ∷ acts) h = let parts = and_parts _ _ h in both_false _ _ (present_named s q parts.0) (reads_named s acts parts.1)
+reads_named s (act.Range q ∷ acts) h = let parts = and_parts _ _ h in or-neither _ _ (present_named s q parts.0) (reads_named s acts parts.1)
 
 pub reads_once : (acts : List Act) → are_present_reads acts ≡ true → writes_twice acts ≡ false
 reads_once [] h = refl
@@ -54,8 +52,8 @@ chosen_named s t false g h = h
 pub plain-not_denied : (s : Store) (t : TxnReq) → IsPlain s t → is_denied s (ask.Txn t) ≡ false
 unfolding is_denied
 plain-not_denied s t p =
-    let short : has_long_list t ≡ false = both_false _ _ (both_false _ _ (le-ltb _ _ p.guards) (le-ltb _ _ p.success)) (le-ltb _ _ p.failure) in
-    both_false _ _ (both_false _ _ (both_false _ _ (both_false _ _ short p.success_once) p.failure_once) (chosen_named s t (succeeds s t) p.success_named p.failure_named)) p.room
+    let short : has_long_list t ≡ false = or-neither _ _ (or-neither _ _ (le-ltb _ _ p.guards) (le-ltb _ _ p.success)) (le-ltb _ _ p.failure) in
+    or-neither _ _ (or-neither _ _ (or-neither _ _ (or-neither _ _ short p.success_once) p.failure_once) (chosen_named s t (succeeds s t) p.success_named p.failure_named)) p.room
 
 pub reads-not_denied : (s : Store) (acts : List Act) → length acts ≤ max_operations → are_present_reads acts ≡ true → is_denied s (ask.Txn (record { guards = []; success = acts; failure = [] })) ≡ false
 reads-not_denied s acts few reads = plain-not_denied s (record { guards = []; success = acts; failure = [] }) (record {

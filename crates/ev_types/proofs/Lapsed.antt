@@ -2,8 +2,8 @@
 use Rattle.std.proofs.Common.{◌≡◌, ℕ, ◌≤◌, ◌||◌, Bool, true, false, cond, not, ℤ, pos, ◌+ℤ◌, List, [], ◌∷◌, length, Option, Some, None, refl, sym, ap, ◌∙◌, subst, ⊎_elim, arith}
 use Rattle.std.specs.Prelude.{◌≤ℤ◌, ◌<ℤ◌, is_some}
 use Rattle.std.specs.List.{list_any}
-use Rattle.std.specs.Ordering.{nat_cmp, eq_by_cmp, is_eq}
-use Rattle.std.specs.Cmp.Lexicographic.{slice_cmp, nat_list_cmp_total}
+use Rattle.std.specs.Ordering.{is_eq}
+use Rattle.std.specs.Cmp.Lexicographic.{nat_list_cmp_total}
 use Rattle.std.specs.FinMap.{get, insert, remove, retain_keys, get-remove, contains_key-keys}
 use Rattle.std.proofs.lemmas.Cmp.{tied_itself}
 use Rattle.std.proofs.lemmas.Bool.{or_left, le-ltb, lt-ltb}
@@ -17,11 +17,9 @@ use Rattle.ev_types.specs.Store.{Store, Change, Puts, revision, after_changes, p
 use Rattle.ev_types.specs.Denials.{has_lease, is_full_store}
 use Rattle.ev_types.specs.Lapses.{is_leased, leased_keys, removals, lapse, foreign}
 use Rattle.ev_types.proofs.Grown.{present-grown, earlier-grown, revision-grown}
+use Rattle.zx_base.proofs.Booleans.{is_tied}
 
 -- ---- what is there after removals
-
-is_tied : Bytes → Bytes → Bool
-is_tied = eq_by_cmp (slice_cmp nat_cmp)
 
 removed_once : (b c : Bool) (o : Option Kv) → cond b None (cond c None o) ≡ cond (c || b) None o
 removed_once true true o = refl

@@ -2,7 +2,7 @@
 use Rattle.std.proofs.Common.{◌≡◌, ℕ, ◌≤◌, List, [], ◌∷◌, length, refl, sym, ap, ◌∙◌, subst, inl, inr, arith}
 use Rattle.std.proofs.lemmas.Bool.{and_parts, leb-true}
 use Rattle.std.proofs.lemmas.List.Sums.{AllPass-from_list_all}
-use Rattle.std.specs.Prelude.{◌⊎◌, Bool, true, false, All, Option, Some, nat_le, ◌==◌, if◌then◌else◌, codes, slice_index_or}
+use Rattle.std.specs.Prelude.{◌⊎◌, Bool, true, false, All, Some, nat_le, ◌==◌, if◌then◌else◌, codes, slice_index_or}
 use Rattle.std.specs.List.{list_all}
 use denote.Ref.{Bor}
 use Rattle.ev_call.specs.Addresses.{IsAddress}
@@ -20,6 +20,7 @@ use Rattle.zetcd_cmd.specs.Serving.{NamesEtcd, are_addresses, are_plain, is_addr
 use Rattle.zetcd_cmd.specs.Proxying.{HasNetCause, IsServe, NamesServe, Proxies, serve_status}
 use Rattle.zetcd_cmd.specs.declared.status.Status.{Status}
 use Rattle.zetcd_cmd.specs.declared.status.Status.TheVariants as status
+use Rattle.zx_base.proofs.Options.{same_limit}
 
 -- ---- the words
 
@@ -38,9 +39,6 @@ not_both (w ∷ v ∷ u ∷ t ∷ words) etcd serve = etcd.2
 pub only_serve : (words : List (Bor (List ℕ))) → NamesEtcd words ⊎ NamesServe words → (NamesEtcd words → ⊥) → NamesServe words
 only_serve words (inl etcd) not = absurd (not etcd)
 only_serve words (inr serve) not = serve
-
-same_limit : (n m : ℕ) (o : Option ℕ) → o ≡ Some n → o ≡ Some m → n ≡ m
-same_limit n m o one two = cc
 
 serves_one : (words : List (Bor (List ℕ))) (listen other endpoint another : List ℕ) (n m : ℕ) → IsServe words listen endpoint n → IsServe words other another m →
     (listen ≡ other) × (endpoint ≡ another) × (n ≡ m)

@@ -16,6 +16,7 @@ use Rattle.zetcd_cmd.specs.declared.status.Status.{Status}
 use Rattle.zetcd_cmd.specs.declared.status.Status.TheVariants as status
 use Rattle.zetcd_cmd.specs.Outcomes.{IsWord}
 use Rattle.zetcd_cmd.specs.Serving.{IsEtcd, NamesEtcd, EtcdServes, digits_number, limit_in, etcd_status}
+use Rattle.zx_base.proofs.Options.{same_limit}
 
 -- ---- the words
 
@@ -23,9 +24,6 @@ pub one_word : (name : List ℕ) (words : List (Bor (List ℕ))) → IsWord name
 one_word name [] is names = is
 one_word name (w ∷ []) is names = names.2
 one_word name (w ∷ v ∷ words) is names = is
-
-same_limit : (n m : ℕ) (o : Option ℕ) → o ≡ Some n → o ≡ Some m → n ≡ m
-same_limit n m o one two = cc
 
 pub names_one : (words : List (Bor (List ℕ))) (listen other : List ℕ) (n m : ℕ) → IsEtcd words listen n → IsEtcd words other m → (listen ≡ other) × (n ≡ m)
 names_one [] listen other n m one two = absurd one

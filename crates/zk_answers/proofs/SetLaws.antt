@@ -1,6 +1,6 @@
 -- Sets of paths as lists of their members.
-use Rattle.std.proofs.Common.{◌≡◌, ◌≢◌, Bool, true, false, ◌||◌, cond, Option, Some, None, List, [], ◌∷◌, length, map, refl, sym, ap, ◌∙◌, ⊎_elim}
-use Rattle.std.specs.Prelude.{◌==◌, is_some}
+use Rattle.std.proofs.Common.{◌≡◌, ◌≢◌, Bool, true, false, ◌||◌, cond, List, [], ◌∷◌, length, map, refl, sym, ap, ◌∙◌, ⊎_elim}
+use Rattle.std.specs.Prelude.{◌==◌}
 use Rattle.std.proofs.lemmas.Cmp.{tied_itself}
 use Rattle.std.proofs.lemmas.List.{length-map}
 use Rattle.std.proofs.lemmas.Map.Lookups.{exact_bytes}
@@ -18,16 +18,14 @@ use Rattle.zx_base.proofs.MapLaws.{ext, either, same-refl, same-false, get-inser
 use Rattle.zk_model.specs.Watches.{PathSet}
 use Rattle.zk_model.specs.PathSets.{set_of, has}
 use Rattle.zk_model.proofs.PathSets.{get-set_of, contains-set_of, length-set_of, marked, same_set}
+use Rattle.zx_base.proofs.Booleans.{or-swap, or-again}
+use Rattle.zx_base.proofs.Options.{there}
 
 without : (path : Bytes) (ps qs : List Bytes) → has path ps ≡ false → ((q : Bytes) → q ≢ path → has q ps ≡ has q qs) → set_of ps ≡ remove (set_of qs) path
 without path ps qs gone others = ext _ _ (λ q. ⊎_elim
     (λ (e : q ≡ path). get-set_of ps q ∙ ap marked (ap (λ (x : Bytes). has x ps) e ∙ gone) ∙ sym (ap (get (remove (set_of qs) path)) e ∙ get-remove_same (set_of qs) path))
     (λ (n : q ≢ path). get-set_of ps q ∙ ap marked (others q n) ∙ sym (get-remove_other (set_of qs) path q n ∙ get-set_of qs q))
     (either q path))
-
-there : (o : Option (Unit {0})) → is_some o ≡ true → o ≡ Some tt
-there None h = absurd (cc)
-there (Some u) h = refl
 
 -- a path that is in the set is put in again
 pub insert-there : (s : PathSet) (path : Bytes) → contains_key s path ≡ true → s ≡ insert s path tt
@@ -50,15 +48,6 @@ ties q p = ⊎_elim
     (λ (e : q ≡ p). ap (λ (x : Bytes). is_eq (order q x)) (sym e) ∙ ap is_eq (tied_itself nat_list_cmp_total q) ∙ sym (ap (λ (x : Bytes). same x q) (sym e) ∙ same-refl q))
     (λ (n : q ≢ p). untied q p n ∙ sym (same-false p q (λ e. n (sym e))))
     (either q p)
-
-or_again : (a b : Bool) → (a || b) ≡ (a || (a || b))
-or_again true b = refl
-or_again false b = refl
-
-or_swap : (a b c : Bool) → (a || (b || c)) ≡ (b || (a || c))
-or_swap true true c = refl
-or_swap true false c = refl
-or_swap false b c = refl
 
 module _ {K : Type 0} (bytes : K → Bytes) where
   abbrev by_bytes : K → K → Ordering
@@ -85,8 +74,8 @@ module _ {K : Type 0} (bytes : K → Bytes) where
       elim (by_bytes k x) as (λ r. by_bytes k x ≡ r
       → has q (map bytes (match_ordering r (k ∷ x ∷ xs) (x ∷ xs) (x ∷ insert_key by_bytes xs k))) ≡ (same (bytes k) q || (same (bytes x) q || has q (map bytes xs)))) [
         | Less ↦ λ h. refl
-        | Equal ↦ λ h. or_again (same (bytes x) q) (has q (map bytes xs)) ∙ ap (λ (p : Bytes). same p q || (same (bytes x) q || has q (map bytes xs))) (sym (exact_bytes (bytes k) (bytes x) h))
-        | Greater ↦ λ h. ap (λ b. same (bytes x) q || b) (has-inserted q k xs) ∙ or_swap (same (bytes x) q) (same (bytes k) q) (has q (map bytes xs))
+        | Equal ↦ λ h. or-again (same (bytes x) q) (has q (map bytes xs)) ∙ ap (λ (p : Bytes). same p q || (same (bytes x) q || has q (map bytes xs))) (sym (exact_bytes (bytes k) (bytes x) h))
+        | Greater ↦ λ h. ap (λ b. same (bytes x) q || b) (has-inserted q k xs) ∙ or-swap (same (bytes x) q) (same (bytes k) q) (has q (map bytes xs))
       ] refl
 
   pub inserted-keys : (path : Bytes) (k : K) (js ks : List K) (s : PathSet) → set_of (map bytes js) ≡ s → bytes k ≡ path → ks ≡ insert_key by_bytes js k → set_of (map bytes ks) ≡ insert s path tt

@@ -19,42 +19,22 @@ use Rattle.std.specs.FinMap.Entries.{below_all}
 use Rattle.zk_service.specs.States.{Session, Sessions, attached_in, is_attached_to}
 use Rattle.zk_history.specs.Attachments.{Pair, pair_order, has, is_on, least_id, AreAttached, IsLeastAttached}
 use Rattle.zk_history.proofs.SessionLaws.{Entries, numbered, get-numbered}
-
-equal-from_is_eq : (r : Ordering) → is_eq r ≡ true → r ≡ Equal
-equal-from_is_eq Less h = cc
-equal-from_is_eq Equal h = refl
-equal-from_is_eq Greater h = cc
+use Rattle.zx_base.proofs.Orders.{equal-from_is_eq, less-from_T}
+use Rattle.zx_base.proofs.Booleans.{and-false, T-and, T-first, T-second, and-true}
 
 -- ---- the session with the least number among those on a connection
-
-first_part : (a b : Bool) → T (a && b) → T a
-first_part true b h = tt
-first_part false b h = h
-
-second_part : (a b : Bool) → T (a && b) → T b
-second_part true b h = h
-second_part false b h = absurd h
-
-both_parts : (a b : Bool) → T a → T b → T (a && b)
-both_parts true b h k = k
-both_parts false b h k = h
-
-less-from_is_lt : (r : Ordering) → T (is_lt r) → r ≡ Less
-less-from_is_lt Less h = refl
-less-from_is_lt Equal h = absurd h
-less-from_is_lt Greater h = absurd h
 
 -- a number below all has no session
 find-below : (id : ℤ) (es : Entries) → T (below_all int_cmp id es) → find int_cmp id es ≡ None
 find-below id [] below = refl
 find-below id (e ∷ es) below =
-    ap (λ r. cond (is_eq r) (Some e.1) (find int_cmp id es)) (less-from_is_lt _ (first_part _ _ below)) ∙ find-below id es (second_part _ _ below)
+    ap (λ r. cond (is_eq r) (Some e.1) (find int_cmp id es)) (less-from_T _ (T-first _ _ below)) ∙ find-below id es (T-second _ _ below)
 
 below-less : (i k : ℤ) (es : Entries) → int_cmp i k ≡ Less → T (below_all int_cmp k es) → T (below_all int_cmp i es)
 below-less i k [] h below = tt
 below-less i k (e ∷ es) h below =
-    let next : int_cmp i e.0 ≡ Less = int_cmp_total.trans i k e.0 h (less-from_is_lt _ (first_part _ _ below)) in
-    both_parts _ _ (subst (λ (r : Ordering). T (is_lt r)) (sym next) tt) (below-less i k es h (second_part _ _ below))
+    let next : int_cmp i e.0 ≡ Less = int_cmp_total.trans i k e.0 h (less-from_T _ (T-first _ _ below)) in
+    T-and _ _ (subst (λ (r : Ordering). T (is_lt r)) (sym next) tt) (below-less i k es h (T-second _ _ below))
 
 find-here : (e : ℤ × Session) (es : Entries) → find int_cmp e.0 (e ∷ es) ≡ Some e.1
 find-here e es = ap (λ r. cond (is_eq r) (Some e.1) (find int_cmp e.0 es)) (tied_itself int_cmp_total e.0)
@@ -75,10 +55,10 @@ least-in : (c : ℕ) (es : Entries) (id : ℤ) (s : Session) → T (is_sorted in
     → ((other : ℤ) → is_on c (find int_cmp other es) ≡ true → id ≤ℤ other) → attached_in c es ≡ Some (id, s)
 least-in c [] id s sorted is on least = absurd (cc)
 least-in c (e ∷ es) id s sorted is on least =
-    let below : T (below_all int_cmp e.0 es) = first_part _ _ sorted in
+    let below : T (below_all int_cmp e.0 es) = T-first _ _ sorted in
     by_ranked (id <ℤ e.0) (id ≡ e.0) (e.0 <ℤ id) (int_cmp id e.0) (int_ranked id e.0 _ refl)
     (λ h lt.
-    let none : find int_cmp id (e ∷ es) ≡ None = find-below id (e ∷ es) (both_parts _ _ (subst (λ (r : Ordering). T (is_lt r)) (sym h) tt) (below-less id e.0 es h below)) in
+    let none : find int_cmp id (e ∷ es) ≡ None = find-below id (e ∷ es) (T-and _ _ (subst (λ (r : Ordering). T (is_lt r)) (sym h) tt) (below-less id e.0 es h below)) in
     absurd (cc))
     (λ h eq.
     let first : Some e.1 ≡ Some s = sym (find-here e es) ∙ ap (λ (k : ℤ). find int_cmp k (e ∷ es)) (sym eq) ∙ is in
@@ -89,7 +69,7 @@ least-in c (e ∷ es) id s sorted is on least =
     let later : find int_cmp id es ≡ Some s = sym (ap (λ r. cond (is_eq r) (Some e.1) (find int_cmp id es)) h) ∙ is in
     elim (is_attached_to c e) as (λ b. is_attached_to c e ≡ b → cond b (Some e) (attached_in c es) ≡ Some (id, s)) [
       | true ↦ λ at. absurd (let up : id ≤ℤ e.0 = least e.0 (ap (is_on c) (find-here e es) ∙ at) in omega (arith, ints))
-      | false ↦ λ at. least-in c es id s (second_part _ _ sorted) later on (λ other there. least other (ap (is_on c) (find-after c other e es below there) ∙ there))
+      | false ↦ λ at. least-in c es id s (T-second _ _ sorted) later on (λ other there. least other (ap (is_on c) (find-after c other e es below there) ∙ there))
     ] refl)
 
 none-in : (c : ℕ) (es : Entries) → T (is_sorted int_cmp es) → ((other : ℤ) → is_on c (find int_cmp other es) ≡ false) → attached_in c es ≡ None
@@ -97,8 +77,8 @@ none-in c [] sorted off = refl
 none-in c (e ∷ es) sorted off =
     let here : is_attached_to c e ≡ false = sym (ap (is_on c) (find-here e es)) ∙ off e.0 in
     ap (λ b. cond b (Some e) (attached_in c es)) here
-    ∙ none-in c es (second_part _ _ sorted) (λ other. elim (cases_Bool (is_on c (find int_cmp other es))) [
-      | inl on ↦ sym (ap (is_on c) (find-after c other e es (first_part _ _ sorted) on)) ∙ off other
+    ∙ none-in c es (T-second _ _ sorted) (λ other. elim (cases_Bool (is_on c (find int_cmp other es))) [
+      | inl on ↦ sym (ap (is_on c) (find-after c other e es (T-first _ _ sorted) on)) ∙ off other
       | inr not_on ↦ not_on
     ])
 
@@ -170,20 +150,12 @@ long (negsuc n) fits = omega (arith, ints, fits.sfits)
 tied : (p : Pair) (c : ℕ) (id : ℤ) → is_eq (pair_order p (c, id)) ≡ ((p.0 == c) && is_eq (int_cmp p.1 id))
 tied p c id = sym (tied_then (nat_cmp p.0 c) (int_cmp p.1 id)) ∙ ap (λ b. b && is_eq (int_cmp p.1 id)) (unsigned_tied p.0 c)
 
-and_true : (b : Bool) → (b && true) ≡ b
-and_true true = refl
-and_true false = refl
-
-and_false : (b : Bool) → (b && false) ≡ false
-and_false true = refl
-and_false false = refl
-
 -- where a pair has the number of p, it is p exactly where it has p's connection
 tied-here : (p : Pair) (c : ℕ) (id : ℤ) → is_eq (int_cmp p.1 id) ≡ true → is_eq (pair_order p (c, id)) ≡ (c == p.0)
-tied-here p c id here = tied p c id ∙ ap (λ b. (p.0 == c) && b) here ∙ and_true (p.0 == c) ∙ nat_eq_equiv.symm p.0 c
+tied-here p c id here = tied p c id ∙ ap (λ b. (p.0 == c) && b) here ∙ and-true (p.0 == c) ∙ nat_eq_equiv.symm p.0 c
 
 tied-elsewhere : (p : Pair) (c : ℕ) (id : ℤ) → is_eq (int_cmp p.1 id) ≡ false → is_eq (pair_order p (c, id)) ≡ false
-tied-elsewhere p c id other = tied p c id ∙ ap (λ b. (p.0 == c) && b) other ∙ and_false (p.0 == c)
+tied-elsewhere p c id other = tied p c id ∙ ap (λ b. (p.0 == c) && b) other ∙ and-false (p.0 == c)
 
 removed-here : (m : Sessions) (k id : ℤ) → is_eq (int_cmp k id) ≡ true → get (remove m k) id ≡ None
 removed-here m k id here =

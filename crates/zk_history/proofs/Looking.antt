@@ -16,6 +16,7 @@ use Rattle.zk_transcript.proofs.Lookups.{slice_get-front}
 use Rattle.zk_history.specs.Shown.{Mark, is_mark, kept, place_in, first_marked, AreFirsts, attach_mark, attach_mark_in, close_mark, frame_mark, open_mark, own_mark, own_mark_in}
 use Rattle.zk_history.specs.declared.firsts.Firsts.{Firsts}
 use Rattle.zk_history.proofs.Marks.{IsAt, firsts-more, first_place-marked, first_shown-placed, marked-at, shown_at}
+use Rattle.zx_base.proofs.Options.{is_some-map}
 
 -- ---- one line further
 
@@ -115,10 +116,6 @@ passed {A} show test agree k (l ∷ ls) =
       | Some y ↦ λ is. ap (λ b. is_some (elim (when b l) [ Some y ↦ Some (k, y) | None ↦ first_place (λ x. when (test x) x) (k + 1) ls ])) is
       | None ↦ λ is. passed show test agree (k + 1) ls ∙ ap (λ b. is_some (elim (when b l) [ Some y ↦ Some (k, y) | None ↦ first_place (λ x. when (test x) x) (k + 1) ls ])) is
     ] (agree l)
-
-is_some-map : {A B : Type 0} (g : A → B) (o : Option A) → is_some (option_map g o) ≡ is_some o
-is_some-map g None = refl
-is_some-map g (Some x) = refl
 
 module _ {A : Type 0} (show : TranscriptLine → Option A) (mark : TranscriptLine → Option Mark) (c i : ℕ) (agree : (l : TranscriptLine) → is_some (show l) ≡ is_mark (mark l) c i)
     (lines : List TranscriptLine) (f : Firsts) (firsts : AreFirsts mark lines f) where

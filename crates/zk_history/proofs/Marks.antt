@@ -12,6 +12,7 @@ use Rattle.zk_transcript.proofs.Lookups.{first_place-skip, first_place-new}
 use Rattle.zk_transcript.proofs.Appending.{first_place-push}
 use Rattle.zk_history.specs.Shown.{Mark, mark_order, is_mark, kept, first_marked, AreFirsts, place_in}
 use Rattle.zk_history.specs.declared.firsts.Firsts.{Firsts}
+use Rattle.zx_base.proofs.Options.{none-unless_some}
 
 equal_parts : (r s : Ordering) → is_eq (ordering_then r s) ≡ (is_eq r && is_eq s)
 equal_parts Less s = refl
@@ -30,10 +31,6 @@ same m c i is =
     let second : m.1 ≡ i = eqb-true m.1 i parts.1 in
     λ j. (first j, second j)
 
-none_of : {A : Type 0} (o : Option A) → is_some o ≡ false → o ≡ None
-none_of None h = refl
-none_of (Some x) h = absurd (cc)
-
 kept_out : (o : Option ℕ) (place : ℕ) → o ≡ kept o false place
 kept_out None place = refl
 kept_out (Some k) place = refl
@@ -44,7 +41,7 @@ module _ {K : Type 0} (is : K → K → Bool) (same_key : (m q : K) → is m q �
   pub new-kept : (f g : K → Option ℕ) (m : K) (place : ℕ) → is_some (f m) ≡ false → ((q : K) → g q ≡ cond (is m q) (Some place) (f q)) → (q : K) → g q ≡ kept (f q) (is m q) place
   new-kept f g m place free updates q =
       elim (is m q) as (λ b. is m q ≡ b → g q ≡ kept (f q) b place) [
-        | true ↦ λ at. updates q ∙ ap (λ b. cond b (Some place) (f q)) at ∙ sym (ap (λ o. kept o true place) (ap f (sym (same_key m q at)) ∙ none_of (f m) free))
+        | true ↦ λ at. updates q ∙ ap (λ b. cond b (Some place) (f q)) at ∙ sym (ap (λ o. kept o true place) (ap f (sym (same_key m q at)) ∙ none-unless_some (f m) free))
         | false ↦ λ at. updates q ∙ ap (λ b. cond b (Some place) (f q)) at ∙ kept_out (f q) place
       ] refl
 

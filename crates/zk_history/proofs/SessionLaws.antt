@@ -1,5 +1,5 @@
 -- A sorted map of std as the finite map of the open sessions.
-use Rattle.std.proofs.Common.{◌≡◌, ℤ, Bool, true, false, ◌&&◌, cond, Option, Some, None, List, [], ◌∷◌, refl, sym, ap, ◌∙◌, subst}
+use Rattle.std.proofs.Common.{◌≡◌, ℤ, cond, Option, Some, None, List, [], ◌∷◌, refl, sym, ap, ◌∙◌, subst}
 use Rattle.std.specs.Prelude.{T}
 use Rattle.std.specs.declared.cmp.Ordering.{Ordering}
 use Rattle.std.specs.declared.cmp.Ordering.TheVariants.{Less}
@@ -12,6 +12,7 @@ use Rattle.std.specs.Map.{lookup, keys_of}
 use Rattle.std.specs.BTreeMap.{is_at}
 use Rattle.std.specs.FinMap.{find, is_sorted, get, insert, remove, from_entries, same_map, int_cmp-IsAntisymmetric, get-from_entries, get-insert, get-remove}
 use Rattle.zk_service.specs.States.{Session, Sessions}
+use Rattle.zx_base.proofs.Booleans.{T-and}
 
 abbrev pub Entries : Type 0
 Entries = List (ℤ × Session)
@@ -45,15 +46,11 @@ numbered-remove es fs id updates =
 
 -- ---- the sessions in the order of their numbers
 
-both : (a b : Bool) → T a → T b → T (a && b)
-both true b p q = q
-both false b p q = p
-
 below_all-from_sorted : (id : ℤ) (es : Entries) → AllByRecursion (λ y. int_cmp id y ≡ Less) (keys_of es) → T (below_all int_cmp id es)
 below_all-from_sorted id [] h = tt
-below_all-from_sorted id (e ∷ es) h = both _ _ (subst (λ (o : Ordering). T (is_lt o)) (sym h.0) tt) (below_all-from_sorted id es h.1)
+below_all-from_sorted id (e ∷ es) h = T-and _ _ (subst (λ (o : Ordering). T (is_lt o)) (sym h.0) tt) (below_all-from_sorted id es h.1)
 
 is_sorted-from_keys : (es : Entries) → IsStrictlySortedBy int_cmp (keys_of es) → T (is_sorted int_cmp es)
 unfolding IsStrictlySortedBy
 is_sorted-from_keys [] h = tt
-is_sorted-from_keys (e ∷ es) h = both _ _ (below_all-from_sorted e.0 es h.0) (is_sorted-from_keys es h.1)
+is_sorted-from_keys (e ∷ es) h = T-and _ _ (below_all-from_sorted e.0 es h.0) (is_sorted-from_keys es h.1)

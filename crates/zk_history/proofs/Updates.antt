@@ -2,7 +2,6 @@
 use Rattle.std.proofs.Common.{◌≡◌, ℕ, ℤ, ◌+◌, ◌<◌, ◌≤◌, Bool, true, false, List, [], ◌∷◌, ◌++◌, length, get_or, take, refl, sym, ap, ◌∙◌, subst, arith, length-take}
 use Rattle.std.specs.Prelude.{Option, Some, None, option_map, is_some, IfSome}
 use Rattle.std.specs.Ordering.{int_eq}
-use Rattle.std.proofs.lemmas.Bool.Decides.{Decides-int_eq}
 use Rattle.std.proofs.lemmas.Cmp.{int_eq_equiv}
 use Rattle.std.proofs.lemmas.List.{take_more}
 use Rattle.std.proofs.lemmas.Option.{same_Some}
@@ -15,9 +14,7 @@ use Rattle.zk_transcript.proofs.Appending.{first_place-push}
 use Rattle.zk_history.specs.Shown.{AreUpdates, is_zxid, kept, place_of, update_zxid}
 use Rattle.zk_history.proofs.Looking.{place-within}
 use Rattle.zk_history.specs.declared.zxids.Zxids.{Zxids}
-
-pub same_zxid : (a b : ℤ) → int_eq a b ≡ true → a ≡ b
-same_zxid a b e = (Decides-int_eq a b).0 e
+use Rattle.zx_base.proofs.Booleans.{same-from_int_eq}
 
 is_some-when : (b : Bool) (x : ℤ) → is_some (when b x) ≡ b
 is_some-when true x = refl
@@ -36,7 +33,7 @@ has-zxid z (Close c e) = refl
 shows-zxid : (z : ℤ) (l : TranscriptLine) (y : ℤ) → update_shown z l ≡ Some y → z ≡ y
 shows-zxid z (Update u) y h =
     elim (int_eq z u.zxid) as (λ b. int_eq z u.zxid ≡ b → when b u.zxid ≡ Some y → z ≡ y) [
-      | true ↦ λ is e. same_zxid z u.zxid is ∙ same_Some u.zxid y e
+      | true ↦ λ is e. same-from_int_eq z u.zxid is ∙ same_Some u.zxid y e
       | false ↦ λ is e. absurd (cc)
     ] refl h
 shows-zxid z (Open c p id pw) y h = absurd (cc)

@@ -17,6 +17,7 @@ use Rattle.zk_judge.specs.declared.conversations.Stage.TheVariants as stage
 use Rattle.zk_judge.specs.declared.waits.Walked.TheVariants as walk
 use Rattle.zk_judge.proofs.Opened.{connections-push, none-contained}
 use Rattle.zk_judge.proofs.Stages.{attached-within}
+use Rattle.zx_base.proofs.Booleans.{same-test}
 
 -- ---- what is known of a stage stands up to the moment that it waits for, and for good where it waits for none
 
@@ -58,9 +59,6 @@ put b xs x = if b then xs ++ x ∷ [] else xs
 
 abbrev pub IsPut : Lists → Lists → ℕ → Conversation → Type 0
 IsPut before after m x = (k : ℕ) → waiting_at after k ≡ (if m == k then waiting_at before k ++ x ∷ [] else waiting_at before k)
-
-pub same-test : (m : ℕ) → (m == m) ≡ true
-same-test m = grind (arith, nat_tests)
 
 put-has : (b : Bool) (xs : List Conversation) (x : Conversation) (c : ℕ) → Contains (connections xs) c → Contains (connections (put b xs x)) c
 put-has true xs x c has = subst (λ (cs : List ℕ). Contains cs c) (sym (connections-push xs x)) (Contains-append_left (connections xs) (x.connection ∷ []) c has)

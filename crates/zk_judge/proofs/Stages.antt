@@ -1,6 +1,6 @@
 -- Conversations by the answer to their connect and by the walk after it.
 use Rattle.std.proofs.Common.{◌≡◌, ℕ, ℤ, pos, ◌+◌, ◌<◌, ◌≤◌, Bool, true, false, List, [], ◌∷◌, length, take, drop, Option, Some, None, inl, inr, refl, ap, sym, ◌∙◌, subst, arith}
-use Rattle.std.specs.Prelude.{◌↔◌, ◌<ℤ◌, ◌≤ℤ◌, ◌&&◌, ◌==◌, if◌then◌else◌, int_le, int_lt, is_some, nat_le, slice_get, IsTrue}
+use Rattle.std.specs.Prelude.{◌↔◌, ◌<ℤ◌, ◌≤ℤ◌, ◌==◌, if◌then◌else◌, int_le, int_lt, is_some, nat_le, slice_get, IsTrue}
 use Rattle.std.specs.List.{list_all}
 use Rattle.std.proofs.lemmas.Bool.{cases_Bool}
 use Rattle.std.proofs.lemmas.Bool.Decides.{nat_tests}
@@ -29,6 +29,7 @@ use Rattle.zk_judge.specs.declared.conversations.Stage.TheVariants as stage
 use Rattle.zk_judge.specs.Waiting.{IsEarliest}
 use Rattle.zk_judge.proofs.Replied.{front-told}
 use Rattle.zk_judge.proofs.Lawful.{judged-when, lawful-when, legal-when, zxids-when}
+use Rattle.zx_base.proofs.Booleans.{and-false}
 
 abbrev IsRunning : List TranscriptLine → Type 0
 IsRunning lines = history_fault lines ≡ None
@@ -159,10 +160,6 @@ lower-before lines c place m zxid id at less =
           let before = not-below lines m f.place legal (omega (arith, less, place-is)) some in
           raised-above (state_at lines m) (state_at lines (f.place + 1)) (state_at lines f.place) u.update.zxid zxid (rising lines m (f.place + 1) legal (omega (arith, less, place-is)) some) r before.0 u.zxid
     ]
-
-and-false : (b : Bool) → (b && false) ≡ false
-and-false true = refl
-and-false false = refl
 
 pub start-earliest : (lines : List TranscriptLine) (c place : ℕ) (zxid id : ℤ) → IsAttached lines c place zxid id → IsEarliest lines (at_start zxid (place + 1)) (place + 1)
 start-earliest lines c place zxid id at m less =

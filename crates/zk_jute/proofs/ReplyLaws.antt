@@ -32,6 +32,7 @@ use Rattle.zk_jute.proofs.Lists.{spelled_split, spelled_flat, spelled_items}
 use Rattle.zk_jute.proofs.Numbered.{opcode_numbered-number_of}
 use Rattle.zk_jute.proofs.ResultLaws.{IsResult, IsLastResult, result_next}
 use Rattle.zk_jute.proofs.Stats.{stat_back, stat_kinds, stat_normals}
+use Rattle.zx_base.proofs.Booleans.{false-not_true}
 
 -- ---- the outcomes, one by one
 
@@ -256,13 +257,10 @@ zero_is err e = (Decides-int_eq err (pos 0)).0 e
 is_zero : (err : ℤ) → err ≡ pos 0 → int_eq err (pos 0) ≡ true
 is_zero err e = (Decides-int_eq err (pos 0)).1 e
 
-false_true : {b : Bool} → b ≡ false → b ≡ true → ⊥
-false_true f t = absurd cc
-
 after_if : (good : Bool) (code : Opcode) (err : ℤ) (bytes : List ℕ) (r : Reply) (rest : List ℕ) → int_eq err (pos 0) ≡ good
     → cond good (reply_body_at code bytes >>= λ x. ended (replies.Good x.0, x.1)) (ended (replies.Refused err, bytes)) ≡ Ok (r, rest) → IsReadAfter code err bytes r
 after_if true code err bytes r rest good e = subst (λ (n : ℤ). IsReadAfter code n bytes r) (sym (zero_is err good)) (good_after code bytes r rest e)
-after_if false code err bytes r rest bad e = refused_after code err bytes r rest (λ z. false_true bad (is_zero err z)) e
+after_if false code err bytes r rest bad e = refused_after code err bytes r rest (λ z. false-not_true bad (is_zero err z)) e
 
 read_after : (code : Opcode) (err : ℤ) (bytes : List ℕ) (r : Reply) (rest : List ℕ) → reply_at code err bytes ≡ Ok (r, rest) → IsReadAfter code err bytes r
 read_after code err bytes r rest e = after_if (int_eq err (pos 0)) code err bytes r rest refl e

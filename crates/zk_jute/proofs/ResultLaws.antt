@@ -24,6 +24,7 @@ use Rattle.zk_jute.proofs.Lists.{spelled_split}
 use Rattle.zk_jute.proofs.Numbered.{part_numbered-is}
 use Rattle.zk_jute.proofs.PartLaws.{three, three_of}
 use Rattle.zk_jute.proofs.Stats.{stat_back, stat_kinds, stat_normals}
+use Rattle.zx_base.proofs.Booleans.{same-from_int_eq}
 
 -- ---- forms
 
@@ -34,14 +35,11 @@ Says (good kind) type is_last err = (type ≡ part_number kind) × (is_last ≡ 
 Says refused type is_last err = (type ≡ negsuc 0) × (is_last ≡ false)
 Says none type is_last err = Unit {0}
 
-int_is : (a b : ℤ) → int_eq a b ≡ true → a ≡ b
-int_is a b e = (Decides-int_eq a b).0 e
-
 last_says : (type err : ℤ) (b : Bool) → (int_eq type (negsuc 0) && int_eq err (negsuc 0)) ≡ b → Says (cond b last none) type true err
 last_says type err false e = tt
 last_says type err true e =
     let both = and_parts (int_eq type (negsuc 0)) (int_eq err (negsuc 0)) e in
-    (int_is type (negsuc 0) both.0, refl, int_is err (negsuc 0) both.1)
+    (same-from_int_eq type (negsuc 0) both.0, refl, same-from_int_eq err (negsuc 0) both.1)
 
 kind_says : (type err : ℤ) (o : Option PartKind) → part_numbered type ≡ o → err ≡ pos 0 → Says (form_of_kind o) type false err
 kind_says type err None n z = tt
@@ -49,10 +47,10 @@ kind_says type err (Some kind) n z = (part_numbered-is type kind n, refl, z)
 
 good_says : (type err : ℤ) (zero : Bool) → int_eq err (pos 0) ≡ zero → Says (cond zero (form_of_kind (part_numbered type)) none) type false err
 good_says type err false e = tt
-good_says type err true e = kind_says type err (part_numbered type) refl (int_is err (pos 0) e)
+good_says type err true e = kind_says type err (part_numbered type) refl (same-from_int_eq err (pos 0) e)
 
 other_says : (type err : ℤ) (coded : Bool) → int_eq type (negsuc 0) ≡ coded → Says (cond coded refused (cond (int_eq err (pos 0)) (form_of_kind (part_numbered type)) none)) type false err
-other_says type err true e = (int_is type (negsuc 0) e, refl)
+other_says type err true e = (same-from_int_eq type (negsuc 0) e, refl)
 other_says type err false e = good_says type err (int_eq err (pos 0)) refl
 
 form_says : (type : ℤ) (is_last : Bool) (err : ℤ) → Says (form_of type is_last err) type is_last err
@@ -106,7 +104,7 @@ code_takes left bytes after err x rest h e =
     let a = bind_ok (int_at after) (λ code. cond (int_eq code.0 err) (Ok (Some (results.Code code.0), code.1)) (Err left)) (Some x, rest) e in
     let g = ended_ok (int_eq a.0.0 err) left (Some (results.Code a.0.0), a.0.1) (Some x, rest) a.2 in
     let t = int_field.takes after a.0.0 a.0.1 a.1 in
-    let code : a.0.0 ≡ err = int_is a.0.0 err g.0 in
+    let code : a.0.0 ≡ err = same-from_int_eq a.0.0 err g.0 in
     let made : results.Code a.0.0 ≡ x = some_is (ap (λ (y : Option PartResult × List ℕ). y.0) g.1) in
     let rest_is : a.0.1 ≡ rest = ap (λ (y : Option PartResult × List ℕ). y.1) g.1 in
     let header : Spelled Spells (result_header (negsuc 0) false a.0.0) h.front =

@@ -1,5 +1,5 @@
 -- Lines without a fault are a legal history, in order.
-use Rattle.std.proofs.Common.{◌≡◌, ◌+◌, Bool, true, false, ◌||◌, inl, inr, List, [], ◌∷◌, ◌++◌, length, Some, None, refl, sym, ◌∙◌, arith}
+use Rattle.std.proofs.Common.{◌≡◌, ◌+◌, true, false, inl, inr, List, [], ◌∷◌, ◌++◌, length, Some, None, refl, sym, ◌∙◌, arith}
 use Rattle.std.proofs.lemmas.Bool.{and_from, cases_Bool}
 use Rattle.std.proofs.lemmas.Grind.{common_steps}
 use Rattle.zk_transcript.specs.declared.transcript.TranscriptLine.{TranscriptLine}
@@ -9,6 +9,7 @@ use Rattle.zk_transcript.specs.History.{change}
 use Rattle.zk_transcript.specs.Legal.{begins, is_begin, is_in_order, is_legal, is_legal_from, is_legal_line, is_ordered, is_ordered_from}
 use Rattle.zk_legal.specs.Formed.{has_begun}
 use Rattle.zk_legal.specs.Faults.{comes_after_begin, has_event, history_fault, history_fault_from, is_history_line, or_empty, order_fault, order_fault_from}
+use Rattle.zx_base.proofs.Booleans.{or-other}
 
 pub legal-line : (before : List TranscriptLine) (s : State) (l : TranscriptLine) → is_history_line before s l ≡ true → is_legal_line before s l ≡ true
 unfolding is_history_line
@@ -32,16 +33,12 @@ legal-from before s (l ∷ ls) none =
     let parts = first before s l ls none in
     and_from _ _ (legal-line before s l parts.0) (legal-from (before ++ l ∷ []) (change before s l) ls parts.1)
 
-second : (a b : Bool) → a ≡ false → (a || b) ≡ true → b ≡ true
-second true b none some = absurd (cc)
-second false b none some = some
-
 -- the first of the updates and lapses is Begin
 begins-from : (before : List TranscriptLine) (s : State) (ls : List TranscriptLine) → has_begun s ≡ false → has_event ls ≡ true → history_fault_from before s ls ≡ None → begins ls ≡ true
 begins-from before s [] new event none = event
 begins-from before s (line.Update u ∷ ls) new event none =
     let parts = first before s (line.Update u) ls none in
-    second (has_begun s) (is_begin u.kind) new (after_begin-line before s (line.Update u) parts.0)
+    or-other (has_begun s) (is_begin u.kind) new (after_begin-line before s (line.Update u) parts.0)
 begins-from before s (line.Lapse revision id ∷ ls) new event none =
     let parts = first before s (line.Lapse revision id) ls none in
     let begun : has_begun s ≡ true = after_begin-line before s (line.Lapse revision id) parts.0 in

@@ -1,8 +1,8 @@
 -- What each update of a run shows is short: the paths of its triggers, and the reply to its request.
-use Rattle.std.proofs.Common.{◌≡◌, ℕ, zero, suc, ℤ, ◌+◌, ◌≤◌, Bool, true, false, ◌||◌, ◌&&◌, List, [], ◌∷◌, ◌++◌, length, take, drop, Option, Some, None, refl, sym, ap, ◌∙◌, subst, inl, inr, arith}
+use Rattle.std.proofs.Common.{◌≡◌, ℕ, zero, suc, ℤ, ◌+◌, ◌≤◌, Bool, true, ◌&&◌, List, [], ◌∷◌, ◌++◌, length, take, drop, Option, Some, None, refl, sym, ap, ◌∙◌, subst, inl, inr, arith}
 use Rattle.std.specs.Prelude.{is_some, flat_map, if◌then◌else◌, nat_lt, slice_get}
-use Rattle.std.specs.List.{AllByRecursion, list_any}
-use Rattle.std.specs.Ordering.{nat_cmp, eq_by_cmp, is_eq}
+use Rattle.std.specs.List.{AllByRecursion}
+use Rattle.std.specs.Ordering.{nat_cmp, is_eq}
 use Rattle.std.specs.Cmp.Lexicographic.{slice_cmp, nat_list_cmp_total}
 use Rattle.std.proofs.lemmas.Bool.{and_parts, cases_Bool}
 use Rattle.std.proofs.lemmas.Cmp.{tied_itself}
@@ -34,6 +34,8 @@ use Rattle.zk_legal.proofs.NoFault.{history_fault-none, legal-line}
 use Rattle.zk_legal.specs.Short.{AreShort, IsShortBody}
 use Rattle.zk_model.specs.Watches.{trigger_path}
 use Rattle.zk_legal.proofs.ShortPaths.{CommitGives, commit-gives, removal-short}
+use Rattle.zx_base.proofs.Booleans.{or-second, or-first}
+use Rattle.zx_base.proofs.Lists.{has}
 
 -- ---- the paths of a run's tree
 
@@ -66,19 +68,8 @@ run-paths before s run = subst (λ (s : State). HasPaths s.tree) (sym run.reache
 
 -- ---- the nodes of a session
 
-among : List Bytes → Bytes → Bool
-among ps p = list_any (eq_by_cmp (slice_cmp nat_cmp) p) ps
-
-first_or : (a b : Bool) → a ≡ true → (a || b) ≡ true
-first_or true b h = refl
-first_or false b h = absurd (cc)
-
-second_or : (a b : Bool) → b ≡ true → (a || b) ≡ true
-second_or true b h = refl
-second_or false b h = h
-
-owned-path : (t : Tree) (id : ℤ) (p : Bytes) → HasPaths t → among (owned t id) p ≡ true → is_path p ≡ true
-unfolding among
+owned-path : (t : Tree) (id : ℤ) (p : Bytes) → HasPaths t → has (owned t id) p ≡ true → is_path p ≡ true
+unfolding has
 owned-path t id p paths is = by_node (get t p) refl
   where
     by_node : (o : Option Node) → get t p ≡ o → is_path p ≡ true
@@ -87,11 +78,11 @@ owned-path t id p paths is = by_node (get t p) refl
         let found : is_some (if_owned id None) ≡ true = sym (ap is_some (get-owned_as t id p None none)) ∙ contains_key-keys (owned_by t id) p ∙ is in
         absurd (cc)
 
-owned-paths : (t : Tree) (id : ℤ) (ps : List Bytes) → HasPaths t → ((p : Bytes) → among ps p ≡ true → among (owned t id) p ≡ true) → AllByRecursion (λ p. is_path p ≡ true) ps
-unfolding among
+owned-paths : (t : Tree) (id : ℤ) (ps : List Bytes) → HasPaths t → ((p : Bytes) → has ps p ≡ true → has (owned t id) p ≡ true) → AllByRecursion (λ p. is_path p ≡ true) ps
+unfolding has
 owned-paths t id [] paths all = tt
 owned-paths t id (p ∷ ps) paths all =
-    (owned-path t id p paths (all p (first_or _ _ (ap is_eq (tied_itself nat_list_cmp_total p)))), owned-paths t id ps paths (λ q is. all q (second_or _ _ is)))
+    (owned-path t id p paths (all p (or-first _ _ (ap is_eq (tied_itself nat_list_cmp_total p)))), owned-paths t id ps paths (λ q is. all q (or-second _ _ is)))
 
 removals-short : (ps : List Bytes) → AllByRecursion (λ p. is_path p ≡ true) ps → AreShort (flat_map removal ps)
 removals-short [] valid = tt

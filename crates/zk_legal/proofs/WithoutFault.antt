@@ -19,6 +19,7 @@ use Rattle.zk_transcript.proofs.Histories.{first_shown-push}
 use Rattle.zk_legal.specs.Formed.{is_formed_line, is_opened}
 use Rattle.zk_legal.specs.Faults.{history_fault, history_fault_from, is_history_line, is_in_range, is_timely}
 use Rattle.zk_legal.proofs.NoFault.{first, no_fault}
+use Rattle.zx_base.proofs.Booleans.{same-from_int_eq}
 
 pub formed-line : (before : List TranscriptLine) (s : State) (l : TranscriptLine) → is_history_line before s l ≡ true → is_formed_line before s l ≡ true
 unfolding is_history_line
@@ -48,12 +49,9 @@ zxids-range lines none k u at = zxids-from [] nothing_yet lines (no_fault lines 
 
 -- ---- frames
 
-eq-zxid : (z y : ℤ) → int_eq z y ≡ true → z ≡ y
-eq-zxid z y h = grind (arith, nat_tests, ints)
-
 frame-zxid : (before : List TranscriptLine) (s : State) (c i : ℕ) (z : ℤ) (bytes : List ℕ) → is_formed_line before s (line.Frame c i z bytes) ≡ true → z ≡ s.zxid
 unfolding is_formed_line
-frame-zxid before s c i z bytes h = eq-zxid z s.zxid (and_parts _ (int_eq z s.zxid) h).1
+frame-zxid before s c i z bytes h = same-from_int_eq z s.zxid (and_parts _ (int_eq z s.zxid) h).1
 
 fresh-from : (before ls : List TranscriptLine) → history_fault_from before (after before) ls ≡ None
     → (k c i : ℕ) (z : ℤ) (bytes : List ℕ) → slice_get ls k ≡ Some (line.Frame c i z bytes) → z ≡ (after (before ++ take k ls)).zxid

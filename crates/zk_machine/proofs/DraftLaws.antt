@@ -12,6 +12,7 @@ use Rattle.zk_machine.specs.declared.write.Write.{Write}
 use Rattle.zk_machine.specs.Tallies.{tallied, tallied_all, was_child, is_child_now, is_own, was_owned, is_owned_now, found_after}
 use Rattle.zk_machine.specs.Writes.{put_or_taken, written, written_all, owner_at, AreTold}
 use Rattle.zk_machine.proofs.GroupLaws.{owned_by-put, owned_by-put_out, none_below}
+use Rattle.zx_base.proofs.Options.{is_some-map}
 
 -- ---- one write more
 
@@ -57,10 +58,6 @@ tally_child t p q (Some n) None true inside is =
     sym (ap len (retain-insert_in t (is_child p) q n inside) ∙ len-insert_new (below t p) q n (get-retain t (is_child p) q ∙ ap (λ b. cond b (get t q) None) inside ∙ is))
 tally_child t p q (Some n) (Some old) true inside is =
     sym (ap len (retain-insert_in t (is_child p) q n inside) ∙ len-insert_there (below t p) q n old (get-retain t (is_child p) q ∙ ap (λ b. cond b (get t q) None) inside ∙ is))
-
-is_some-map : {A B : Type 0} (f : A → B) (o : Option A) → is_some (option_map f o) ≡ is_some o
-is_some-map f None = refl
-is_some-map f (Some x) = refl
 
 pub children-written : (t : Tree) (ws : List Write) (p : Bytes) → AreTold t ws → tallied_all (was_child p) (is_child_now p) (num_children t p) ws ≡ num_children (written_all t ws) p
 children-written t [] p told = refl

@@ -1,5 +1,5 @@
 -- Laws of entries in order, and of the map that they make.
-use Rattle.std.proofs.Common.{◌≡◌, ◌≢◌, Bool, true, false, cond, not, None, [], ◌∷◌, length, refl, sym, ap, ◌∙◌, subst, map, T, ⊎_elim}
+use Rattle.std.proofs.Common.{◌≡◌, ◌≢◌, Bool, true, cond, not, None, [], ◌∷◌, length, refl, sym, ap, ◌∙◌, subst, map, T, ⊎_elim}
 use Rattle.std.specs.declared.cmp.Ordering.TheVariants.{Less, Equal, Greater}
 use Rattle.std.specs.Cmp.Lexicographic.{nat_list_cmp_total}
 use Rattle.std.proofs.lemmas.Map.Lookups.{exact_bytes}
@@ -9,10 +9,7 @@ use Rattle.std.specs.FinMap.Entries.{put, find, where_key, is_sorted, is_sorted-
 use Rattle.zx_base.specs.Maps.{Bytes, Map, same}
 use Rattle.zx_base.proofs.MapLaws.{ext, either, same-refl, same-false, get-retain, get-remove_same, get-remove_other}
 use Rattle.zk_machine.specs.Entries.{order, Entries, map_of}
-
-true_of : (b : Bool) → T b → b ≡ true
-true_of true h = refl
-true_of false h = absurd h
+use Rattle.zx_base.proofs.Booleans.{true-from_T}
 
 module _ {X : Type 0} where
   -- the entries of the other paths
@@ -38,7 +35,7 @@ module _ {X : Type 0} where
   put-greater path value e es is = ap (λ r. by_order r ((path, value) ∷ e ∷ es) ((e.0, value) ∷ es) (e ∷ put order path value es)) is
 
   pub sorted-put : (path : Bytes) (value : X) (es : Entries X) → is_sorted order es ≡ true → is_sorted order (put order path value es) ≡ true
-  sorted-put path value es h = true_of _ (is_sorted-put order nat_list_cmp_total path value es (subst T (sym h) tt))
+  sorted-put path value es h = true-from_T _ (is_sorted-put order nat_list_cmp_total path value es (subst T (sym h) tt))
 
   pub entries-map : (es : Entries X) → is_sorted order es ≡ true → entries (map_of es) ≡ es
   entries-map es h = entries-from_sorted order es (subst T (sym h) tt)
@@ -65,7 +62,7 @@ module _ {X : Type 0} where
   -- ---- the entries whose paths pass a test
 
   pub sorted-where : (f : Bytes → Bool) (es : Entries X) → is_sorted order es ≡ true → is_sorted order (where_key order f es) ≡ true
-  sorted-where f es h = true_of _ (is_sorted-where_key order f es (subst T (sym h) tt))
+  sorted-where f es h = true-from_T _ (is_sorted-where_key order f es (subst T (sym h) tt))
 
   find-where : (f : Bytes → Bool) (es : Entries X) (q : Bytes) → find order q (where_key order f es) ≡ cond (f q) (find order q es) None
   find-where f es q = find-where_key order f q (λ x h. ap f (sym (exact_bytes q x h))) es

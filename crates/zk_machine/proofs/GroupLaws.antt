@@ -1,5 +1,5 @@
 -- Groups of paths after a change of the tree.
-use Rattle.std.proofs.Common.{◌≡◌, ◌≢◌, ℤ, Bool, true, false, cond, not, Option, Some, None, length, List, [], ◌∷◌, refl, sym, ap, ◌∙◌, subst, map, T, ⊎_elim}
+use Rattle.std.proofs.Common.{◌≡◌, ◌≢◌, ℤ, Bool, true, false, cond, not, Option, Some, None, length, List, [], ◌∷◌, refl, sym, ap, ◌∙◌, subst, map, ⊎_elim}
 use Rattle.std.specs.declared.cmp.Ordering.TheVariants.{Less, Equal, Greater}
 use Rattle.std.specs.Cmp.Lexicographic.{nat_list_cmp_total}
 use Rattle.std.specs.List.{filter}
@@ -21,6 +21,8 @@ use Rattle.zk_service.proofs.Owned.{get-owned, get-owned_as, owned_by-gone}
 use Rattle.zk_machine.specs.Entries.{order, Entries, map_of}
 use Rattle.zk_machine.specs.Groups.{Group, Families, Owners, family, group_of, owned_group, HasFamilies, HasOwners, HasFamily, HasOwner}
 use Rattle.zk_machine.proofs.EntryLaws.{entries-empty, entries-map, others, remove-map, sorted-where}
+use Rattle.zx_base.proofs.Booleans.{true-from_T}
+use Rattle.zx_base.proofs.Options.{cond-none}
 
 -- ---- keys after a change
 
@@ -31,10 +33,6 @@ put_key k (x ∷ xs) = by_order (order k x) (k ∷ x ∷ xs) (x ∷ xs) (x ∷ p
 
 abbrev pub other_keys : Bytes → List Bytes → List Bytes
 other_keys k = filter (λ p. not (same p k))
-
-true_of : (b : Bool) → T b → b ≡ true
-true_of true h = refl
-true_of false h = absurd h
 
 module _ {X : Type 0} where
   keys-put : (k : Bytes) (v : X) (es : Entries X) → map (λ (e : Bytes × X). e.0) (put order k v es) ≡ put_key k (map (λ (e : Bytes × X). e.0) es)
@@ -59,7 +57,7 @@ module _ {X : Type 0} where
       ]
 
   in_order : (m : Map X) → is_sorted order (entries m) ≡ true
-  in_order m = true_of _ (entries_sorted m)
+  in_order m = true-from_T _ (entries_sorted m)
 
   map_of-entries : (m : Map X) → map_of (entries m) ≡ m
   map_of-entries m = same_entries_map _ _ (entries-map (entries m) (in_order m))
@@ -200,12 +198,8 @@ keys-empty X = ap (map (λ (e : Bytes × X). e.0)) entries-empty
 
 -- ---- no nodes
 
-none_both : {X : Type 0} (b : Bool) → ◌≡◌ {A = Option X} (cond b None None) None
-none_both true = refl
-none_both false = refl
-
 retain-nothing : (f : Bytes → Bool) → retain_keys (empty {X = Node} {R = order}) f ≡ empty
-retain-nothing f = ext _ _ (λ q. get-retain empty f q ∙ ap (λ o. cond (f q) o None) (get-empty order q) ∙ none_both (f q) ∙ sym (get-empty order q))
+retain-nothing f = ext _ _ (λ q. get-retain empty f q ∙ ap (λ o. cond (f q) o None) (get-empty order q) ∙ cond-none (f q) ∙ sym (get-empty order q))
 
 no_keys : (f : Bytes → Bool) → keys (retain_keys (empty {X = Node} {R = order}) f) ≡ []
 no_keys f = ap (λ (x : Tree). keys x) (retain-nothing f) ∙ keys-empty Node

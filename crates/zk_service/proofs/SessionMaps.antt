@@ -3,14 +3,13 @@ use Rattle.std.proofs.Common.{◌≡◌, ◌≢◌, ℕ, ℤ, List, [], ◌∷�
 use Rattle.std.specs.Prelude.{T, if◌then◌else◌}
 use Rattle.std.specs.Ordering.{int_eq, int_cmp, eq_by_cmp, is_eq, is_lt}
 use Rattle.std.proofs.lemmas.Bool.{and_parts}
-use Rattle.std.specs.declared.cmp.Ordering.{Ordering}
-use Rattle.std.specs.declared.cmp.Ordering.TheVariants.{Less, Equal, Greater}
 use Rattle.std.proofs.lemmas.Bool.Decides.{Decides-int_eq}
 use Rattle.std.proofs.lemmas.Cmp.{int_cmp_total, tied_itself}
 use Rattle.std.proofs.lemmas.Map.Lookups.{exact_signed}
 use Rattle.std.specs.FinMap.{get, insert, remove, entries, entries_sorted, get-entries, get-insert, get-remove, find, is_sorted}
 use Rattle.std.specs.FinMap.Entries.{below_all}
 use Rattle.zk_service.specs.States.{State, Session, Sessions, session_at, is_attached_to, attached_in, attached_session}
+use Rattle.zx_base.proofs.Orders.{equal-from_is_eq, less-from_is_lt}
 
 pub either_id : (a b : ℤ) → (a ≡ b) ⊎ (a ≢ b)
 either_id a b = by_test (int_eq a b) refl
@@ -18,11 +17,6 @@ either_id a b = by_test (int_eq a b) refl
     by_test : (t : Bool) → int_eq a b ≡ t → (a ≡ b) ⊎ (a ≢ b)
     by_test true h = inl ((Decides-int_eq a b).0 h)
     by_test false h = inr (λ e. let t = (Decides-int_eq a b).1 e in cc)
-
-equal : (o : Ordering) → is_eq o ≡ true → o ≡ Equal
-equal Less h = absurd (cc)
-equal Equal h = refl
-equal Greater h = absurd (cc)
 
 tied : ℤ → ℤ → Bool
 tied = eq_by_cmp int_cmp
@@ -36,7 +30,7 @@ unfolding tied
 tied-apart a b apart = by_test (is_eq (int_cmp a b)) refl
   where
     by_test : (t : Bool) → is_eq (int_cmp a b) ≡ t → t ≡ false
-    by_test true h = absurd (apart (exact_signed a b (equal (int_cmp a b) h)))
+    by_test true h = absurd (apart (exact_signed a b (equal-from_is_eq (int_cmp a b) h)))
     by_test false h = refl
 
 pub at-insert_same : (m : Sessions) (id : ℤ) (x : Session) → get (insert m id x) id ≡ Some x
@@ -81,17 +75,12 @@ each_session-gone Q m id all other x is = all other x (still_open m id other x i
 
 -- ---- the session that is attached to a connection is an open one
 
-less : (o : Ordering) → is_lt o ≡ true → o ≡ Less
-less Less h = refl
-less Equal h = absurd (cc)
-less Greater h = absurd (cc)
-
 -- a number below all those of the entries is not among them
 below_none : (id : ℤ) (es : List (ℤ × Session)) → below_all int_cmp id es ≡ true → find int_cmp id es ≡ None
 below_none id [] h = refl
 below_none id (e ∷ es) h =
     let both = and_parts (is_lt (int_cmp id e.0)) (below_all int_cmp id es) h in
-    ap (λ o. cond (is_eq o) (Some e.1) (find int_cmp id es)) (less (int_cmp id e.0) both.0) ∙ below_none id es both.1
+    ap (λ o. cond (is_eq o) (Some e.1) (find int_cmp id es)) (less-from_is_lt (int_cmp id e.0) both.0) ∙ below_none id es both.1
 
 attached_in-found : (c : ℕ) (es : List (ℤ × Session)) (e : ℤ × Session) → is_sorted int_cmp es ≡ true → attached_in c es ≡ Some e → find int_cmp e.0 es ≡ Some e.1
 attached_in-found c [] e sorted h = absurd (cc)
@@ -100,7 +89,7 @@ attached_in-found c (d ∷ es) e sorted h = by_test (is_attached_to c d) h (atta
     by_tie : (b : Bool) → is_eq (int_cmp e.0 d.0) ≡ b → find int_cmp e.0 es ≡ Some e.1 → cond b (Some d.1) (find int_cmp e.0 es) ≡ Some e.1
     by_tie false t later = later
     by_tie true t later =
-        let same : e.0 ≡ d.0 = exact_signed e.0 d.0 (equal (int_cmp e.0 d.0) t) in
+        let same : e.0 ≡ d.0 = exact_signed e.0 d.0 (equal-from_is_eq (int_cmp e.0 d.0) t) in
         let none = below_none d.0 es (and_parts (below_all int_cmp d.0 es) (is_sorted int_cmp es) sorted).0 in
         let found : find int_cmp d.0 es ≡ Some e.1 = subst (λ (n : ℤ). find int_cmp n es ≡ Some e.1) same later in
         cc

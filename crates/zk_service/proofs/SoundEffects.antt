@@ -1,6 +1,6 @@
 -- What a request makes of a sound tree is sound: a create in each mode, a delete, a setData, several of them, and the removal of
 -- many nodes.
-use Rattle.std.proofs.Common.{◌≡◌, ◌≢◌, ℕ, ℤ, pos, ◌+◌, ◌<◌, ◌≤◌, Bool, true, false, not, ◌&&◌, ◌||◌, length, List, [], ◌∷◌, ◌++◌, Option, Some, None, refl, sym, ◌∙◌, inl, inr, arith, ◌+ℤ◌}
+use Rattle.std.proofs.Common.{◌≡◌, ◌≢◌, ℕ, ℤ, pos, ◌+◌, ◌<◌, ◌≤◌, Bool, true, false, not, ◌&&◌, length, List, [], ◌∷◌, ◌++◌, Option, Some, None, refl, sym, ◌∙◌, inl, inr, arith, ◌+ℤ◌}
 use Rattle.std.specs.Prelude.{◌≤ℤ◌, IsTrue, ⊤, nat_le, nat_lt, nat_abs, if◌then◌else◌, ◌==◌}
 use Rattle.std.specs.List.{AllByRecursion, flat_map}
 use Rattle.std.specs.Ordering.{int_eq}
@@ -31,6 +31,7 @@ use Rattle.zk_model.proofs.SequenceParents.{parent-sequence}
 use Rattle.zk_service.proofs.Children.{num_children-change, none-from_count}
 use Rattle.zk_service.proofs.Owned.{num_owned-change}
 use Rattle.zk_service.proofs.SoundTrees.{Each, each-put, each-gone, MayOwn, sound-change, sound-new, sound-gone}
+use Rattle.zx_base.proofs.Booleans.{or-split, false-not_true, not_false}
 
 -- a sound tree under these open sessions, and what is true of each node
 pub record Holds (opened : Sessions) (Q : Bytes → Node → Type 0) (t : Tree) : Type 0 where
@@ -51,19 +52,8 @@ unless : (P : Tree → Type 0) (b : Bool) (code : ℤ) (o : Outcome) → (b ≡ 
 unless P true code o leads = tt
 unless P false code o leads = leads refl
 
-not_false : (b : Bool) → not b ≡ false → b ≡ true
-not_false true h = refl
-not_false false h = absurd (cc)
-
-or_false : (a b : Bool) → (a || b) ≡ false → (a ≡ false) × (b ≡ false)
-or_false true b h = absurd (cc)
-or_false false b h = (refl, h)
-
-false_true : {b : Bool} → b ≡ false → b ≡ true → ⊥
-false_true e f = cc
-
 not_equal : (x y : ℤ) → int_eq x y ≡ false → x ≢ y
-not_equal x y h e = false_true h ((Decides-int_eq x y).1 e)
+not_equal x y h e = false-not_true h ((Decides-int_eq x y).1 e)
 
 -- ---- the session of a request: an open one, which has this limit
 
@@ -198,7 +188,7 @@ module _ (opened : Sessions) (Q : Bytes → Node → Type 0) (t : Tree) (limit :
 
     creates_below : (up.creates +ℤ pos 1) ≤ℤ max_creates
     creates_below =
-        let apart = not_equal up.creates max_creates (or_false (int_eq up.creates max_creates) (is_ephemeral flags && nat_le limit (length (owned t session))) room).0 in
+        let apart = not_equal up.creates max_creates (or-split (int_eq up.creates max_creates) (is_ephemeral flags && nat_le limit (length (owned t session))) room).0 in
         let most = (st.sound.counted q up there).most in
         omega (arith, ints)
 
@@ -215,7 +205,7 @@ module _ (opened : Sessions) (Q : Bytes → Node → Type 0) (t : Tree) (limit :
     owned_still = num_owned-change t q above up session there refl
 
     may_own : MayOwn opened between (owner_by session flags)
-    may_own = by_mode (is_ephemeral flags) (or_false (int_eq up.creates max_creates) (is_ephemeral flags && nat_le limit (length (owned t session))) room).1 whose
+    may_own = by_mode (is_ephemeral flags) (or-split (int_eq up.creates max_creates) (is_ephemeral flags && nat_le limit (length (owned t session))) room).1 whose
       where
         by_mode : (b : Bool) → (b && nat_le limit (length (owned t session))) ≡ false → IsOpen opened limit session → MayOwn opened between (if b then session else pos 0)
         by_mode false h x = inl refl

@@ -1,11 +1,8 @@
 -- A sound tree stays sound where a session opens, changes or ends.
-use Rattle.std.proofs.Common.{◌≡◌, ◌≢◌, ℤ, pos, ◌≤◌, Bool, true, false, cond, ◌||◌, length, List, [], ◌∷◌, Option, Some, None, refl, sym, ap, ◌∙◌, ⊎_elim, arith}
+use Rattle.std.proofs.Common.{◌≡◌, ◌≢◌, ℤ, pos, ◌≤◌, Bool, true, false, cond, length, List, [], ◌∷◌, Option, Some, None, refl, sym, ap, ◌∙◌, ⊎_elim, arith}
 use Rattle.std.specs.Prelude.{◌≤ℤ◌, is_some}
-use Rattle.std.specs.List.{list_any}
-use Rattle.std.specs.Ordering.{int_eq, nat_cmp, eq_by_cmp, is_eq}
+use Rattle.std.specs.Ordering.{int_eq, nat_cmp, is_eq}
 use Rattle.std.specs.Cmp.Lexicographic.{slice_cmp, nat_list_cmp_total}
-use Rattle.std.specs.declared.cmp.Ordering.{Ordering}
-use Rattle.std.specs.declared.cmp.Ordering.TheVariants.{Less, Equal, Greater}
 use Rattle.std.proofs.lemmas.Bool.Decides.{Decides-int_eq}
 use Rattle.std.proofs.lemmas.Cmp.{tied_itself}
 use Rattle.std.proofs.lemmas.Int.{ints}
@@ -25,6 +22,9 @@ use Rattle.zk_service.proofs.Owned.{num_owned, get-owned_as}
 use Rattle.zk_service.proofs.SessionMaps.{either_id, at-insert_same, at-insert_other, at-remove_other, each_session-put, each_session-gone}
 use Rattle.zk_service.proofs.SoundTrees.{Each, each-put, still_there}
 use Rattle.zk_service.proofs.SoundEffects.{Stands, stands-removed}
+use Rattle.zx_base.proofs.Orders.{equal-from_is_eq}
+use Rattle.zx_base.proofs.Booleans.{or-second, or-neither, or-first}
+use Rattle.zx_base.proofs.Lists.{has}
 
 -- ---- a session changes, and may own what it might
 
@@ -65,41 +65,20 @@ owns_none m t id sound least none =
 
 -- ---- many nodes are removed
 
--- a path is one of these
-has : List Bytes → Bytes → Bool
-has ps p = list_any (eq_by_cmp (slice_cmp nat_cmp) p) ps
-
-equal : (o : Ordering) → is_eq o ≡ true → o ≡ Equal
-equal Less h = absurd (cc)
-equal Equal h = refl
-equal Greater h = absurd (cc)
-
-or_right : (a b : Bool) → b ≡ true → (a || b) ≡ true
-or_right true b h = refl
-or_right false b h = h
-
-or_left : (a b : Bool) → a ≡ true → (a || b) ≡ true
-or_left true b h = refl
-or_left false b h = absurd (cc)
-
-or_neither : (a b : Bool) → a ≡ false → b ≡ false → (a || b) ≡ false
-or_neither true b h k = h
-or_neither false b h k = k
-
 has-first : (p : Bytes) (ps : List Bytes) → has (p ∷ ps) p ≡ true
 unfolding has
-has-first p ps = or_left _ _ (ap is_eq (tied_itself nat_list_cmp_total p))
+has-first p ps = or-first _ _ (ap is_eq (tied_itself nat_list_cmp_total p))
 
 has-more : (p : Bytes) (ps : List Bytes) (r : Bytes) → has ps r ≡ true → has (p ∷ ps) r ≡ true
 unfolding has
-has-more p ps r h = or_right _ _ h
+has-more p ps r h = or-second _ _ h
 
 has-neither : (p : Bytes) (ps : List Bytes) (r : Bytes) → r ≢ p → has ps r ≡ false → has (p ∷ ps) r ≡ false
 unfolding has
-has-neither p ps r apart h = or_neither _ _ (by_test (is_eq (slice_cmp nat_cmp r p)) refl) h
+has-neither p ps r apart h = or-neither _ _ (by_test (is_eq (slice_cmp nat_cmp r p)) refl) h
   where
     by_test : (t : Bool) → is_eq (slice_cmp nat_cmp r p) ≡ t → t ≡ false
-    by_test true e = absurd (apart (exact_bytes r p (equal _ e)))
+    by_test true e = absurd (apart (exact_bytes r p (equal-from_is_eq _ e)))
     by_test false e = refl
 
 -- a node that is there was there before, under the same owner

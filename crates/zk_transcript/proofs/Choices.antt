@@ -9,10 +9,7 @@ use Rattle.zk_transcript.specs.History.{frame_shown}
 use Rattle.zk_transcript.specs.Walks.{Walker, Choice, Tell, Plain, Answer, Due, move, walk, placed_frame, answer_as_of, own_update, then_due, next_index, all_choices, is_past, is_fresh, are_fresh, is_not_overtaken, is_in_turn, are_in_turn}
 use Rattle.zk_transcript.proofs.Appending.{first_place-push}
 use Rattle.zk_transcript.proofs.Longer.{move-index, then_due-next, if_Some}
-
-both-true : (a b : Bool) → a ≡ true → b ≡ true → (a && b) ≡ true
-both-true true b h e = e
-both-true false b h e = absurd (cc)
+use Rattle.zx_base.proofs.Booleans.{and-both}
 
 -- what holds of the choices so far and of those that go on from there holds of all
 pub choices-append : (test : ℕ → Choice → Bool) (lines : List TranscriptLine) (c : ℕ) (id : ℤ) (w : Walker) (xs ys : List Choice) (r : Walker × List Due)
@@ -32,7 +29,7 @@ choices-append test lines c id w (x ∷ xs) ys r h f g = go (move lines c id w x
         let s = then_due-next u.1 (walk lines c id u.0 xs) r t in
         let q = and_parts (test w.next x) (all_choices test (next_index w.next x) xs) f in
         let i : u.0.next ≡ next_index w.next x = move-index lines c id w x u e in
-        both-true (test w.next x) _ q.0
+        and-both (test w.next x) _ q.0
         (subst (λ n. all_choices test n (xs ++ ys) ≡ true) i
         (later u.0 s.0 s.1 (subst (λ n. all_choices test n xs ≡ true) (sym i) q.1) (subst (λ (v : Walker). all_choices test v.next ys ≡ true) (sym s.2) g)))
 
@@ -53,7 +50,7 @@ choices-as test still lines c id one w (x ∷ xs) r h f = go (move lines c id w 
         let s = then_due-next u.1 (walk lines c id u.0 xs) r t in
         let q = and_parts (test w.next x) (all_choices test (next_index w.next x) xs) f in
         let i : u.0.next ≡ next_index w.next x = move-index lines c id w x u e in
-        both-true (still w.next x) _ (one w x u e q.0)
+        and-both (still w.next x) _ (one w x u e q.0)
         (subst (λ n. all_choices still n xs ≡ true) i (later u.0 s.0 s.1 (subst (λ n. all_choices test n xs ≡ true) (sym i) q.1)))
 
 past-push : (m c i : ℕ) (lines more : List TranscriptLine) → is_past m (placed_frame c i lines) ≡ true → is_past m (placed_frame c i (lines ++ more)) ≡ true

@@ -1,5 +1,5 @@
 -- What the line of a session's update says of the connection and of the state before it.
-use Rattle.std.proofs.Common.{◌≡◌, ℕ, List, Option, Some, None, refl, sym, Bool, true, false, ℤ, pos}
+use Rattle.std.proofs.Common.{◌≡◌, ℕ, List, Option, Some, None, refl, sym, true, false, ℤ, pos}
 use Rattle.std.specs.Prelude.{◌&&◌, ◌<ℤ◌, not, bytes_eq, is_none, int_lt, slice_get, take}
 use Rattle.std.specs.Ordering.{int_eq}
 use Rattle.std.proofs.lemmas.Bool.{and_parts}
@@ -15,14 +15,8 @@ use Rattle.zk_service.specs.States.{Session, session_at}
 use Rattle.zk_transcript.specs.History.{opening, connect, frame, state_at}
 use Rattle.zk_transcript.specs.Legal.{attach_of, asks_anew, is_id, is_legal, is_lapsed, is_next_zxid, is_resumed_by, is_small_frame, may_attach, may_update, offers}
 use Rattle.zk_transcript.proofs.Placed.{is_legal-at}
-
-is_not : (b : Bool) → not b ≡ true → b ≡ false
-is_not true h = absurd (cc)
-is_not false h = refl
-
-is_absent : {A : Type 0} (o : Option A) → is_none o ≡ true → o ≡ None
-is_absent None h = refl
-is_absent (Some x) h = absurd (cc)
+use Rattle.zx_base.proofs.Booleans.{not-true}
+use Rattle.zx_base.proofs.Options.{none-from_is_none}
 
 resumed : (id : ℤ) (o : Option ConnectRequest) (p : Option Session) → is_resumed_by id o p ≡ true
     → (r : ConnectRequest) × (x : Session) × (o ≡ Some r) × (p ≡ Some x) × (r.session ≡ id) × (r.passwd ≡ x.passwd) × (x.lapsed ≡ false)
@@ -31,7 +25,7 @@ resumed id (Some r) None h = absurd (cc)
 resumed id (Some r) (Some x) h =
     let a = and_parts (int_eq id r.session && bytes_eq r.passwd x.passwd) (not x.lapsed) h in
     let b = and_parts (int_eq id r.session) (bytes_eq r.passwd x.passwd) a.0 in
-    (r, x, refl, refl, sym ((Decides-int_eq id r.session).0 b.0), (bytes_eq-Decides r.passwd x.passwd).0 b.1, is_not x.lapsed a.1)
+    (r, x, refl, refl, sym ((Decides-int_eq id r.session).0 b.0), (bytes_eq-Decides r.passwd x.passwd).0 b.1, not-true x.lapsed a.1)
 
 pub attach-shows : (lines : List TranscriptLine) (k c : ℕ) (z id : ℤ) → is_legal lines ≡ true → slice_get lines k ≡ Some (Update (record { zxid = z; kind = Attach id c }))
     → (r : ConnectRequest) × (x : Session) × (connect c (take k lines) ≡ Some r) × (session_at id (state_at lines k) ≡ Some x) × (r.session ≡ id) × (r.passwd ≡ x.passwd) × (x.lapsed ≡ false)
@@ -69,7 +63,7 @@ session-offered lines k c z id h g =
     let e = and_parts (is_none (session_at id (state_at lines k))) (is_id id) d.0 in
     let o = offered id (opening c (take k lines)) d.1 in
     let r = anew (connect c (take k lines)) b.1 in
-    (o.0, r.0, o.1, r.1, o.2, r.2, is_absent (session_at id (state_at lines k)) e.0)
+    (o.0, r.0, o.1, r.1, o.2, r.2, none-from_is_none (session_at id (state_at lines k)) e.0)
 
 seen-less : (before : List TranscriptLine) (c : ℕ) (z : ℤ) (o : Option ConnectRequest) (r : ConnectRequest) → o ≡ Some r → may_attach before c z o ≡ true → r.last_zxid <ℤ z
 seen-less before c z None r is h = absurd (cc)

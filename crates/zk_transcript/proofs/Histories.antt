@@ -14,34 +14,27 @@ use Rattle.zk_service.specs.States.{State, Session, Commit, nothing_yet, session
 use Rattle.zk_transcript.specs.History.{asked_commit, updated, change, after, after_from, first_place, first_shown, update_in}
 use Rattle.zk_transcript.specs.Legal.{may_update, is_next_zxid, is_legal, is_legal_from, is_legal_line, begins}
 use Rattle.zk_transcript.proofs.Lookups.{first_shown-new}
+use Rattle.zx_base.proofs.Booleans.{or-second, or-other}
 
 -- ---- the next zxid
-
-or_right : (a b : Bool) → a ≡ false → (a || b) ≡ true → b ≡ true
-or_right true b is h = absurd (cc)
-or_right false b is h = h
 
 some_updates : (n : ℕ) → 1 ≤ n → (n == 0) ≡ false
 some_updates n some = grind (arith, nat_tests)
 
 pub above-next : (s : State) (z : ℤ) → 1 ≤ s.updates → is_next_zxid s z ≡ true → s.zxid <ℤ z
 above-next s z some h =
-    let up = or_right (s.updates == 0) (int_lt s.zxid z) (some_updates s.updates some) (and_parts (s.updates == 0 || int_lt s.zxid z) (int_le z max_long) h).0 in
+    let up = or-other (s.updates == 0) (int_lt s.zxid z) (some_updates s.updates some) (and_parts (s.updates == 0 || int_lt s.zxid z) (int_le z max_long) h).0 in
     grind (arith, ints, up)
 
 pub long-next : (s : State) (z : ℤ) → is_next_zxid s z ≡ true → z ≤ℤ max_long
 long-next s z h = let most = (and_parts (s.updates == 0 || int_lt s.zxid z) (int_le z max_long) h).1 in grind (arith, ints, most)
-
-or_either : (a b : Bool) → b ≡ true → (a || b) ≡ true
-or_either true b h = refl
-or_either false b h = h
 
 -- a greater zxid may come next
 pub next-above : (s : State) (z : ℤ) → s.zxid <ℤ z → z ≤ℤ max_long → is_next_zxid s z ≡ true
 next-above s z above most =
     let up : int_lt s.zxid z ≡ true = grind (arith, ints) in
     let long : int_le z max_long ≡ true = grind (arith, ints) in
-    rw (or_either (s.updates == 0) (int_lt s.zxid z) up) long
+    rw (or-second (s.updates == 0) (int_lt s.zxid z) up) long
 
 -- ---- Begin comes once
 

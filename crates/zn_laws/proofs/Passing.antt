@@ -1,5 +1,5 @@
 -- Parts of a multi that leave something on a view are carried out in each sound state that the view shows.
-use Rattle.std.proofs.Common.{◌≡◌, ℕ, ℤ, pos, Bool, true, false, not, ◌&&◌, ◌||◌, length, List, [], ◌∷◌, ◌++◌, reverse, Option, Some, None, refl, sym, ap, ◌∙◌, subst, inl, inr, ⊎_elim, append_assoc, append-nil, arith}
+use Rattle.std.proofs.Common.{◌≡◌, ℕ, ℤ, pos, Bool, true, false, not, ◌&&◌, length, List, [], ◌∷◌, ◌++◌, reverse, Option, Some, None, refl, sym, ap, ◌∙◌, subst, inl, inr, ⊎_elim, append_assoc, append-nil, arith}
 use Rattle.std.specs.Prelude.{MatchOption, nat_abs, nat_le, nat_lt, option_map, ◌≤ℤ◌, ◌≤◌, ⊤, is_some, if◌then◌else◌, ◌==◌}
 use Rattle.std.specs.FinMap.{get}
 use Rattle.std.specs.Ordering.{int_eq}
@@ -44,6 +44,7 @@ use Rattle.zn_multi.proofs.Leading.{with_first_next, small_part}
 use Rattle.zn_multi.proofs.Walking.{counts_at, counts_of, now_of, single_goes, walks_start, Finds, Goes, Walks}
 use Rattle.zn_laws.specs.Carried.{AreCarriedOut}
 use Rattle.zn_laws.proofs.Shown.{counts_shown, node_shown, owned_shown, IsIf}
+use Rattle.zx_base.proofs.Booleans.{not-true, or-neither}
 
 -- ---- what is not known, or is so
 
@@ -207,17 +208,10 @@ none_of : (o : Option Node) → now_of o ≡ None → o ≡ None
 none_of None e = refl
 none_of (Some x) e = absurd (some_none e)
 
-not_true : (b : Bool) → not b ≡ true → b ≡ false
-not_true true e = absurd (true≢false (sym e))
-not_true false e = refl
-
 -- a session that may own one node more
 room_is : (b : Bool) (n k : ℕ) → k ≡ (if b then n else 0) → nat_lt k max_owned ≡ true → (b && nat_le max_owned n) ≡ false
 room_is true n k e h = grind (arith, nat_tests)
 room_is false n k e h = refl
-
-or_false : (a b : Bool) → a ≡ false → b ≡ false → (a || b) ≡ false
-or_false a b e f = ap (λ (x : Bool). x || b) e ∙ f
 
 no_children : (n : ℕ) → int_eq (pos n) (pos 0) ≡ true → not (n == 0) ≡ false
 no_children n e = grind (arith, nat_tests, ints)
@@ -314,8 +308,8 @@ module _ (z : ℤ) (v : View) (s : State) (shown : Shows z v s) (id : ℤ) (y : 
             (ap (λ (k : Option Node). Some (counts_at k (num_children t q))) (sym here.1) ∙ sym counts_now ∙ o.counted_is))
 
         full : is_full t max_owned id f here.0 ≡ false
-        full = or_false (int_eq (here.0).creates max_creates) (is_ephemeral f && nat_le max_owned (length (owned t id)))
-            (not_true _ (ap (λ (k : CountRec). not (int_eq k.creates max_creates)) counted_is ∙ o.on))
+        full = or-neither (int_eq (here.0).creates max_creates) (is_ephemeral f && nat_le max_owned (length (owned t id)))
+            (not-true _ (ap (λ (k : CountRec). not (int_eq k.creates max_creates)) counted_is ∙ o.on))
             (room_is (is_ephemeral f) (length (owned t id)) o.owns (some_same o.owns (if is_ephemeral f then length (owned t id) else 0) (sym o.owns_is ∙ n_now)) o.room)
 
         found_at : (x : Node) → get t q ≡ Some x
@@ -385,7 +379,7 @@ module _ (z : ℤ) (v : View) (s : State) (shown : Shows z v s) (id : ℤ) (y : 
         done : IsDone (set_data t p d x z now (get t p))
         done = subst (λ (k : Option Node). IsDone (set_data t p d x z now k)) (sym here.1)
             (done_unless (not (matches x (here.0).version)) _ _ (ap not (ap (λ (w : NodeNow). matches x w.version) here.2 ∙ o.fits))
-            (done_unless (int_eq (here.0).version max_version) _ _ (not_true _ (ap (λ (w : NodeNow). not (int_eq w.version max_version)) here.2 ∙ o.below)) (_, _, _, refl)))
+            (done_unless (int_eq (here.0).version max_version) _ _ (not-true _ (ap (λ (w : NodeNow). not (int_eq w.version max_version)) here.2 ∙ o.below)) (_, _, _, refl)))
 
     check_passes : (p : Bytes) (x : ℤ) (m : List TreeChange) → CheckLeaves v changes p x (Some m) → Passes (part.Check p x) m
     unfolding effect

@@ -24,10 +24,10 @@ use Rattle.ev_types.specs.Reads.{read_key, key_range, one_found}
 use Rattle.zn_layout.specs.Changes.{KeyChange, act_of, acts_of, head_put, update_acts}
 use Rattle.zn_layout.specs.Commits.{IsCommitted}
 use Rattle.zn_layout.specs.Updates.{update_txn}
-use Rattle.zn_layout.proofs.Denials.{none_of}
 use Rattle.ev_types.proofs.Found.{found-key}
 use Rattle.zn_layout.proofs.Stands.{all_of, head_there, update_applied}
 use Rattle.ev_types.proofs.Transactions.{acts_from-append, present-worked}
+use Rattle.zx_base.proofs.Booleans.{or-split as none_of}
 
 -- ---- what was carried out
 

@@ -1,5 +1,5 @@
 -- An update's transaction isn't denied.
-use Rattle.std.proofs.Common.{◌≡◌, ◌+◌, ◌≤◌, Bool, true, false, List, [], ◌∷◌, ◌++◌, length, Option, Some, None, refl, sym, ap, ◌∙◌, subst, arith}
+use Rattle.std.proofs.Common.{◌≡◌, ◌+◌, ◌≤◌, true, false, List, [], ◌∷◌, ◌++◌, length, Option, Some, None, refl, sym, ap, ◌∙◌, subst, arith}
 use Rattle.std.specs.Prelude.{not, ◌&&◌, ◌||◌, ◌<ℤ◌}
 use Rattle.std.specs.List.{list_any, sum_by}
 use Rattle.std.proofs.lemmas.Bool.{and_parts, lt-ltb, not-true}
@@ -15,7 +15,7 @@ use Rattle.ev_types.specs.Store.{Store, Change as StoreChange, revision, last_re
 use Rattle.ev_types.specs.Denials.{names_missing, writes, puts, writes_twice, max_operations, is_full_store, chosen_acts, is_denied}
 use Rattle.ev_types.specs.Reads.{read_key, are_present_reads}
 use Rattle.ev_types.specs.Sizes.{act_size, guard_size, txn_size, max_txn_size, IsSendable}
-use Rattle.ev_types.proofs.Allowed.{both_false, reads_named, reads_once, plain-not_denied}
+use Rattle.ev_types.proofs.Allowed.{reads_named, reads_once, plain-not_denied}
 use Rattle.zk_model.specs.declared.node.Trigger.{Trigger}
 use Rattle.zx_base.specs.Maps.{Bytes, same}
 use Rattle.zx_base.proofs.MapLaws.{same-refl, same-false}
@@ -23,6 +23,7 @@ use Rattle.zn_layout.specs.Keys.{Key, HeadKey, key_bytes, same_key}
 use Rattle.zn_layout.specs.Changes.{Put, KeyChange, act_at, act_of, acts_of, head_put, update_acts, writes_key, are_distinct, has_its_lease, have_leases, put_size, change_size}
 use Rattle.zn_layout.specs.Updates.{update_txn}
 use Rattle.zn_layout.proofs.Keys.{same_key-true, same_key-false}
+use Rattle.zx_base.proofs.Booleans.{or-neither as both_false, or-split}
 
 -- ---- no key twice
 
@@ -47,10 +48,6 @@ any_writes : (k : Key) (cs : List KeyChange) (read : Bytes) → list_any (writes
 any_writes k [] read = refl
 any_writes k (c ∷ cs) read = λ i. writes-act_of k c i || any_writes k cs read i
 
-pub none_of : (a b : Bool) → (a || b) ≡ false → (a ≡ false) × (b ≡ false)
-none_of true b h = absurd cc
-none_of false b h = (refl, h)
-
 puts-none : (k : Bytes) (a : Act) → writes k a ≡ false → puts k a ≡ false
 puts-none k (act.Put q v lease) h = h
 puts-none k (act.Delete q) h = refl
@@ -59,7 +56,7 @@ puts-none k (act.Range q) h = refl
 any_puts : (k : Bytes) (acts : List Act) → list_any (writes k) acts ≡ false → list_any (puts k) acts ≡ false
 any_puts k [] h = refl
 any_puts k (a ∷ acts) h =
-    let parts = none_of (writes k a) (list_any (writes k) acts) h in
+    let parts = or-split (writes k a) (list_any (writes k) acts) h in
     both_false (puts k a) (list_any (puts k) acts) (puts-none k a parts.0) (any_puts k acts parts.1)
 
 twice-act_at : (key : Bytes) (w : Option Put) (acts : List Act) → list_any (writes key) acts ≡ false → writes_twice acts ≡ false → writes_twice (act_at key w ∷ acts) ≡ false

@@ -1,5 +1,5 @@
 -- The first state: the root alone.
-use Rattle.std.proofs.Common.{◌≡◌, ◌≢◌, ℕ, pos, Bool, true, false, cond, [], Option, Some, None, refl, sym, ap, ◌∙◌}
+use Rattle.std.proofs.Common.{◌≡◌, ◌≢◌, ℕ, pos, Bool, false, cond, [], Some, None, refl, sym, ap, ◌∙◌}
 use Rattle.std.specs.Ordering.{nat_cmp}
 use Rattle.std.specs.Cmp.Lexicographic.{slice_cmp}
 use Rattle.std.specs.FinMap.{get, insert, retain_keys, empty, len, get-empty, len-empty}
@@ -8,6 +8,7 @@ use Rattle.zk_model.specs.Paths.{root, parent, at_last_slash, is_child}
 use Rattle.zk_model.specs.Znodes.{Tree, num_children, new_node}
 use Rattle.zx_base.specs.Maps.{Bytes}
 use Rattle.zx_base.proofs.MapLaws.{get-insert_same, get-insert_other, get-retain, retain-insert_out, ext}
+use Rattle.zx_base.proofs.Options.{cond-none}
 
 -- ---- the tree
 
@@ -22,12 +23,8 @@ first_other now p n = get-insert_other empty root p _ n ∙ get-empty (slice_cmp
 
 -- ---- its parts
 
-either_none : {X : Type 0} (b : Bool) → ◌≡◌ {A = Option X} (cond b None None) None
-either_none true = refl
-either_none false = refl
-
 no_part : {X : Type 0} (f : Bytes → Bool) → retain_keys (empty {X = X} {R = slice_cmp nat_cmp}) f ≡ empty
-no_part f = ext _ _ (λ q. get-retain empty f q ∙ ap (λ o. cond (f q) o None) (get-empty (slice_cmp nat_cmp) q) ∙ either_none (f q) ∙ sym (get-empty (slice_cmp nat_cmp) q))
+no_part f = ext _ _ (λ q. get-retain empty f q ∙ ap (λ o. cond (f q) o None) (get-empty (slice_cmp nat_cmp) q) ∙ cond-none (f q) ∙ sym (get-empty (slice_cmp nat_cmp) q))
 
 root-no_child : (p : Bytes) → is_child p root ≡ false
 unfolding is_child parent at_last_slash

@@ -3,8 +3,6 @@ use Rattle.std.proofs.Common.{◌≡◌, ◌≢◌, ℕ, ℤ, pos, Bool, true, f
 use Rattle.std.specs.Prelude.{◌&&◌, ◌++◌}
 use Rattle.std.specs.Option.{option_map}
 use Rattle.std.specs.Ordering.{int_eq, int_cmp, is_eq, eq_by_cmp}
-use Rattle.std.specs.declared.cmp.Ordering.{Ordering}
-use Rattle.std.specs.declared.cmp.Ordering.TheVariants.{Less, Equal, Greater}
 use Rattle.std.specs.Cmp.{int_cmp_total}
 use Rattle.std.specs.FinMap.{get, get-insert}
 use Rattle.std.proofs.lemmas.Bool.{and_from, false≢true}
@@ -23,19 +21,16 @@ use Rattle.zk_service.specs.States.{State, Session, session_at, lapsed_in}
 use Rattle.zx_base.specs.Maps.{Bytes}
 use Rattle.zn_layout.specs.Keys.{Key, HeadKey, DataKey, CountsKey, SessionKey, LeaseKey, front, key_bytes}
 use Rattle.zn_layout.specs.StandsFor.{Stored, stored_of, at, DataMeans, CountsMean, NodesMean, LifeMeans, Means, HeadMeans, StandsFor}
+use Rattle.zx_base.proofs.Orders.{equal-from_is_eq}
+use Rattle.zx_base.proofs.Booleans.{and-first}
 
 -- ---- sessions by their numbers
-
-equal : (o : Ordering) → is_eq o ≡ true → o ≡ Equal
-equal Less h = cc
-equal Equal h = refl
-equal Greater h = cc
 
 number_itself : (n : ℤ) → eq_by_cmp int_cmp n n ≡ true
 number_itself n = ap is_eq (tied_itself int_cmp_total n)
 
 number_other : (n k : ℤ) → n ≢ k → eq_by_cmp int_cmp n k ≡ false
-number_other n k apart = elim (is_eq (int_cmp n k)) as (λ b. is_eq (int_cmp n k) ≡ b → b ≡ false) [ true ↦ λ h. absurd (apart (exact_signed n k (equal _ h))) | false ↦ λ h. refl ] refl
+number_other n k apart = elim (is_eq (int_cmp n k)) as (λ b. is_eq (int_cmp n k) ≡ b → b ≡ false) [ true ↦ λ h. absurd (apart (exact_signed n k (equal-from_is_eq _ h))) | false ↦ λ h. refl ] refl
 
 -- the session after its lapse
 abbrev lapsed_now : Session → Session
@@ -171,10 +166,6 @@ module _ (id : ℤ) (low : is_lease id ≡ true) where
       };
     }
 
-lease_low : (b c : Bool) → (b && c) ≡ true → b ≡ true
-lease_low true c h = refl
-lease_low false c h = cc
-
 pub lapse-stands : (s new : Store) (id : ℤ) (st : State) → StandsFor (present s) st → lapse s id ≡ Some new → StandsFor (present new) (lapsed_in st id (session_at id st))
 lapse-stands s new id st h e =
-    stands_lapsed id (lease_low (is_lease id) _ (lapse-there s new id e)) (present s) (present new) (λ k. lapse-keys s new id k e) st h
+    stands_lapsed id (and-first (is_lease id) _ (lapse-there s new id e)) (present s) (present new) (λ k. lapse-keys s new id k e) st h

@@ -3,7 +3,6 @@ use Rattle.std.proofs.Common.{◌≡◌, ◌≢◌, ℤ, ◌+◌, ◌<◌, Bool,
 use Rattle.std.specs.Prelude.{T, map, IsTrue}
 use Rattle.std.specs.Ordering.{nat_cmp, is_lt, is_eq, eq_by_cmp, ordering_then}
 use Rattle.std.specs.declared.cmp.Ordering.{Ordering}
-use Rattle.std.specs.declared.cmp.Ordering.TheVariants.{Less, Equal, Greater}
 use Rattle.std.proofs.lemmas.Cmp.{tied_itself, nat_cmp_total}
 use Rattle.std.proofs.lemmas.Map.Lookups.{exact_bytes}
 use Rattle.std.specs.Cmp.Lexicographic.{slice_cmp, nat_list_cmp_total}
@@ -26,6 +25,8 @@ use Rattle.zn_layout.specs.Listing.{child_front, children_from, children_end, ch
 use Rattle.zn_layout.proofs.Lookups.{data_found, node_stored}
 use Rattle.zn_layout.proofs.Paths.{path_short}
 use Rattle.zn_layout.proofs.Ranges.{depth-length, is_within-counts, is_within-head, is_within-session, is_within-lease, is_within-child, is_within-front, begins-rest, child-key, child-from_range}
+use Rattle.zx_base.proofs.Orders.{equal-from_is_eq}
+use Rattle.zx_base.proofs.Options.{none_some}
 
 -- ---- lists of keys in order are determined by what they contain
 units : List Bytes → List (Bytes × Unit {0})
@@ -84,19 +85,11 @@ unfolding units
 find_front before r [] = refl
 find_front before r (k ∷ ks) = λ i. cond (is_eq (order_front before r k i)) (Some tt) (find_front before r ks i)
 
-equal : (r : Ordering) → is_eq r ≡ true → r ≡ Equal
-equal Less h = cc
-equal Equal h = refl
-equal Greater h = cc
-
-some_none : {X : Type 0} {x : X} → None ≡ Some x → ⊥
-some_none e = cc
-
 from_front : (before k : Bytes) (ks : List Bytes) → find order k (units (map (λ r. before ++ r) ks)) ≡ Some tt → (r : Bytes) × (k ≡ before ++ r)
 unfolding units
-from_front before k [] h = absurd (some_none h)
+from_front before k [] h = absurd (none_some h)
 from_front before k (r ∷ ks) h = elim (is_eq (order k (before ++ r))) as (λ b. is_eq (order k (before ++ r)) ≡ b → cond b (Some tt) (find order k (units (map (λ r. before ++ r) ks))) ≡ Some tt → (r : Bytes) × (k ≡ before ++ r)) [
-  | true ↦ λ e _. (r, exact_bytes k (before ++ r) (equal _ e))
+  | true ↦ λ e _. (r, exact_bytes k (before ++ r) (equal-from_is_eq _ e))
   | false ↦ λ _ h. from_front before k ks h
 ] refl h
 
@@ -122,7 +115,7 @@ there m k x h = find_keys m k ∙ ap erased h
 
 from_erased : {X : Type 0} (o : Option X) → erased o ≡ Some tt → (x : X) × (o ≡ Some x)
 unfolding erased
-from_erased None h = absurd (some_none h)
+from_erased None h = absurd (none_some h)
 from_erased (Some x) h = (x, refl)
 
 from_there : {X : Type 0} (m : Map X) (k : Bytes) → find order k (units (keys m)) ≡ Some tt → (x : X) × (get m k ≡ Some x)
@@ -130,7 +123,7 @@ from_there m k h = from_erased (get m k) (sym (find_keys m k) ∙ h)
 
 keep_true : {X : Type 0} (b : Bool) (o : Option X) (x : X) → cond b o None ≡ Some x → (b ≡ true) × (o ≡ Some x)
 keep_true true o x h = (refl, h)
-keep_true false o x h = absurd (some_none h)
+keep_true false o x h = absurd (none_some h)
 
 -- ---- valid paths
 

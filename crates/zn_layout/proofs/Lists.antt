@@ -17,17 +17,15 @@ use Rattle.zn_layout.specs.ReadingSteps.{IsValidPath, IsValidTrigger, IsPathOf, 
 use Rattle.zk_jute.proofs.Lengths.{length-int_bytes}
 use Rattle.zn_layout.proofs.Nodes.{int_same}
 use Rattle.zn_layout.proofs.Paths.{path_short}
+use Rattle.zx_base.proofs.Numbers.{pos-same}
 
 -- ---- a count, and a text after its length
 
 count_fits : (n : ℕ) → n < 2 ^ 31 → FitsSigned w32 (pos n)
 count_fits n lt = record { sfits = lt }
 
-pos_same : (m n : ℕ) → pos m ≡ pos n → m ≡ n
-pos_same m n e = cc
-
 pub counts_same : (m n : ℕ) (r s : Bytes) → m < 2 ^ 31 → n < 2 ^ 31 → count_bytes m ++ r ≡ count_bytes n ++ s → (m ≡ n) × (r ≡ s)
-counts_same m n r s lm ln e = let both = int_same (pos m) (pos n) r s (count_fits m lm) (count_fits n ln) e in (pos_same m n both.0, both.1)
+counts_same m n r s lm ln e = let both = int_same (pos m) (pos n) r s (count_fits m lm) (count_fits n ln) e in (pos-same m n both.0, both.1)
 
 -- two texts of one length
 fronts_same : (p q r s : Bytes) → length p ≡ length q → p ++ r ≡ q ++ s → (p ≡ q) × (r ≡ s)

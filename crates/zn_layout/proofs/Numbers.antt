@@ -1,11 +1,10 @@
 -- Numbers as bytes, and back, with other bytes after them.
 use Rattle.std.proofs.Common.{◌≡◌, ℕ, ◌+◌, ◌-◌, ◌*◌, ◌^◌, ◌<◌, ◌≤◌, ◌/◌, ◌%◌, zero, suc, ℤ, [], ◌∷◌, ◌++◌, length, take, drop, get_or, refl, sym, ap, ◌∙◌, arith}
-use Rattle.std.specs.Int.{w32, w64, byte_at, bytes_high_first, cast_signed, cast_unsigned}
+use Rattle.std.specs.Int.{w32, w64, bytes_high_first, cast_signed, cast_unsigned}
 use lib.Signed.{mag}
 use mir.Val.{to_z, of_z}
 use Rattle.std.specs.Int.RustNames.{FitsSigned}
 use Rattle.std.proofs.lemmas.Int.{to_z-of_z, of_z-to_z, ints}
-use Rattle.std.proofs.Math.Nat.{mod-lt}
 use Rattle.std.proofs.lemmas.Nat.{div-mul-add, mod-mul-add}
 use Rattle.std.proofs.lemmas.List.{append-nil, length-drop, length-take-le, take_all, take-append-drop, drop_at}
 use Rattle.byteorder.specs.Endian.{big_number, big_from, big_bytes}
@@ -13,6 +12,7 @@ use Rattle.byteorder.specs.Numbers.{big_number-reads_back, big_from-cons, big_fr
 use Rattle.zk_jute.specs.JuteWriting.{int_bytes, long_bytes}
 use Rattle.zk_jute.proofs.Lengths.{length-int_bytes, length-long_bytes}
 use Rattle.zx_base.specs.Maps.{Bytes}
+use Rattle.zx_base.proofs.Numbers.{byte_at-below}
 
 -- each of these numbers is below 256
 abbrev pub AreBytes : Bytes → Type 0
@@ -27,13 +27,9 @@ front_bytes (suc n) [] h k = omega arith
 front_bytes (suc n) (x ∷ xs) h zero = h 0
 front_bytes (suc n) (x ∷ xs) h (suc k) = front_bytes n xs (rest_bytes x xs h) k
 
-byte_small : (k n : ℕ) → byte_at k n < 256
-byte_small zero n = mod-lt n (omega arith)
-byte_small (suc k) n = mod-lt (n / 256 ^ suc k) (omega arith)
-
 AreBytes-made : (n x : ℕ) → AreBytes (bytes_high_first n x)
 AreBytes-made zero x k = omega arith
-AreBytes-made (suc n) x zero = byte_small n x
+AreBytes-made (suc n) x zero = byte_at-below n x
 AreBytes-made (suc n) x (suc k) = AreBytes-made n x k
 
 -- ---- the bytes of the number in the first n bytes are those bytes

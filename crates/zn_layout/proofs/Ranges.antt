@@ -18,6 +18,7 @@ use Rattle.zk_model.proofs.PathScans.{at_last_slash-append}
 use Rattle.zk_service.proofs.Children.{AreParented}
 use Rattle.zn_layout.specs.Keys.{HeadKey, DataKey, CountsKey, SessionKey, LeaseKey, four_digits, node_key, session_key, key_bytes}
 use Rattle.zn_layout.specs.Listing.{base, child_front, children_from, children_end}
+use Rattle.zx_base.proofs.Booleans.{and-both, and-first, and-second}
 
 -- ---- a range from a front to the same front with its last byte raised by one
 
@@ -50,28 +51,16 @@ is_between-front [] c (x ∷ k) = at_end c x k
 is_between-front (a ∷ s) c [] = refl
 is_between-front (a ∷ s) c (x ∷ k) = step x a _ _ _ (is_between-front s c k)
 
-and_first : (a b : Bool) → (a && b) ≡ true → a ≡ true
-and_first true b h = refl
-and_first false b h = h
-
-and_second : (a b : Bool) → (a && b) ≡ true → b ≡ true
-and_second true b h = h
-and_second false b h = cc
-
-and_both : (a b : Bool) → a ≡ true → b ≡ true → (a && b) ≡ true
-and_both true b h k = k
-and_both false b h k = h
-
 pub begins-rest : (s k : Bytes) → begins s k ≡ true → (rest : Bytes) × (k ≡ s ++ rest)
 begins-rest [] k h = (k, refl)
 begins-rest (a ∷ s) [] h = cc
 begins-rest (a ∷ s) (x ∷ k) h =
-    let r = begins-rest s k (and_second _ _ h) in
-    (r.0, λ i. eqb-true x a (and_first _ _ h) i ∷ r.1 i)
+    let r = begins-rest s k (and-second _ _ h) in
+    (r.0, λ i. eqb-true x a (and-first _ _ h) i ∷ r.1 i)
 
 begins-append : (s rest : Bytes) → begins s (s ++ rest) ≡ true
 begins-append [] rest = refl
-begins-append (a ∷ s) rest = and_both _ _ (eq-eqb a a refl) (begins-append s rest)
+begins-append (a ∷ s) rest = and-both _ _ (eq-eqb a a refl) (begins-append s rest)
 
 -- ---- the range of a node's children
 

@@ -1,20 +1,15 @@
 -- Paths each of which stands before the next.
-use Rattle.std.proofs.Common.{◌≡◌, ℕ, zero, suc, ◌+◌, ◌-◌, ◌<◌, ◌≤◌, true, false, List, [], ◌∷◌, length, get_or, ⊎_elim, refl, sym, ap, ◌∙◌, arith}
+use Rattle.std.proofs.Common.{◌≡◌, ℕ, zero, suc, ◌+◌, ◌-◌, ◌<◌, ◌≤◌, true, false, List, [], ◌∷◌, length, get_or, ⊎_elim, sym, ap, ◌∙◌, arith}
 use Rattle.std.specs.List.Sorted.{IsStrictlySortedBy}
 use Rattle.std.specs.Ordering.{nat_cmp, is_lt}
 use Rattle.std.specs.Cmp.Lexicographic.{slice_cmp, nat_list_cmp_total}
-use Rattle.std.specs.declared.cmp.Ordering.{Ordering}
-use Rattle.std.specs.declared.cmp.Ordering.TheVariants.{Less, Equal, Greater}
+use Rattle.std.specs.declared.cmp.Ordering.TheVariants.{Less}
 use Rattle.std.proofs.lemmas.Bool.{cases_lt}
 use Rattle.std.proofs.lemmas.List.{get_or_default}
 use Rattle.std.proofs.lemmas.Map.Keys.{sorted_from_all_adjacent}
 use Rattle.ev_types.specs.Ranges.{comes_before}
 use Rattle.zx_base.specs.Maps.{Bytes}
-
-less : (o : Ordering) → is_lt o ≡ true → o ≡ Less
-less Less h = refl
-less Equal h = cc
-less Greater h = cc
+use Rattle.zx_base.proofs.Orders.{less-from_is_lt}
 
 -- each stands before the next, below an index
 abbrev pub AreRisingTo : ℕ → List Bytes → Type 0
@@ -31,7 +26,7 @@ rising-more ps i p q low high left right before so_far k lt = ⊎_elim
     let at = neighbours ps i p q low high left right in
     let here : k ≡ i - 1 = omega arith in
     let next : k + 1 ≡ i = omega arith in
-    (λ j. slice_cmp nat_cmp (get_or ps (here j) []) (get_or ps (next j) [])) ∙ (λ j. slice_cmp nat_cmp (sym at.0 j) (sym at.1 j)) ∙ less (slice_cmp nat_cmp p q) before)
+    (λ j. slice_cmp nat_cmp (get_or ps (here j) []) (get_or ps (next j) [])) ∙ (λ j. slice_cmp nat_cmp (sym at.0 j) (sym at.1 j)) ∙ less-from_is_lt (slice_cmp nat_cmp p q) before)
     (cases_lt (k + 1) i)
 
 pub rising-sorted : (ps : List Bytes) (i : ℕ) → length ps ≤ i → AreRisingTo i ps → IsStrictlySortedBy (slice_cmp nat_cmp) ps

@@ -15,6 +15,7 @@ use Rattle.zn_view.specs.declared.snapshot.SeenKey.{SeenKey}
 use Rattle.zn_view.specs.Laying.{placed, with_laid}
 use Rattle.zn_view.specs.Seen.{View, seen, seen_in}
 use Rattle.zn_multi.specs.Laying.{all_laid, found_of, laid, laid_view, seen_of, with_act, with_acts}
+use Rattle.zx_base.proofs.Booleans.{or-swap, or-again}
 
 -- the bytes of two keys are the same exactly where the keys are
 same_bytes : (k l : Key) (b : Bool) → same (key_bytes k) (key_bytes l) ≡ b → same_key k l ≡ b
@@ -77,20 +78,11 @@ last-laid (w ∷ ws) c k h = elim (same (key_bytes w.key) (key_bytes c.key)) as 
 
 -- ---- each key stays once
 
-or_swap : (a b c : Bool) → (a || (b || c)) ≡ (b || (a || c))
-or_swap true true c = refl
-or_swap true false c = refl
-or_swap false b c = refl
-
-or_twice : (a b : Bool) → (a || b) ≡ (a || (a || b))
-or_twice true b = refl
-or_twice false b = refl
-
 any_laid : (x : Key) (ws : List KeyChange) (c : KeyChange) → list_any (writes_key x) (laid ws c) ≡ (writes_key x c || list_any (writes_key x) ws)
 any_laid x [] c = refl
 any_laid x (w ∷ ws) c = elim (same (key_bytes w.key) (key_bytes c.key)) as (λ b. same (key_bytes w.key) (key_bytes c.key) ≡ b → list_any (writes_key x) (cond b (c ∷ ws) (w ∷ laid ws c)) ≡ (writes_key x c || (writes_key x w || list_any (writes_key x) ws))) [
-  | true ↦ λ e. or_twice (writes_key x c) (list_any (writes_key x) ws) ∙ ap (λ (k : Key). writes_key x c || (same_key x k || list_any (writes_key x) ws)) (sym (one_key w.key c.key e))
-  | false ↦ λ e. ap (λ b. writes_key x w || b) (any_laid x ws c) ∙ or_swap (writes_key x w) (writes_key x c) (list_any (writes_key x) ws)
+  | true ↦ λ e. or-again (writes_key x c) (list_any (writes_key x) ws) ∙ ap (λ (k : Key). writes_key x c || (same_key x k || list_any (writes_key x) ws)) (sym (one_key w.key c.key e))
+  | false ↦ λ e. ap (λ b. writes_key x w || b) (any_laid x ws c) ∙ or-swap (writes_key x w) (writes_key x c) (list_any (writes_key x) ws)
 ] refl
 
 pub distinct-laid : (ws : List KeyChange) (c : KeyChange) → are_distinct ws ≡ true → are_distinct (laid ws c) ≡ true

@@ -26,7 +26,6 @@ use Rattle.zn_view.proofs.Narrowing.{narrowed-agrees}
 use Rattle.zn_view.proofs.Tested.{expired-decides, moved-decides, tree-decides}
 use Rattle.zn_updates.specs.Deciding.{IsAttached}
 use Rattle.zn_updates.specs.Layers.{Shows}
-use Rattle.zn_updates.proofs.Meanings.{int_eq-is}
 use Rattle.zn_updates.proofs.Telling.{shows, told}
 use Rattle.zn_multi.specs.Carrying.{no_progress, AreShort, Runs}
 use Rattle.zn_multi.specs.Deciding.{AreOwnedLoads, IsByLife, IsInTurn, IsPlannedAs, read_keys, refused}
@@ -37,6 +36,7 @@ use Rattle.zn_multi.proofs.Needs.{plain_few, whole_seen}
 use Rattle.zn_multi.proofs.Settling.{by_tree, open_is}
 use Rattle.zn_multi.proofs.Planned.{is_plan, is_asked, guards_reads, writes_once}
 use Rattle.zn_multi.proofs.Taking.{is_taken}
+use Rattle.zx_base.proofs.Booleans.{same-from_int_eq as int_eq-is}
 
 pub record IsPromised (parts : List Part) (who : Who) (now : ℕ) (v : View) (plan : Plan) : Type 0 where
   pub good : IsGood (req.Multi parts) who now v plan

@@ -33,6 +33,7 @@ use Rattle.zn_view.specs.Leaving.{are_seen, counts_after, counts_with, create_ch
 use Rattle.zn_view.specs.Seen.{View, seen}
 use Rattle.zn_view.specs.Views.{counts_of_parent}
 use Rattle.zn_multi.specs.Reading.{Left}
+use Rattle.zx_base.proofs.Booleans.{not_false}
 
 pub unless : (P : Tree → Type 0) (b : Bool) (code : ℤ) (o : Outcome) → Leads P o → Leads P (if b then Refused code else o)
 unless P true code o leads = tt
@@ -46,10 +47,6 @@ tested P false code o leads = leads refl
 pub leads_of : (P : Tree → Type 0) (refusal : Option ℤ) (o : Outcome) → (refusal ≡ None → Leads P o) → Leads P (unless_refused refusal o)
 leads_of P (Some code) o leads = tt
 leads_of P None o leads = leads refl
-
-not_false : (b : Bool) → not b ≡ false → b ≡ true
-not_false true e = refl
-not_false false e = absurd (true≢false e)
 
 -- a new node stands below the parent that was tested
 pub made_below : (flags : ℤ) (path q : Bytes) (up : Node) → parent (named flags path) ≡ Some q → parent (made_path flags path up) ≡ Some q

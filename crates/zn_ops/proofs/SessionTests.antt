@@ -15,7 +15,6 @@ use Rattle.zn_view.specs.Asks.{WritesOnce}
 use Rattle.zn_view.specs.Deciding.{IfPlanned, IsGood, IsTested, IsTestedBy, IsToldByForm, is_by_tree}
 use Rattle.zn_view.specs.Keeping.{IsKeepable}
 use Rattle.zn_updates.specs.Deciding.{IsAttached, IsBySound, IsGuarded}
-use Rattle.zn_updates.proofs.Meanings.{int_eq-same}
 use Rattle.zn_view.specs.declared.plan.Decision.{Decision}
 use Rattle.zn_view.specs.declared.plan.Decision.TheVariants.{Answered, Planned, Expired, Moved}
 use Rattle.zn_view.specs.declared.plan.Who.{Who}
@@ -24,6 +23,7 @@ use Rattle.zn_view.specs.Needs.{life_want, IsWhole}
 use Rattle.zn_view.specs.Seen.{View}
 use Rattle.zn_view.specs.Views.{IsDecision, live}
 use Rattle.zn_view.proofs.Tested.{expired-decides, moved-decides, tree-decides}
+use Rattle.zx_base.proofs.Booleans.{same-int as int_eq-same}
 
 pub life-looked_up : (r : Request) (who : Who) (v : View) → plain_request no_watches r ≡ None → IsWhole r who v → HasSeen v (LeaseKey (nat_abs who.session))
 life-looked_up r who v plain whole = λ none. whole plain (life_want who.session) (inr (inl refl)) none

@@ -28,8 +28,9 @@ use Rattle.zn_updates.specs.OwnedLists.{placed}
 use Rattle.zn_updates.specs.Right.{with_tree}
 use Rattle.zn_updates.specs.Seen.{IsSeenCounts, IsSeenPaths}
 use Rattle.zn_updates.proofs.ListBounds.{placed-within}
-use Rattle.zn_updates.proofs.Meanings.{below_most, data_along, data_same, counts_along, nodes_along, int_eq-same, int_eq-apart, session_is, session_other, time_within, zero_within}
+use Rattle.zn_updates.proofs.Meanings.{below_most, data_along, data_same, counts_along, nodes_along, int_eq-apart, session_is, session_other, time_within, zero_within}
 use Rattle.zn_updates.proofs.OwnedLists.{owned-create}
+use Rattle.zx_base.proofs.Booleans.{same-int as int_eq-same}
 
 pub one_more-within : (c : CountRec) → IsCountRec c → int_eq c.creates max_creates ≡ false → IsCountRec (one_more c)
 one_more-within c within room =

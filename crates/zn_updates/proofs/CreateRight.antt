@@ -24,7 +24,8 @@ use Rattle.zn_updates.specs.Choices.{Refuse, Make, put_owned, create_changes, cr
 use Rattle.zn_updates.specs.OwnedLists.{placed}
 use Rattle.zn_updates.specs.Right.{IsRight}
 use Rattle.zn_updates.proofs.CreateFits.{create_fits, create_owned_fits}
-use Rattle.zn_updates.proofs.Meanings.{int_eq-is, zero_within}
+use Rattle.zn_updates.proofs.Meanings.{zero_within}
+use Rattle.zx_base.proofs.Booleans.{same-from_int_eq as int_eq-is}
 
 few_paths : (ps : List Bytes) → nat_le max_owned (length ps) ≡ false → length ps < 2 ^ 31 - 1
 few_paths ps h = grind (arith, nat_tests)

@@ -1,5 +1,5 @@
 -- The decision of a delete is what is promised of it.
-use Rattle.std.proofs.Common.{◌^◌, ◌<◌, ◌≡◌, ◌≢◌, ℕ, ◌≤◌, ℤ, pos, true, false, Bool, cond, List, [], ◌∷◌, ◌++◌, Option, Some, None, refl, sym, ap, ◌∙◌, subst, inl, inr, ⊎_elim, length, arith}
+use Rattle.std.proofs.Common.{◌^◌, ◌<◌, ◌≡◌, ◌≢◌, ℕ, ◌≤◌, ℤ, pos, true, false, cond, List, [], ◌∷◌, ◌++◌, Option, Some, None, refl, sym, ap, ◌∙◌, subst, inl, inr, ⊎_elim, length, arith}
 use Rattle.std.specs.Prelude.{◌≤ℤ◌, All, not, nat_abs, map, IsTrue, ◌&&◌}
 use Rattle.std.proofs.lemmas.List.Elements.{All-cons, All-nil}
 use Rattle.std.specs.FinMap.{get}
@@ -61,10 +61,7 @@ use Rattle.zn_updates.proofs.WellMade.{delete-made, paths-listed, two_triggers}
 use Rattle.zn_updates.proofs.Meanings.{int_eq-apart, of_abs}
 use Rattle.zn_updates.proofs.Showing.{data-shown, counts-shown, paths-shown}
 use Rattle.zn_updates.proofs.Telling.{shows, told}
-
-both : (a b : Bool) → (a && b) ≡ true → (a ≡ true) × (b ≡ true)
-both true b h = (refl, h)
-both false b h = absurd (cc)
+use Rattle.zx_base.proofs.Booleans.{and-split}
 
 not_root : (p : Bytes) → not (same p root) ≡ true → p ≢ root
 not_root p h e = let t : same p root ≡ true = ap (λ (x : Bytes). same x root) e ∙ same-refl root in let f : not true ≡ true = sym (ap not t) ∙ h in cc
@@ -144,7 +141,7 @@ module _ (p : Bytes) (version : ℤ) where
 
   pub orphan_chosen : (who : Who) (v : View) → (is_path p && not (same p root)) ≡ true → parent p ≡ None → IsChosen (Delete p version) who v (λ now. Refuse no_node)
   orphan_chosen who v valid none = record {
-    right = λ s z now time sound shown y opened. effect_is s who.session z now valid ∙ no_parent s z sound (not_root p (both _ _ valid).1) none (get s.tree p) refl;
+    right = λ s z now time sound shown y opened. effect_is s who.session z now valid ∙ no_parent s z sound (not_root p (and-split _ _ valid).1) none (get s.tree p) refl;
     same_code = λ now. refl;
   }
 
@@ -282,7 +279,7 @@ module _ (p : Bytes) (version : ℤ) where
   module _ (who : Who) (v : View) (now : ℕ) (valid : (is_path p && not (same p root)) ≡ true) (time : now < 2 ^ 62) (real : pos 1 ≤ℤ who.session) (whole : IsWhole (req.Delete p version) who v) (d : Decision) where
     module _ (q : Bytes) (below : parent p ≡ Some q) (is : IsDelete v p version who.session (Some q) d) where
       path : is_path p ≡ true
-      path = (both _ _ valid).0
+      path = (and-split _ _ valid).0
 
       abbrev keys : List Key
       keys = delete_keys p (Some q) who.session (owner_seen is.0)

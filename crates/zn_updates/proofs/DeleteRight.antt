@@ -23,7 +23,7 @@ use Rattle.zn_updates.specs.Choices.{Choice, Refuse, Make, delete_changes, delet
 use Rattle.zn_updates.specs.Right.{IsRight}
 use Rattle.zn_updates.proofs.Deleting.{delete_tree}
 use Rattle.zn_updates.proofs.DeleteFits.{delete_fits, delete_owned_fits}
-use Rattle.zn_updates.proofs.Meanings.{int_eq-is, int_eq-same}
+use Rattle.zx_base.proofs.Booleans.{same-from_int_eq as int_eq-is, same-int as int_eq-same}
 
 is_zero : (n : ℕ) → int_eq (pos n) (pos 0) ≡ eqb n 0
 is_zero n = grind (arith, nat_tests, ints)

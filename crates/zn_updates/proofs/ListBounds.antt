@@ -1,6 +1,6 @@
 -- The list of a session's nodes keeps its bounds where a path comes or goes.
-use Rattle.std.proofs.Common.{◌≡◌, ◌+◌, ◌<◌, ◌≤◌, ◌^◌, ◌-◌, Bool, true, false, cond, not, List, [], ◌∷◌, length, refl, ap, ◌∙◌, arith}
-use Rattle.std.specs.Prelude.{All, IsTrue, filter}
+use Rattle.std.proofs.Common.{◌≡◌, ◌+◌, ◌<◌, ◌≤◌, ◌^◌, ◌-◌, not, List, [], ◌∷◌, length, refl, ap, ◌∙◌, arith}
+use Rattle.std.specs.Prelude.{All, IsTrue}
 use Rattle.std.specs.List.{AllByRecursion}
 use Rattle.std.specs.List.Sorted.{IsStrictlySortedBy}
 use Rattle.std.specs.Ordering.{nat_cmp}
@@ -16,6 +16,7 @@ use Rattle.zk_model.specs.Paths.{is_path}
 use Rattle.zx_base.specs.Maps.{Bytes, same}
 use Rattle.zn_layout.specs.Records.{IsSessionRec}
 use Rattle.zn_updates.specs.OwnedLists.{placed, without}
+use Rattle.zx_base.proofs.Lists.{filter-length}
 
 abbrev order : Bytes → Bytes → Ordering
 order = slice_cmp nat_cmp
@@ -80,13 +81,6 @@ placed-within p ps valid few within = record {
   valid = placed-valid p ps valid within.valid;
   rising = placed-rising p ps within.rising;
 }
-
-filter-length : {X : Type 0} (f : X → Bool) (xs : List X) → length (filter f xs) ≤ length xs
-filter-length f [] = omega arith
-filter-length f (x ∷ xs) = elim (f x) as (λ b. length (cond b (x ∷ filter f xs) (filter f xs)) ≤ length (x ∷ xs)) [
-  | true ↦ let h = filter-length f xs in omega (arith, h)
-  | false ↦ let h = filter-length f xs in omega (arith, h)
-]
 
 pub without-length : (p : Bytes) (ps : List Bytes) → length (without p ps) ≤ length ps
 without-length p ps = filter-length (λ q. not (same p q)) ps

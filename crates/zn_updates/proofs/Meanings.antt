@@ -4,12 +4,12 @@ use Rattle.std.proofs.lemmas.Bool.{eqb-false, true≢false}
 use Rattle.std.specs.Prelude.{◌≤ℤ◌, nat_abs, nat_eq}
 use Rattle.std.specs.Ordering.{int_eq}
 use Rattle.std.proofs.lemmas.Int.{ints}
-use Rattle.std.proofs.lemmas.Bool.Decides.{Decides-int_eq}
 use Rattle.zx_base.specs.Maps.{Bytes}
 use Rattle.zk_model.specs.declared.node.Node.{Node}
 use Rattle.zk_service.specs.States.{Session}
 use Rattle.zn_layout.specs.Records.{node_value, counts_value, IsLongCount, IsNodeRec, IsCountRec}
 use Rattle.zn_layout.specs.StandsFor.{Stored, data_record, DataMeans, CountsMean, NodesMean}
+use Rattle.zx_base.proofs.Booleans.{same-from_int_eq, same-int}
 
 -- a node whose data stay
 pub data_same : (o : Option Stored) (x y : Node) → ((c : ℤ) → data_record x c ≡ data_record y c) → y.czxid ≡ x.czxid → y.mzxid ≡ x.mzxid → DataMeans (Some x) o → DataMeans (Some y) o
@@ -50,17 +50,11 @@ nodes_along (Some y) a b o same h = subst (λ (ps : List Bytes). NodesMean (Some
 
 -- ---- the numbers of sessions
 
-pub int_eq-is : (a b : ℤ) → int_eq a b ≡ true → a ≡ b
-int_eq-is a b h = (Decides-int_eq a b).0 h
-
-pub int_eq-same : (a b : ℤ) → a ≡ b → int_eq a b ≡ true
-int_eq-same a b h = (Decides-int_eq a b).1 h
-
 pub int_eq-apart : (a b : ℤ) → (a ≡ b → ⊥) → int_eq a b ≡ false
-int_eq-apart a b h = elim (int_eq a b) as (λ t. int_eq a b ≡ t → t ≡ false) [ true ↦ λ e. absurd (h (int_eq-is a b e)) | false ↦ λ e. refl ] refl
+int_eq-apart a b h = elim (int_eq a b) as (λ t. int_eq a b ≡ t → t ≡ false) [ true ↦ λ e. absurd (h (same-from_int_eq a b e)) | false ↦ λ e. refl ] refl
 
 pub below_most : (n most : ℤ) → n ≤ℤ most → int_eq n most ≡ false → (n +ℤ pos 1) ≤ℤ most
-below_most n most h apart = let far : n ≡ most → ⊥ = λ e. true≢false (sym (int_eq-same n most e) ∙ apart) in omega (arith, ints)
+below_most n most h apart = let far : n ≡ most → ⊥ = λ e. true≢false (sym (same-int n most e) ∙ apart) in omega (arith, ints)
 
 pub of_abs : (id : ℤ) → pos 0 ≤ℤ id → pos (nat_abs id) ≡ id
 of_abs id h = omega (arith, ints)

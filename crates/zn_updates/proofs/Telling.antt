@@ -24,7 +24,7 @@ use Rattle.zn_updates.specs.declared.seen.SeenCounts.{SeenCounts}
 use Rattle.zn_updates.specs.Making.{IsDataSeen, IsCountsSeen, IsPathsSeen, data_of}
 use Rattle.zn_updates.specs.Seen.{IsDataWithin, IsSeenData, ShowsData, ShowsCounts, ShowsOwned}
 use Rattle.zn_updates.specs.Layers.{stored_own, IsPutBelow, Shows}
-use Rattle.zn_updates.proofs.Meanings.{int_eq-is}
+use Rattle.zx_base.proofs.Booleans.{same-from_int_eq as int_eq-is}
 
 -- each key but the head has what was seen
 abbrev pub Tells : View → Keys → Type 0

@@ -1,5 +1,5 @@
 -- In a store each key names itself, so a range shows what is kept under its keys.
-use Rattle.std.proofs.Common.{◌≡◌, ℕ, ◌+◌, ℤ, pos, Bool, true, false, cond, ◌&&◌, List, [], ◌∷◌, map, drop, take, Option, Some, None, refl, sym, ap, ◌∙◌, ⊎_elim}
+use Rattle.std.proofs.Common.{◌≡◌, ℕ, ◌+◌, ℤ, pos, Bool, true, false, cond, List, [], ◌∷◌, map, drop, take, Option, Some, None, refl, sym, ap, ◌∙◌, ⊎_elim}
 use Rattle.std.specs.Prelude.{T, All, filter, if◌then◌else◌}
 use Rattle.std.specs.Ordering.{nat_cmp, is_lt, is_eq}
 use Rattle.std.specs.declared.cmp.Ordering.{Ordering}
@@ -21,6 +21,7 @@ use Rattle.zx_base.proofs.Options.{none_some, some_is}
 use Rattle.zn_view.specs.declared.want.Want.TheVariants as want
 use Rattle.zn_view.specs.Asks.{children_start, children_until, is_child_of, kept_under, path_in, paths_in, range_of}
 use Rattle.zn_view.specs.Views.{children_kept}
+use Rattle.zx_base.proofs.Booleans.{T-first, T-second}
 
 -- ---- each key of a store names itself
 
@@ -78,18 +79,10 @@ apart_if_less Less h = refl
 apart_if_less Equal h = absurd h
 apart_if_less Greater h = absurd h
 
-and_first : (a b : Bool) → T (a && b) → T a
-and_first true b h = tt
-and_first false b h = h
-
-and_second : (a b : Bool) → T (a && b) → T b
-and_second true b h = h
-and_second false b h = absurd h
-
 none-below : (q : Bytes) (es : List (Bytes × Kv)) → T (below_all order q es) → find order q es ≡ None
 none-below q [] h = refl
 none-below q (e ∷ es) h =
-    ap (λ (b : Bool). cond b (Some e.1) (find order q es)) (apart_if_less (order q e.0) (and_first (is_lt (order q e.0)) (below_all order q es) h)) ∙ none-below q es (and_second (is_lt (order q e.0)) (below_all order q es) h)
+    ap (λ (b : Bool). cond b (Some e.1) (find order q es)) (apart_if_less (order q e.0) (T-first (is_lt (order q e.0)) (below_all order q es) h)) ∙ none-below q es (T-second (is_lt (order q e.0)) (below_all order q es) h)
 
 find-later : (k : Bytes) (x : Kv) (e : Bytes × Kv) (es : List (Bytes × Kv)) (b : Bool) → is_eq (order k e.0) ≡ b → T (below_all order e.0 es) → find order k es ≡ Some x → cond b (Some e.1) (find order k es) ≡ Some x
 find-later k x e es true is below h =
@@ -100,10 +93,10 @@ find-later k x e es false is below h = h
 entries-each : (P : Bytes → Kv → Type 0) (es : List (Bytes × Kv)) → T (is_sorted order es) → ((k : Bytes) (x : Kv) → find order k es ≡ Some x → P k x) → All (λ (e : Bytes × Kv). P e.0 e.1) es
 entries-each P [] sorted h = All-nil (λ (e : Bytes × Kv). P e.0 e.1)
 entries-each P (e ∷ es) sorted h =
-    let below = and_first (below_all order e.0 es) (is_sorted order es) sorted in
+    let below = T-first (below_all order e.0 es) (is_sorted order es) sorted in
     All-cons (λ (y : Bytes × Kv). P y.0 y.1) e es
     (h e.0 e.1 (ap (λ (o : Ordering). cond (is_eq o) (Some e.1) (find order e.0 es)) (tied_itself nat_list_cmp_total e.0)))
-    (entries-each P es (and_second (below_all order e.0 es) (is_sorted order es) sorted) (λ k x f. h k x (find-later k x e es (is_eq (order k e.0)) refl below f)))
+    (entries-each P es (T-second (below_all order e.0 es) (is_sorted order es) sorted) (λ k x f. h k x (find-later k x e es (is_eq (order k e.0)) refl below f)))
 
 pub map-each : (P : Bytes → Kv → Type 0) (m : Keys) → ((k : Bytes) (x : Kv) → get m k ≡ Some x → P k x) → All (λ (e : Bytes × Kv). P e.0 e.1) (entries m)
 map-each P m h = entries-each P (entries m) (entries_sorted m) (λ k x f. h k x (get-entries m k ∙ f))

@@ -1,8 +1,7 @@
 -- The session test: what the record of a session's life says of the session, and the decisions that follow.
-use Rattle.std.proofs.Common.{◌≡◌, ℕ, ℤ, pos, negsuc, refl, sym, ap, ◌∙◌, subst, arith, Bool, true, false}
+use Rattle.std.proofs.Common.{◌≡◌, ℕ, ℤ, pos, refl, sym, ap, ◌∙◌, subst, Bool, true, false}
 use Rattle.std.specs.Prelude.{Option, Some, None, nat_abs, ◌≤ℤ◌, if◌then◌else◌, MatchBool}
 use Rattle.std.specs.Ordering.{int_eq}
-use Rattle.std.proofs.lemmas.Int.{ints}
 use Rattle.ev_types.specs.declared.answer.Kv.{Kv}
 use Rattle.ev_types.specs.Ranges.{Keys}
 use Rattle.zk_model.specs.declared.request.Request.{Request}
@@ -19,6 +18,7 @@ use Rattle.zn_view.specs.Laws.{LivesAs, life_seen}
 use Rattle.zn_view.specs.Seen.{View}
 use Rattle.zn_view.specs.Views.{Agrees, IsByForm, IsBySession, IsByTree, IsDecision, IsOf, live}
 use Rattle.zn_view.proofs.AsSeen.{agrees-seen}
+use Rattle.zx_base.proofs.Numbers.{pos-abs}
 
 -- ---- a session by the record of its life
 
@@ -31,13 +31,9 @@ lives-means id None (Some kv) h = absurd h
 lives-means id (Some x) None h = live-lapsed x true h
 lives-means id (Some x) (Some kv) h = (x, live-lapsed x false h.alive, h.attached)
 
-numbered : (id : ℤ) → pos 1 ≤ℤ id → pos (nat_abs id) ≡ id
-numbered (pos n) h = refl
-numbered (negsuc n) h = absurd (omega (arith, ints, h))
-
 pub session-lives : (m : Keys) (s : State) (id : ℤ) → pos 1 ≤ℤ id → StandsFor m s → LivesAs (at m (LeaseKey (nat_abs id))) (live (session_at id s))
 session-lives m s id least stands =
-    subst (λ (i : ℤ). LivesAs (at m (LeaseKey (nat_abs id))) (live (session_at i s))) (numbered id least)
+    subst (λ (i : ℤ). LivesAs (at m (LeaseKey (nat_abs id))) (live (session_at i s))) (pos-abs id least)
     (lives-means (nat_abs id) (session_at (pos (nat_abs id)) s) (at m (LeaseKey (nat_abs id))) (stands.each (LeaseKey (nat_abs id))))
 
 -- ---- decisions

@@ -36,7 +36,7 @@ use Rattle.zs_session.specs.declared.connect.ConnectStep.{ConnectStep}
 use Rattle.zs_session.specs.declared.connect.ConnectStep.TheVariants as steps
 use Rattle.zs_session.specs.declared.connect.Fresh.{Fresh}
 use Rattle.zx_base.proofs.Options.{none_some, some_is}
-use Rattle.zp_laws.proofs.Cases.{either, of_alive, of_txn}
+use Rattle.zp_laws.proofs.Cases.{of_alive, of_txn}
 use Rattle.zp_laws.proofs.Ending.{notices-only, only_sends}
 use Rattle.zp_laws.proofs.Going.{close-sends}
 use Rattle.zp_laws.proofs.Keeping.{PlansBeside, first-or-anew, leaves-beside}
@@ -62,6 +62,7 @@ use Rattle.zp_step.specs.declared.input.Input.TheVariants as input
 use Rattle.zp_conn.specs.Answered.{AreAnswered, AreAnswers, AreReplies, HasAnswered, IsAtWork, IsNotice, IsReplyTo, IsServed, is_answered}
 use Rattle.zp_conn.specs.Driving.{IsTimely, awaits_frame}
 use Rattle.zp_conn.specs.Turning.{listed}
+use Rattle.zx_base.proofs.Booleans.{either}
 
 -- ---- replies
 

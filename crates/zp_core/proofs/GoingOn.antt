@@ -21,7 +21,8 @@ use Rattle.zp_step.specs.Taking.{TakesFrame, TakesReadable, plainly}
 use Rattle.zp_core.specs.Going.{GoesOn}
 use Rattle.zp_core.specs.Held.{IsFrame, IsHeld, IsHeldIn, IsReal, IsServing}
 use Rattle.zp_core.proofs.Beside.{PlansBeside, first-or-anew}
-use Rattle.zp_core.proofs.HeldAfter.{either, takes_up-held}
+use Rattle.zp_core.proofs.HeldAfter.{takes_up-held}
+use Rattle.zx_base.proofs.Booleans.{either}
 
 pub goes_on-rests : (now : ℕ) (c : Core) (first : List Action) → (c.stage ≡ Ready → ⊥) ⊎ (c.waiting ≡ []) → GoesOn now c first c first
 goes_on-rests now c first why = record { later = []; goes = rests why refl refl; joined = sym (append-nil first) }

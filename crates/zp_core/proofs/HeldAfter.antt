@@ -54,6 +54,7 @@ use Rattle.zp_step.specs.Stages.{Core, Pending, Stage, Unconnected, Connecting, 
 use Rattle.zp_step.specs.Steps.{Answers, Comes, Handles, IsFit, with_frame_counted, queued}
 use Rattle.zp_step.specs.Taking.{TakesFrame, TakesReadable, end_of_plain, plainly}
 use Rattle.zp_core.specs.Held.{IsFrame, IsHeld, IsHeldIn, IsReal, IsRequest, IsServing}
+use Rattle.zx_base.proofs.Booleans.{either}
 
 -- ---- a request that came in a frame
 
@@ -84,10 +85,6 @@ revision-parts v (want.Children p ∷ ws) (a ∷ more) = revision-parts (with_pa
 
 pub is-held : (x : Core × List Action) (c' : Core) (out : List Action) → Is x c' out → IsHeld x.0 → IsHeld c'
 is-held x c' out i h = subst IsHeld (sym i.0) h
-
-pub either : (b : Bool) (P Q R : Type 0) → MatchBool b P Q → (P → R) → (Q → R) → R
-either true P Q R h f g = f h
-either false P Q R h f g = g h
 
 module _ (c : Core) (real : IsReal c.who.session) (frames : All IsFrame c.waiting) where
   after-held : (ends : Option Cause) (zxid cursor : ℤ) (w : Watches) (next : ℕ) → IsHeld (record c { stage = stage_after ends; zxid = zxid; cursor = cursor; watches = w; next = next })

@@ -1,5 +1,5 @@
 -- What is done by the revision of the record of the session's life.
-use Rattle.std.proofs.Common.{◌≡◌, ℕ, ℤ, Bool, true, false, List, refl, subst}
+use Rattle.std.proofs.Common.{◌≡◌, ℕ, ℤ, false, List, subst}
 use Rattle.std.proofs.lemmas.Bool.Decides.{Decides-int_eq}
 use Rattle.std.specs.Prelude.{Option, Some, None, MatchBool, option_map}
 use Rattle.std.specs.Ordering.{int_eq}
@@ -14,13 +14,10 @@ use Rattle.zp_step.specs.Looking.{expired, moved}
 use Rattle.zp_step.specs.Replies.{Is, waits}
 use Rattle.zp_step.specs.Stages.{Core}
 use Rattle.zp_step.specs.Taking.{TakesFrame}
+use Rattle.zx_base.proofs.Booleans.{false-unless_true}
 
 abbrev pub put_at : Option Kv → Option ℤ
 put_at o = option_map (λ (kv : Kv). kv.mod_revision) o
-
-not-true : (b : Bool) → (b ≡ true → ⊥) → b ≡ false
-not-true true h = absurd (h refl)
-not-true false h = refl
 
 module _ (c : Core) (bytes : List ℕ) (v : View) (now : ℕ) (c' : Core) (out : List Action) where
   pub still-none : (o : Option Kv) → None ≡ put_at o → Is (waits c (expired v (xid_of (read_request bytes)))) c' out → StillMine c bytes v now c' out o
@@ -38,5 +35,5 @@ module _ (c : Core) (bytes : List ℕ) (v : View) (now : ℕ) (c' : Core) (out :
   -- another attachment put it
   pub by-other : (found : ℤ) → (found ≡ c.who.mine → ⊥) → Is (waits c (moved c.who v found (xid_of (read_request bytes)))) c' out → ByPut found
   by-other found other h =
-      let test : int_eq found c.who.mine ≡ false = not-true (int_eq found c.who.mine) (λ e. other ((Decides-int_eq found c.who.mine).0 e)) in
+      let test : int_eq found c.who.mine ≡ false = false-unless_true (int_eq found c.who.mine) (λ e. other ((Decides-int_eq found c.who.mine).0 e)) in
       rw test h

@@ -48,7 +48,8 @@ use Rattle.zp_step.proofs.Shutting.{steps-open}
 use Rattle.zp_laws.proofs.Keeping.{PlansBeside, first-or-anew, leaves-beside}
 use Rattle.zp_laws.specs.Ending.{CountsOn, IsNumbered, comes_in}
 use Rattle.zp_laws.specs.Frames.{is_served, next_frame, waits_from}
-use Rattle.zp_laws.proofs.Cases.{either, of_alive, of_txn}
+use Rattle.zp_laws.proofs.Cases.{of_alive, of_txn}
+use Rattle.zx_base.proofs.Booleans.{either}
 
 -- ---- a count of 64 bits
 

@@ -37,11 +37,11 @@ use Rattle.zp_step.specs.declared.action.Action.TheVariants as action
 use Rattle.zp_laws.specs.Frames.{AreFrames, IsFrameAt, is_open, waits_from}
 use Rattle.zp_laws.specs.Standing.{AreViewsOf, IsBoundPlan, IsForTree, IsFreshLook, IsViewOf, Knows, Matches, Stands, StandsOpen, is_ahead}
 use Rattle.zp_laws.specs.Walking.{IsAheadIn, Walks, sends}
-use Rattle.zp_laws.proofs.Cases.{either}
 use Rattle.zp_laws.proofs.Counting.{counted-small}
 use Rattle.zp_laws.proofs.Keeping.{views-of, views-used}
 use Rattle.zp_laws.proofs.Strides.{UpTo, held-after, placed, strides-none, strides-one, turn-next, walks-append, walks-is}
 use Rattle.zp_laws.proofs.WalkMoves.{plain-move}
+use Rattle.zx_base.proofs.Booleans.{either}
 
 -- the next frame is at work, and those that wait come after it
 pub record Works (store : Store) (lines : List TranscriptLine) (conn : ℕ) (c : Core) (w : Walker) (bytes : List ℕ) : Type 0 where

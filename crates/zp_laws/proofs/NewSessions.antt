@@ -27,7 +27,8 @@ use Rattle.zn_view.proofs.Committing.{zxid-least}
 use Rattle.zs_session.specs.declared.connect.Fresh.{Fresh}
 use Rattle.zp_laws.specs.Opening.{IsOpened}
 use Rattle.zs_session.specs.Sessions.{first_life, new_session_changes, new_session_guards, new_session_txn}
-use Rattle.zs_session.proofs.SessionKeys.{length-none, no_triggers-within, guarded-absent, nodes-none, opened, life-fits, nodes-fit}
+use Rattle.zs_session.proofs.SessionKeys.{no_triggers-within, guarded-absent, nodes-none, opened, life-fits, nodes-fit}
+use Rattle.zx_base.proofs.Lists.{no-length as length-none}
 
 -- ---- the timeout
 

@@ -46,10 +46,11 @@ use Rattle.zp_step.specs.declared.input.Input.{Input}
 use Rattle.zp_step.specs.declared.input.Input.TheVariants as input
 use Rattle.zp_step.proofs.Shutting.{steps-open}
 use Rattle.zp_laws.specs.Ending.{asked_by}
-use Rattle.zp_laws.proofs.Cases.{either, of_alive, of_txn}
+use Rattle.zp_laws.proofs.Cases.{of_alive, of_txn}
 use Rattle.zp_laws.proofs.Ending.{asks-nothing, notices-only}
 use Rattle.zp_laws.specs.Planning.{IsPlannedAt}
 use Rattle.zp_laws.proofs.Keeping.{PlansBeside, first-or-anew}
+use Rattle.zx_base.proofs.Booleans.{either}
 
 planned-is : (now : ℕ) (x : Core × List Action) (c' : Core) (out : List Action) → Is x c' out → IsPlannedAt now x.0.stage → IsPlannedAt now c'.stage
 planned-is now x c' out i h = subst (λ (d : Core). IsPlannedAt now d.stage) (sym i.0) h

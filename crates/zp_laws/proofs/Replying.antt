@@ -1,14 +1,12 @@
 -- A reply is sent, or waits for the entries up to its number.
-use Rattle.std.proofs.Common.{◌≡◌, ℕ, ◌+◌, ◌≤◌, ◌<◌, List, [], ◌∷◌, ◌++◌, length, take, drop, refl, sym, ap, ◌∙◌, subst, arith, Bool, true, false, ℤ, pos, inr}
+use Rattle.std.proofs.Common.{◌≡◌, ℕ, ◌+◌, ◌≤◌, ◌<◌, List, [], ◌∷◌, ◌++◌, length, take, refl, sym, ap, ◌∙◌, subst, arith, Bool, true, false, ℤ, pos, inr}
 use Rattle.std.specs.Prelude.{Option, Some, None, is_some, ◌≤ℤ◌, map, All, nat_le, nat_lt, int_le, if◌then◌else◌}
 use Rattle.std.specs.Ordering.{int_eq}
-use Rattle.std.specs.List.{list_all}
 use Rattle.std.proofs.lemmas.Int.{ints}
-use Rattle.std.proofs.lemmas.Bool.{and_from, and_parts}
+use Rattle.std.proofs.lemmas.Bool.{and_from}
 use Rattle.std.proofs.lemmas.Bool.Decides.{nat_tests, Decides-int_eq}
-use Rattle.std.proofs.lemmas.List.{map-append, length-take-le, take-append-drop}
+use Rattle.std.proofs.lemmas.List.{map-append, length-take-le}
 use Rattle.std.proofs.lemmas.List.Elements.{All-nil, All-cons, All-append}
-use Rattle.std.proofs.lemmas.List.Folds.{list_all-append}
 use Rattle.ev_types.specs.Store.{Store}
 use Rattle.zk_jute.specs.Packets.{reply_packet, notice_packet}
 use Rattle.zk_model.specs.Watches.{is_unarmed}
@@ -18,7 +16,7 @@ use Rattle.zk_transcript.specs.Legal.{index_shown, is_below_place, is_legal}
 use Rattle.zk_transcript.specs.Walks.{Answer, Due, Walker, after_place, after_update, due_notices, fired_above, is_not_overtaken, is_past, later_of, may_answer_at, move, placed_frame, update_shown}
 use Rattle.zk_service.specs.declared.cause.Cause.{Cause}
 use Rattle.zk_transcript.specs.declared.transcript.TranscriptLine.{TranscriptLine}
-use Rattle.zx_base.proofs.Lists.{slice_get-take}
+use Rattle.zx_base.proofs.Lists.{slice_get-take, all-take}
 use Rattle.zk_transcript.proofs.Walks.{first_place-bound}
 use Rattle.zk_least.proofs.Answering.{answer-move}
 use Rattle.zk_least.proofs.Firing.{after-line}
@@ -85,9 +83,6 @@ notices-sent k ns = due-notices k ns ∙ sym (sends-notices ns)
 pub notices-up : (n k : ℕ) (ns : List Notice) → k ≤ n → All (UpTo n) (due_notices k ns)
 notices-up n k [] h = All-nil (UpTo n)
 notices-up n k (x ∷ ns) h = All-cons (UpTo n) (k, notice_packet x) (due_notices k ns) h (notices-up n k ns h)
-
-all-take : {A : Type 0} (test : A → Bool) (m : ℕ) (xs : List A) → list_all test xs ≡ true → list_all test (take m xs) ≡ true
-all-take test m xs h = (and_parts (list_all test (take m xs)) (list_all test (drop m xs)) (sym (list_all-append test (take m xs) (drop m xs)) ∙ ap (list_all test) (take-append-drop m xs) ∙ h)).0
 
 since-bound : (lines : List TranscriptLine) (z : ℤ) (looked : ℕ) → after_update z (take looked lines) ≤ length (take looked lines)
 since-bound lines z looked = go (first_place (update_shown z) 0 (take looked lines)) refl

@@ -1,5 +1,5 @@
 -- A key that has one mod_revision at two revisions of a store has one value there, and guards that hold show what was seen.
-use Rattle.std.proofs.Common.{◌≡◌, ℕ, zero, suc, ◌+◌, ◌≤◌, ◌<◌, List, [], ◌∷◌, ◌++◌, length, take, refl, sym, ap, ◌∙◌, subst, arith, Bool, true, false, ℤ, pos, append_assoc, inl, inr, ⊎_elim}
+use Rattle.std.proofs.Common.{◌≡◌, ℕ, suc, ◌+◌, ◌≤◌, ◌<◌, List, [], ◌∷◌, ◌++◌, length, take, refl, sym, ap, ◌∙◌, subst, arith, Bool, true, false, ℤ, pos, append_assoc, inl, inr, ⊎_elim}
 use Rattle.std.specs.Prelude.{Option, Some, None, ◌⊎◌, if◌then◌else◌, All, Contains}
 use Rattle.std.specs.Cmp.Lexicographic.{slice_cmp}
 use Rattle.std.specs.FinMap.{empty, get, get-empty}
@@ -7,7 +7,6 @@ use Rattle.std.specs.List.{list_all}
 use Rattle.std.specs.Ordering.{nat_cmp}
 use Rattle.std.proofs.lemmas.Bool.{and_parts}
 use Rattle.std.proofs.lemmas.Bool.Decides.{Decides-int_eq}
-use Rattle.std.proofs.lemmas.Int.{ints}
 use Rattle.std.proofs.lemmas.List.Elements.{All-cons, All-contains, All-head, All-nil, All-tail, All-weaker}
 use Rattle.ev_types.specs.declared.answer.Kv.{Kv}
 use Rattle.ev_types.specs.declared.ask.Guard.{Guard}
@@ -22,6 +21,8 @@ use Rattle.zn_view.specs.Seen.{View, seen, seen_in}
 use Rattle.zn_view.specs.Views.{Agrees, MayCommit, WasPut}
 use Rattle.zn_view.specs.declared.plan.Plan.{Plan}
 use Rattle.zn_view.specs.declared.snapshot.SeenKey.{SeenKey}
+use Rattle.zx_base.proofs.Numbers.{pos-same}
+use Rattle.zx_base.proofs.Lists.{take-more}
 
 -- ---- when a key was put
 
@@ -71,12 +72,6 @@ keys_from-append r m (cs ∷ xs) ys =
     let e : (r + 1) + length xs ≡ r + length (cs ∷ xs) = omega arith in
     keys_from-append (r + 1) (after_changes (pos r) m cs) xs ys ∙ ap (λ n. keys_from n (keys_from (r + 1) (after_changes (pos r) m cs) xs) ys) e
 
-take-more : {A : Type 0} (a b : ℕ) (xs : List A) → a ≤ b → (more : List A) × (take b xs ≡ take a xs ++ more)
-take-more zero b xs h = (take b xs, refl)
-take-more (suc a) zero xs h = absurd (omega (arith, h))
-take-more (suc a) (suc b) [] h = ([], refl)
-take-more (suc a) (suc b) (x ∷ xs) h = let r = take-more a b xs (omega (arith, h)) in (r.0, ap (λ l. x ∷ l) r.1)
-
 -- each key of a store was put at a revision of it
 put-at : (s : Store) (a : ℕ) (k : Bytes) (kv : Kv) → get (store_at s a) k ≡ Some kv → IsPutFrom 1 (length (take a s.revisions)) kv
 unfolding store_at
@@ -94,9 +89,6 @@ since-at s a b k kv le h =
       | inl p ↦ inl (p.revision, omega (arith, p.least), p.put)
       | inr f ↦ inr f
     ]
-
-pos-same : (m n : ℕ) → pos m ≡ pos n → m ≡ n
-pos-same m n h = omega (arith, ints, h)
 
 one-value : (s : Store) (a b : ℕ) (k : Bytes) (x y : Kv) → a ≤ b → get (store_at s a) k ≡ Some x → get (store_at s b) k ≡ Some y → x.mod_revision ≡ y.mod_revision → get (store_at s a) k ≡ Some y
 one-value s a b k x y le hx hy e = elim (since-at s a b k y le hy) [

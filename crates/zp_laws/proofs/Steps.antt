@@ -60,7 +60,7 @@ use Rattle.zp_laws.specs.Frames.{AreFrames, IsAtWork, IsFrameAt, is_open, is_ser
 use Rattle.zp_laws.specs.Inputs.{IsNextFrame, IsOfEarlierIn, IsOwn, IsReady, Precedes, StoodAt, is_answer, is_first}
 use Rattle.zp_laws.specs.Standing.{AreViewsOf, IsFreshLook, IsPastFrame, IsViewOf, IsNoView, IsReply, IsViewAt, Knows, Matches, Stands, StandsOpen, has_looked}
 use Rattle.zp_laws.specs.Walking.{Walks}
-use Rattle.zp_laws.proofs.Cases.{either, of_alive, open-unless}
+use Rattle.zp_laws.proofs.Cases.{of_alive, open-unless}
 use Rattle.zp_laws.proofs.Carried.{WasDone, done-reply, done-view}
 use Rattle.zp_laws.proofs.Deciding.{Sees, expired-walks, moved-walks, view-walks}
 use Rattle.zp_laws.proofs.Entering.{entry-walks}
@@ -69,6 +69,7 @@ use Rattle.zp_laws.proofs.Going.{Works, asking-walks, beside-walks, goes-walks, 
 use Rattle.zp_laws.proofs.Parts.{found-there, revision-kept, wanted-seen}
 use Rattle.zp_laws.proofs.Replying.{Busy, waits-walks}
 use Rattle.zp_laws.proofs.Strides.{ahead-now, strides-none, walks-append, walks-is}
+use Rattle.zx_base.proofs.Booleans.{either}
 
 -- ---- closes
 

@@ -40,9 +40,10 @@ use Rattle.zp_laws.specs.Frames.{AreFrames}
 use Rattle.zp_laws.specs.Standing.{IsFreshLook, IsViewOf, Stands, is_ahead}
 use Rattle.zp_laws.specs.Walking.{sends}
 use Rattle.zp_laws.specs.Welcomes.{IsAttachment, IsRefusal, IsSilent, IsWelcome, is_connecting, is_entry}
-use Rattle.zp_laws.proofs.Cases.{either, open-unless}
+use Rattle.zp_laws.proofs.Cases.{open-unless}
 use Rattle.zp_laws.proofs.Going.{goes-walks}
 use Rattle.zp_laws.proofs.Strides.{turn-next, walks-if}
+use Rattle.zx_base.proofs.Booleans.{either}
 
 -- ---- from the welcome on
 

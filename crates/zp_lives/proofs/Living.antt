@@ -31,12 +31,12 @@ use Rattle.zp_step.specs.declared.action.Action.{Action}
 use Rattle.zp_step.specs.declared.input.Input.TheVariants as input
 use Rattle.zp_step.specs.declared.input.Input.{Input}
 use Rattle.zp_world_laws.proofs.Accounts.{open-accounted}
-use Rattle.zp_world_laws.proofs.Kept.{true-false}
 use Rattle.zp_world_laws.proofs.Numbers.{conn-here}
 use Rattle.zp_world_laws.proofs.Running.{first-accounted}
 use Rattle.zp_world_laws.specs.Accounting.{IsAccounted}
 use Rattle.zs_session.specs.declared.connect.Fresh.{Fresh}
 use Rattle.zx_base.proofs.Options.{none_some, some_is}
+use Rattle.zx_base.proofs.Booleans.{true-not_false as true-false}
 
 -- ---- what was asked and answered, over a first step
 

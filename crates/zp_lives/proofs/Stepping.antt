@@ -54,7 +54,6 @@ use Rattle.zp_world_laws.proofs.Actions.{Asks, Closes, Rests, Split, Tail, asked
 use Rattle.zp_world_laws.proofs.Arrivals.{core-of}
 use Rattle.zp_world_laws.proofs.Arriving.{Arrived, Queues, Shuts, arrived, is_busy}
 use Rattle.zp_world_laws.proofs.Ends.{landed-is}
-use Rattle.zp_world_laws.proofs.Kept.{true-false}
 use Rattle.zp_world_laws.proofs.Numbers.{conn-here}
 use Rattle.zp_world_laws.specs.Accounting.{IsAccounted}
 use Rattle.zp_world_laws.specs.Connecting.{IsConnectFlight, IsInStage}
@@ -64,6 +63,7 @@ use Rattle.zs_session.specs.Answering.{IsAwaited}
 use Rattle.zs_session.specs.Connecting.{asked_in_phase}
 use Rattle.zs_session.specs.declared.connect.Connect.{Connect}
 use Rattle.zx_base.proofs.Options.{none_some, some_is}
+use Rattle.zx_base.proofs.Booleans.{true-not_false as true-false}
 
 -- ---- what is out of a connection, of which nothing is carried out beforehand
 

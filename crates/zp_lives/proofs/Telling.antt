@@ -16,9 +16,9 @@ use Rattle.zp_script.specs.declared.flight.Flight.{Flight}
 use Rattle.zp_lives.specs.Showing.{Came, Ends, Sent, Shown, shown_act, shown_by, shown_of}
 use Rattle.zp_step.specs.declared.action.Action.TheVariants as action
 use Rattle.zp_step.specs.declared.action.Action.{Action}
-use Rattle.zp_world_laws.proofs.Executing.{same-nat}
 use Rattle.zp_world_laws.specs.Naming.{is_unnamed, names_conn}
 use Rattle.zp_world_laws.specs.Serving.{kind_lines, update_lines}
+use Rattle.zx_base.proofs.Booleans.{same-test as same-nat}
 
 pub shown-append : (c : ℕ) (xs ys : List TranscriptLine) → shown_of c (xs ++ ys) ≡ shown_of c xs ++ shown_of c ys
 shown-append c xs ys = filter_map-append (shown_by c) xs ys

@@ -28,7 +28,7 @@ use Rattle.zs_session.specs.Sessions.{attach_wants, life_key}
 use Rattle.zs_session.specs.declared.connect.Connect.{Connect}
 use Rattle.zs_session.specs.declared.connect.ConnectStep.{ConnectStep}
 use Rattle.zs_session.specs.declared.connect.ConnectStep.TheVariants as steps
-use Rattle.zp_laws.proofs.Cases.{either, of_alive, of_txn}
+use Rattle.zp_laws.proofs.Cases.{of_alive, of_txn}
 use Rattle.zp_laws.proofs.Keeping.{PlansBeside, first-or-anew, leaves-beside}
 use Rattle.zp_step.proofs.Shutting.{steps-open}
 use Rattle.zp_step.specs.Connects.{Connects, Opens, begun, connected}
@@ -45,6 +45,7 @@ use Rattle.zp_step.specs.declared.action.Action.{Action}
 use Rattle.zp_step.specs.declared.input.Input.{Input}
 use Rattle.zp_step.specs.declared.input.Input.TheVariants as input
 use Rattle.zp_run.specs.Laws.{taken_after}
+use Rattle.zx_base.proofs.Booleans.{either}
 
 by : (x : Core × List Action) (c c' : Core) (out : List Action) → x.0.taken ≡ c.taken → Is x c' out → c'.taken ≡ c.taken
 by x c c' out e i = ap (λ (d : Core). d.taken) i.0 ∙ e

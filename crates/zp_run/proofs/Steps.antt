@@ -45,7 +45,7 @@ use Rattle.zs_session.specs.declared.connect.Phase.TheVariants.{Unasked, Looking
 use Rattle.zs_session.specs.declared.fault.StepFault.TheVariants as faults
 use Rattle.zx_base.proofs.Options.{none_some, some_is}
 use Rattle.zx_base.specs.Maps.{Bytes}
-use Rattle.zp_laws.proofs.Cases.{either, of_alive}
+use Rattle.zp_laws.proofs.Cases.{of_alive}
 use Rattle.zp_laws.proofs.Ending.{notices-only, only_sends}
 use Rattle.zp_laws.proofs.Keeping.{PlansBeside, first-or-anew, leaves-beside}
 use Rattle.zp_laws.specs.Standing.{IsForTree}
@@ -70,6 +70,7 @@ use Rattle.zp_run.specs.Causes.{IsConnectHeard, IsTakenAt, Shows}
 use Rattle.zp_run.specs.Heard.{Heard, HoldsHeard, IsFrameAsking, IsGathered, MayEndFor, Rests, hears, nothing, nothing_heard, round}
 use Rattle.zp_run.specs.Laws.{StepRests}
 use Rattle.zp_run.specs.Runs.{closed_for}
+use Rattle.zx_base.proofs.Booleans.{either}
 
 -- ---- the session's record, where the decision is by it
 

@@ -32,7 +32,7 @@ use Rattle.zs_session.specs.Sessions.{attach_wants, life_key}
 use Rattle.zs_session.specs.declared.connect.Connect.{Connect}
 use Rattle.zs_session.specs.declared.connect.ConnectStep.{ConnectStep}
 use Rattle.zs_session.specs.declared.connect.ConnectStep.TheVariants as steps
-use Rattle.zp_laws.proofs.Cases.{either, of_alive, of_txn}
+use Rattle.zp_laws.proofs.Cases.{of_alive, of_txn}
 use Rattle.zp_step.specs.Kept.{keeps}
 use Rattle.zn_view.specs.Keeping.{update_path}
 use Rattle.zp_laws.proofs.Keeping.{PlansBeside, first-or-anew, leaves-beside}
@@ -50,6 +50,7 @@ use Rattle.zp_step.specs.declared.input.Input.TheVariants as input
 use Rattle.zp_settle_laws.proofs.Coming.{AsksAfter, AsksOut, CommitAfter, ConnectAfter, EndsIf, IsTruthful, LooksOn, Remains, RemainsAfter, TruthIn, again_for, is_present}
 use Rattle.zp_settle_laws.proofs.Places.{request-ends, view_on}
 use Rattle.zp_settle_laws.specs.Looks.{asks_of, asks_of_all, looks, looks_in}
+use Rattle.zx_base.proofs.Booleans.{either}
 
 -- it has ended, or so much remains
 abbrev pub Then : Store → ℕ → Core → Type 0

@@ -17,7 +17,6 @@ use Rattle.zn_view.specs.Asks.{head_want}
 use Rattle.zn_view.specs.Seen.{empty_view}
 use Rattle.zs_session.specs.Alive.{is_alive_due}
 use Rattle.zx_base.proofs.Options.{some_is}
-use Rattle.zp_laws.proofs.Cases.{either}
 use Rattle.zn_view.specs.Keeping.{update_path}
 use Rattle.zp_step.specs.Looking.{Looks, asks_for, decided, max_ranges}
 use Rattle.zp_laws.proofs.Keeping.{PlansBeside, first-or-anew}
@@ -37,11 +36,11 @@ use Rattle.zp_script.specs.Kinds.{kind_asked}
 use Rattle.zp_script.specs.StepOutcomes.{StepOutcome, acts, acts_all, quiet}
 use Rattle.zp_script.specs.Worlds.{Closed, Conn, Connection, World, after_step, conn_at, is_closed_actor, is_open_conn, with_conn, zxid_at}
 use Rattle.zp_world_laws.proofs.Handing.{core-same}
-use Rattle.zp_world_laws.proofs.Kept.{true-false}
 use Rattle.zp_world_laws.proofs.Numbers.{conn-here}
 use Rattle.zp_settle_laws.proofs.Open.{here-as, lasting-open}
 use Rattle.zp_settle_laws.proofs.Staying.{goes-lasting}
 use Rattle.zp_settle_laws.specs.Staying.{AreLasting, AreMild, FramesLeaveOpen, IsLasting, IsLastingIn, StaysOpen, closes_after}
+use Rattle.zx_base.proofs.Booleans.{true-not_false as true-false, either}
 
 -- ---- frames that are taken up leave who it is
 

@@ -31,14 +31,13 @@ use Rattle.zp_laws.specs.Frames.{AreFrames, IsAtWork, IsFrameAt, is_served, wait
 use Rattle.zp_laws.specs.Standing.{IsReply, Knows}
 use Rattle.zp_step.specs.Stages.{Core, Pending, Stage, Unconnected, Connecting, Ready, KeepingAlive, Checking, Reading, Committing, Waiting, Shut}
 use Rattle.zp_script.specs.declared.flight.Flight.{Flight}
-use Rattle.zp_world_laws.proofs.Kept.{true-false}
 use Rattle.zp_world_laws.proofs.Numbers.{number-same}
 use Rattle.zp_world_laws.specs.Bounds.{attachment}
 use Rattle.zp_world_laws.specs.Connections.{IsServingConn}
 use Rattle.zp_settle_laws.proofs.Sessions.{close-frame, held-at, may-close, mild-front, placed-mild, when-both}
-use Rattle.zp_settle_laws.proofs.Staying.{or-both}
 use Rattle.zp_settle_laws.specs.Staying.{AreLasting, IsLasting, IsLastingIn, closes_after, is_close, refuses}
 use Rattle.zp_settle_laws.specs.Undisturbed.{HasMildFrames, takes_session}
+use Rattle.zx_base.proofs.Booleans.{or-split as or-both, true-not_false as true-false}
 
 -- ---- frames that wait
 

@@ -51,12 +51,12 @@ use Rattle.zp_script.specs.declared.flight.Flight.TheVariants.{Carried, Denied, 
 use Rattle.zp_script.specs.declared.flight.Flight.{Flight}
 use Rattle.zp_world_laws.proofs.Arrivals.{nat-either}
 use Rattle.zp_world_laws.proofs.Effects.{stored-in}
-use Rattle.zp_world_laws.proofs.Kept.{true-false}
-use Rattle.zp_world_laws.proofs.Numbers.{conn-here, conn-there, either-number, other-number, same-number}
-use Rattle.zp_world_laws.proofs.Restarting.{Distinct, Gives, all-found, gives-as, gives-others, is-true, sorted-distinct}
+use Rattle.zp_world_laws.proofs.Numbers.{conn-here, conn-there, either-number, other-number}
+use Rattle.zp_world_laws.proofs.Restarting.{Distinct, Gives, all-found, gives-as, gives-others, sorted-distinct}
 use Rattle.zp_world_laws.proofs.Running.{Settling, answers, carries, enters, settling-is}
 use Rattle.zp_world_laws.specs.Serving.{kind_lines, update_lines}
 use Rattle.zp_settle_laws.specs.Bytes.{CountsBytes, bytes_in, bytes_shown, place_at, place_of}
+use Rattle.zx_base.proofs.Booleans.{true-from_T as is-true, true-not_false as true-false, same-number}
 
 -- ---- lines
 

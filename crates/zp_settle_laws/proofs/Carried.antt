@@ -40,7 +40,7 @@ use Rattle.zs_session.specs.declared.connect.ConnectStep.TheVariants as steps
 use Rattle.zs_session.specs.declared.connect.Phase.{Phase}
 use Rattle.zs_session.specs.declared.connect.Phase.TheVariants.{Attaching, Creating, Granting, Keeping, Looking, LookingAgain, Over, Unasked}
 use Rattle.zx_base.proofs.Options.{none_some, some_is}
-use Rattle.zp_laws.proofs.Cases.{either, of_alive, of_txn}
+use Rattle.zp_laws.proofs.Cases.{of_alive, of_txn}
 use Rattle.zp_laws.proofs.Parts.{found-there, parts-worked, revision-kept}
 use Rattle.zp_step.specs.Stages.{Stage, Unconnected, Connecting, Ready, KeepingAlive, Checking, Reading, Committing, Waiting, Shut, asked_of}
 use Rattle.zp_world_laws.proofs.Asking.{ranges-read}
@@ -48,6 +48,7 @@ use Rattle.zp_world_laws.proofs.Transactions.{txn-answered, txn-reads}
 use Rattle.zp_settle_laws.specs.Looks.{looks}
 use Rattle.zp_settle_laws.proofs.Coming.{AsksAfter, AsksOut, ConnectAfter, ConnectOut, LooksOn, ReadsOut, again_for, attach_again, is_asked_now, is_present}
 use Rattle.zp_settle_laws.proofs.Places.{request-ends, view_on}
+use Rattle.zx_base.proofs.Booleans.{either}
 
 -- ---- a look at the present
 

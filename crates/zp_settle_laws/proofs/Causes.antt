@@ -37,7 +37,7 @@ use Rattle.zs_session.specs.declared.connect.ConnectStep.TheVariants as steps
 use Rattle.zs_session.specs.declared.connect.Fresh.{Fresh}
 use Rattle.zs_session.specs.declared.fault.StepFault.TheVariants as faults
 use Rattle.zx_base.specs.Maps.{Bytes}
-use Rattle.zp_laws.proofs.Cases.{either, of_alive}
+use Rattle.zp_laws.proofs.Cases.{of_alive}
 use Rattle.zp_laws.proofs.Keeping.{PlansBeside, first-or-anew}
 use Rattle.zp_step.proofs.Shutting.{shut-for-good, steps-open}
 use Rattle.zp_step.specs.Connects.{Connects, Opens, begun, connected}
@@ -54,6 +54,7 @@ use Rattle.zp_step.specs.declared.action.Action.{Action}
 use Rattle.zp_step.specs.declared.action.Action.TheVariants as action
 use Rattle.zp_step.specs.declared.input.Input.{Input}
 use Rattle.zp_step.specs.declared.input.Input.TheVariants as input
+use Rattle.zx_base.proofs.Booleans.{either}
 
 -- ---- causes
 

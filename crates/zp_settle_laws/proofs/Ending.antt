@@ -14,7 +14,7 @@ use Rattle.zs_session.specs.declared.connect.Phase.{Phase}
 use Rattle.zs_session.specs.declared.connect.Phase.TheVariants.{Attaching, Creating, Granting, Keeping, Looking, LookingAgain, Over, Unasked}
 use Rattle.zt_text.specs.declared.script.Happening.{Happening}
 use Rattle.zt_text.specs.declared.script.Happening.TheVariants as line
-use Rattle.zx_base.proofs.Options.{none_some, some_is}
+use Rattle.zx_base.proofs.Options.{none_some, some_is, some-from_is_some}
 use Rattle.zp_step.specs.Stages.{Core, Stage, Unconnected, Connecting, Ready, KeepingAlive, Checking, Reading, Committing, Waiting, Shut}
 use Rattle.zp_script.specs.Effects.{Does, EntersBy}
 use Rattle.zp_script.specs.Entries.{next_entry}
@@ -27,7 +27,6 @@ use Rattle.zp_script.specs.declared.flight.Flight.TheVariants.{Out, Carried, Den
 use Rattle.zp_world_laws.proofs.Accounts.{exec-accounted}
 use Rattle.zp_world_laws.proofs.Arrivals.{acts-accounted}
 use Rattle.zp_world_laws.proofs.Entering.{next-true}
-use Rattle.zp_world_laws.proofs.Kept.{true-false}
 use Rattle.zp_world_laws.proofs.Lives.{answer-acts, entry-acts, known-at}
 use Rattle.zp_world_laws.proofs.Running.{every-run-accounted}
 use Rattle.zp_world_laws.proofs.Settled.{settled-idle}
@@ -44,6 +43,7 @@ use Rattle.zp_settle_laws.proofs.Reaps.{any-phase, reap-most}
 use Rattle.zp_settle_laws.specs.Lines.{asks_in, asks_left, lines_left, lines_of}
 use Rattle.zp_settle_laws.specs.Looks.{asks_of_all, looks}
 use Rattle.zp_settle_laws.specs.Settling.{EndsByItsBound, EverySettleEnds, SettlesToItsEnd}
+use Rattle.zx_base.proofs.Booleans.{true-not_false as true-false}
 
 -- ---- what a settle does next
 
@@ -74,10 +74,6 @@ module _ (w : World) (c : ℕ) (x : Conn) (there : conn_at c w ≡ Some x) where
       go true false f g = absurd (none_some g)
       go false b f g = absurd (none_some g)
 
-pub some-there : {A : Type 0} (o : Option A) → is_some o ≡ true → (y : A) × (o ≡ Some y)
-some-there None h = absurd (true-false (sym h))
-some-there (Some y) h = (y, refl)
-
 -- ---- each of its lines leaves fewer
 
 module _ (w w' : World) (c j : ℕ) (k : IsAccounted w) (l : Left c w (suc j)) where
@@ -101,7 +97,7 @@ module _ (w w' : World) (c j : ℕ) (k : IsAccounted w) (l : Left c w (suc j)) w
           let n = is-entry w c x there h p in
           let d : EntersBy c w w' (next_entry c w) = subst (λ i. Does w i w') (sym n.0) does in
           let idle : flight_at c w ≡ None = ap (option_and_then (λ (y : Conn). y.flight)) there ∙ g in
-          let t = some-there (next_entry c w) n.1 in
+          let t = some-from_is_some (next_entry c w) n.1 in
           let y : EntersBy c w w' (Some t.0) = subst (EntersBy c w w') t.1 d in
           (taken-left w w' c j t.0 t.1 idle k l y.0 y.1 y.2, acts-accounted w w' c k (entry-acts w w' c (next_entry c w) refl d idle k))
 
@@ -151,7 +147,7 @@ module _ (w : World) (c n : ℕ) (k : IsAccounted w) (l : Left c w n) where
       by-flight x there (Some (Carried a)) g p = answer-one x x.actor there refl (ap answers_of g) (opened w c x there h e) (left-at c w x n there l)
       by-flight x there (Some Denied) g p = answer-one x x.actor there refl (ap answers_of g) (opened w c x there h e) (left-at c w x n there l)
       by-flight x there None g p =
-          let t = some-there (next_entry c w) (is-entry w c x there h p).1 in
+          let t = some-from_is_some (next_entry c w) (is-entry w c x there h p).1 in
           entry-one x x.actor t.0 there refl t.1 (waiting x p) (left-at c w x n there l)
         where
           waiting : (x : Conn) → entry_line c w x ≡ Some h → is_waiting x.actor ≡ true

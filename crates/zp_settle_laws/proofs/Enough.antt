@@ -11,7 +11,6 @@ use Rattle.zp_step.specs.Stages.{Core, Stage, Unconnected, Connecting, Ready, Ke
 use Rattle.zp_script.specs.Happens.{asks_at, max_settling}
 use Rattle.zp_script.specs.Worlds.{Actor, Closed, Conn, Connection, Reaper, World, conn_at}
 use Rattle.zp_world_laws.proofs.Arrivals.{core-of}
-use Rattle.zp_world_laws.proofs.Kept.{true-false}
 use Rattle.zp_world_laws.specs.Accounting.{IsAccounted}
 use Rattle.zp_world_laws.specs.Connecting.{IsInStage}
 use Rattle.zp_world_laws.specs.Counting.{HasFrames}
@@ -19,6 +18,7 @@ use Rattle.zp_settle_laws.proofs.Sizes.{frame-asks, request-long}
 use Rattle.zp_settle_laws.specs.Bytes.{CountsBytes, bytes_in, bytes_shown, place_of}
 use Rattle.zp_settle_laws.specs.Lines.{asks_in, asks_left, lines_left, lines_of}
 use Rattle.zp_settle_laws.specs.Looks.{asks_of_all}
+use Rattle.zx_base.proofs.Booleans.{true-not_false as true-false}
 
 -- ---- some frames of a connection have no more bytes than all
 

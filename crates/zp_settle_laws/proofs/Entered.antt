@@ -17,7 +17,6 @@ use Rattle.zn_view.specs.Asks.{head_want}
 use Rattle.zn_view.specs.Seen.{empty_view}
 use Rattle.zs_session.specs.Alive.{is_alive_due}
 use Rattle.zx_base.proofs.Options.{none_some}
-use Rattle.zp_laws.proofs.Cases.{either}
 use Rattle.zp_laws.proofs.Strides.{placed}
 use Rattle.zp_laws.specs.Frames.{is_served}
 use Rattle.zp_laws.specs.Inputs.{IsTrueEntry}
@@ -48,6 +47,7 @@ use Rattle.zp_world_laws.specs.Accounting.{IsAccounted}
 use Rattle.zp_world_laws.specs.Connections.{IsServingConn}
 use Rattle.zp_settle_laws.proofs.Answered.{entry-then}
 use Rattle.zp_settle_laws.proofs.Lasting.{ConnLeft, Left, LeftBy, left-at, still-served, step-left}
+use Rattle.zx_base.proofs.Booleans.{either}
 
 -- ---- frames that are taken up leave the cursor
 

@@ -30,7 +30,7 @@ use Rattle.zs_session.specs.Sessions.{attach_wants, life_key}
 use Rattle.zs_session.specs.declared.connect.Connect.{Connect}
 use Rattle.zs_session.specs.declared.connect.ConnectStep.{ConnectStep}
 use Rattle.zs_session.specs.declared.connect.ConnectStep.TheVariants as steps
-use Rattle.zp_laws.proofs.Cases.{either, of_alive, of_txn}
+use Rattle.zp_laws.proofs.Cases.{of_alive, of_txn}
 use Rattle.zp_step.specs.Kept.{keeps}
 use Rattle.zn_view.specs.Keeping.{update_path}
 use Rattle.zp_laws.proofs.Keeping.{PlansBeside, first-or-anew}
@@ -48,6 +48,7 @@ use Rattle.zp_step.specs.declared.action.Action.{Action}
 use Rattle.zp_step.specs.declared.input.Input.{Input}
 use Rattle.zp_step.specs.declared.input.Input.TheVariants as input
 use Rattle.zp_settle_laws.proofs.Room.{AsksFew}
+use Rattle.zx_base.proofs.Booleans.{either}
 
 at-most : (ws : List Want) → length (take max_ranges ws) ≤ max_ranges
 at-most ws = let e : length (take max_ranges ws) ≡ min max_ranges (length ws) = length-take max_ranges ws in grind (arith, nat_tests, e)

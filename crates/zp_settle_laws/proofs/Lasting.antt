@@ -56,7 +56,6 @@ use Rattle.zp_world_laws.proofs.Arrivals.{core-of}
 use Rattle.zp_world_laws.proofs.Effects.{stored-in}
 use Rattle.zp_world_laws.proofs.Ends.{landed-is}
 use Rattle.zp_world_laws.proofs.Handing.{core-same}
-use Rattle.zp_world_laws.proofs.Kept.{true-false}
 use Rattle.zp_world_laws.proofs.Lives.{known-at}
 use Rattle.zp_world_laws.proofs.Numbers.{conn-here}
 use Rattle.zp_world_laws.specs.Accounting.{IsAccounted}
@@ -70,6 +69,7 @@ use Rattle.zp_settle_laws.proofs.Coming.{AsksOut, ConnectOut, IsTruthful, Remain
 use Rattle.zp_settle_laws.proofs.Reaps.{ReapAfter, ReapOut, ReapThen, reap-after}
 use Rattle.zp_settle_laws.proofs.Truths.{serving-true}
 use Rattle.zp_settle_laws.specs.Looks.{asks_of_all}
+use Rattle.zx_base.proofs.Booleans.{true-not_false as true-false}
 
 -- ---- what is left
 

@@ -52,7 +52,6 @@ use Rattle.zp_script.specs.declared.flight.Flight.{Flight}
 use Rattle.zp_world_laws.proofs.Arrivals.{core-of}
 use Rattle.zp_world_laws.proofs.Ends.{landed-is}
 use Rattle.zp_world_laws.proofs.Handing.{core-same}
-use Rattle.zp_world_laws.proofs.Kept.{true-false}
 use Rattle.zp_world_laws.proofs.Numbers.{conn-here}
 use Rattle.zp_world_laws.proofs.Running.{Settling, SettlesOn, answers, carries, enters, settling-is}
 use Rattle.zp_world_laws.specs.Bounds.{attachment}
@@ -68,6 +67,7 @@ use Rattle.zp_settle_laws.proofs.Sessions.{get-front, here-now, mild-front}
 use Rattle.zp_settle_laws.proofs.Staying.{goes-lasting}
 use Rattle.zp_settle_laws.specs.Staying.{AreLasting, IsLasting, IsLastingIn, StaysOpen, closes_after}
 use Rattle.zp_settle_laws.specs.Undisturbed.{HasMildFrames, takes_session}
+use Rattle.zx_base.proofs.Booleans.{true-not_false as true-false}
 
 -- it is open, at this proxy
 pub record IsOpenAt (c p : ℕ) (w : World) : Type 0 where

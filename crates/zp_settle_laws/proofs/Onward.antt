@@ -41,11 +41,12 @@ use Rattle.zp_script.specs.declared.flight.Flight.{Flight}
 use Rattle.zp_world_laws.proofs.Effects.{foreign-precedes, lapse-precedes, stored-in}
 use Rattle.zp_world_laws.proofs.Executing.{precedes-self}
 use Rattle.zp_world_laws.proofs.Growing.{precedes-trans}
-use Rattle.zp_world_laws.proofs.Kept.{carry-precedes, true-false}
+use Rattle.zp_world_laws.proofs.Kept.{carry-precedes}
 use Rattle.zp_world_laws.proofs.Numbers.{conn-there, either-number}
-use Rattle.zp_world_laws.proofs.Restarting.{Gives, all-found, gives-as, is-true, sorted-distinct}
+use Rattle.zp_world_laws.proofs.Restarting.{Gives, all-found, gives-as, sorted-distinct}
 use Rattle.zp_world_laws.proofs.Running.{Settling, SettlesOn, answers, carries, enters, settling-is}
 use Rattle.zp_world_laws.specs.Serving.{update_lines}
+use Rattle.zx_base.proofs.Booleans.{true-from_T as is-true, true-not_false as true-false}
 
 -- ---- a store
 

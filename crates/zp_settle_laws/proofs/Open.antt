@@ -21,7 +21,7 @@ use Rattle.zk_service.specs.declared.update.UpdateKind.{UpdateKind}
 use Rattle.zn_layout.specs.declared.entry.Entry.{Entry}
 use Rattle.zn_view.specs.declared.plan.Who.{Who}
 use Rattle.zt_text.specs.declared.script.Happening.{Happening}
-use Rattle.zx_base.proofs.Options.{none_some, some_is}
+use Rattle.zx_base.proofs.Options.{none_some, some_is, some-from_is_some as some-there}
 use Rattle.zp_laws.proofs.Steps.{sends_are_walks}
 use Rattle.zp_laws.specs.Frames.{is_served}
 use Rattle.zp_laws.specs.Inputs.{IsTrueEntry, IsTrueInput}
@@ -51,16 +51,16 @@ use Rattle.zp_world_laws.proofs.Effects.{stored-in}
 use Rattle.zp_world_laws.proofs.Ends.{landed-is}
 use Rattle.zp_world_laws.proofs.Entering.{next-true}
 use Rattle.zp_world_laws.proofs.Handing.{core-same}
-use Rattle.zp_world_laws.proofs.Kept.{true-false}
 use Rattle.zp_world_laws.proofs.Lives.{answer-acts, entry-acts}
 use Rattle.zp_world_laws.proofs.Numbers.{conn-here}
 use Rattle.zp_world_laws.specs.Accounting.{IsAccounted}
 use Rattle.zp_world_laws.specs.Connections.{IsFlying, IsServingConn}
 use Rattle.zp_world_laws.specs.Serving.{kind_lines, update_lines}
-use Rattle.zp_settle_laws.proofs.Ending.{is-entry, is-flight, some-there}
+use Rattle.zp_settle_laws.proofs.Ending.{is-entry, is-flight}
 use Rattle.zp_settle_laws.proofs.Shown.{answer-shows}
 use Rattle.zp_settle_laws.proofs.Staying.{answer-lasting, entry-lasting}
 use Rattle.zp_settle_laws.specs.Staying.{IsAttachedHere, IsDenied, IsLasting, IsLastingIn, SettlesOpen, StaysOpen, is_close}
+use Rattle.zx_base.proofs.Booleans.{true-not_false as true-false}
 
 -- ---- what lasts is open, and attached
 

@@ -1,7 +1,7 @@
 -- What a request reads has so many places, of which each takes one key or one listing. A view that asks for something that is
 -- lacking fills one more of them, whatever the answers show: so a request asks only so often before nothing is lacking.
 use Rattle.std.proofs.Common.{◌≡◌, ℕ, zero, suc, ◌+◌, ◌*◌, ◌<◌, ◌≤◌, List, [], ◌∷◌, ◌++◌, length, refl, sym, ap, ◌∙◌, subst, arith, Bool, true, false, ℤ, inl, inr}
-use Rattle.std.specs.Prelude.{Option, Some, None, ◌⊎◌, ◌≢◌, filter, if◌then◌else◌, is_some, map, nat_abs, slice_get, take}
+use Rattle.std.specs.Prelude.{Option, Some, None, ◌⊎◌, ◌≢◌, if◌then◌else◌, is_some, map, nat_abs, slice_get, take}
 use Rattle.std.specs.List.{flat_map}
 use Rattle.std.proofs.lemmas.List.{length-append, length-map}
 use Rattle.ev_types.specs.declared.answer.ActAns.{ActAns}
@@ -37,6 +37,7 @@ use Rattle.zn_view.specs.declared.want.Want.TheVariants as want
 use Rattle.zs_reap.specs.Steps.{AreFewOwned}
 use Rattle.zp_step.specs.Looking.{max_ranges}
 use Rattle.zp_settle_laws.specs.Looks.{looks}
+use Rattle.zx_base.proofs.Lists.{filter-length}
 
 -- ---- a view that sees more
 
@@ -351,14 +352,6 @@ count-length : (o : Option Bytes) → length (counts_of_parent o) ≤ 1
 count-length None = omega arith
 count-length (Some q) = omega arith
 
-filter-most : {A : Type 0} (p : A → Bool) (xs : List A) → length (filter p xs) ≤ length xs
-filter-most p [] = omega arith
-filter-most p (x ∷ xs) = go (p x) (filter-most p xs)
-  where
-    go : (b : Bool) → length (filter p xs) ≤ length xs → length (if b then x ∷ filter p xs else filter p xs) ≤ length (x ∷ xs)
-    go true h = omega (arith, h)
-    go false h = omega (arith, h)
-
 paths-length : (ps : List Bytes) → length (flat_map about_path ps) ≡ 2 * length ps
 paths-length [] = refl
 paths-length (p ∷ ps) = omega (arith, length-append (about_path p) (flat_map about_path ps), paths-length ps)
@@ -394,7 +387,7 @@ reads-length (req.SetWatches since exists datas children) id =
     let a = map DataKey (valid datas) in
     let b = map DataKey (valid exists) in
     let c = flat_map about_path (valid children) in
-    omega (arith, length-append (a ++ b) c, length-append a b, length-map (valid datas) DataKey, length-map (valid exists) DataKey, paths-length (valid children), filter-most is_path datas, filter-most is_path exists, filter-most is_path children)
+    omega (arith, length-append (a ++ b) c, length-append a b, length-map (valid datas) DataKey, length-map (valid exists) DataKey, paths-length (valid children), filter-length is_path datas, filter-length is_path exists, filter-length is_path children)
 reads-length req.Close id = omega arith
 reads-length (req.Sync p) id = omega arith
 reads-length req.Ping id = omega arith

@@ -10,7 +10,7 @@ use Rattle.std.proofs.lemmas.Bool.Decides.{Decides-int_eq}
 use Rattle.std.proofs.lemmas.Int.{ints}
 use Rattle.std.proofs.lemmas.List.Elements.{All-contains}
 use Rattle.std.proofs.lemmas.List.Sums.{AllPass-from_list_all}
-use Rattle.ev_types.proofs.Allowed.{both_false, plain-not_denied}
+use Rattle.ev_types.proofs.Allowed.{plain-not_denied}
 use Rattle.ev_types.specs.Denials.{carry, is_compacted, is_denied, is_full_store, is_future, names_missing, writes_twice}
 use Rattle.ev_types.specs.Ranges.{Keys}
 use Rattle.ev_types.specs.Store.{Store, acts_from, carried_out, holds, last_revision, mod_of, new_store, revision, store_at, worked}
@@ -44,10 +44,10 @@ use Rattle.zp_step.specs.Looking.{max_ranges}
 use Rattle.zp_step.specs.Stages.{Core, Stage, Unconnected, Connecting, Ready, KeepingAlive, Checking, Reading, Committing, Waiting, Shut, asked_of}
 use Rattle.zp_script.specs.declared.flight.Flight.{Flight}
 use Rattle.zp_world_laws.proofs.Arrivals.{nat-either}
-use Rattle.zp_world_laws.proofs.Kept.{true-false}
 use Rattle.zp_world_laws.specs.Connections.{IsServingConn}
 use Rattle.zp_world_laws.specs.Serving.{StoreServes, moment_of}
 use Rattle.zp_settle_laws.proofs.Truths.{found-holds}
+use Rattle.zx_base.proofs.Booleans.{and-false, or-neither as both_false, true-not_false as true-false}
 
 -- ---- the store of a script: nothing was compacted, and it began as a new one
 
@@ -117,10 +117,6 @@ ranges-once z (w ∷ ws) = ranges-once z ws
 ranges-long : (z : ℤ) (ws : List Want) → length (ranges_of z ws) ≡ length ws
 ranges-long z [] = refl
 ranges-long z (w ∷ ws) = omega (arith, ranges-long z ws)
-
-pub and-false : (b : Bool) → (b && false) ≡ false
-and-false true = refl
-and-false false = refl
 
 module _ (s : Store) (floor : s.floor ≡ pos 0) (n : ℕ) (le : n ≤ length s.revisions) where
   named : (is_future s (pos n) || is_compacted s (pos n)) ≡ false

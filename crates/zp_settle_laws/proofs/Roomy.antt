@@ -56,7 +56,6 @@ use Rattle.zp_world_laws.proofs.Accounts.{exec-accounted}
 use Rattle.zp_world_laws.proofs.Arrivals.{acts-accounted, core-of, nat-either}
 use Rattle.zp_world_laws.proofs.Growing.{precedes-trans}
 use Rattle.zp_world_laws.proofs.Handing.{core-same}
-use Rattle.zp_world_laws.proofs.Kept.{true-false}
 use Rattle.zp_world_laws.proofs.Lives.{answer-acts, entry-acts}
 use Rattle.zp_world_laws.proofs.Numbers.{conn-here, conn-there, either-number}
 use Rattle.zp_world_laws.proofs.Running.{Settling, SettlesOn, answers, carries, enters, happens-accounted, first-accounted, settling-is, within-before, runs-grown}
@@ -67,6 +66,7 @@ use Rattle.zp_settle_laws.proofs.Bytes.{ended-out}
 use Rattle.zp_settle_laws.proofs.Few.{few-steps}
 use Rattle.zp_settle_laws.proofs.Onward.{Grows, Later, carried-on, carry-later, effect-grows}
 use Rattle.zp_settle_laws.proofs.Room.{AsksFew, IsOfScript, carries-out, serving-allowed}
+use Rattle.zx_base.proofs.Booleans.{true-not_false as true-false}
 
 -- ---- an open connection
 

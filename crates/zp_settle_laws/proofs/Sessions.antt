@@ -32,11 +32,11 @@ use Rattle.zk_service.specs.declared.update.UpdateRec.{UpdateRec}
 use Rattle.zx_base.proofs.Options.{none_some, some_is}
 use Rattle.zp_laws.proofs.Attached.{IsAttached, first_place-take, mine-here}
 use Rattle.zp_laws.proofs.Updates.{legal-before}
-use Rattle.zp_world_laws.proofs.Kept.{true-false}
 use Rattle.zp_world_laws.proofs.Numbers.{number-same}
 use Rattle.zp_settle_laws.proofs.Open.{asked-sessions}
 use Rattle.zp_settle_laws.specs.Staying.{IsAttachedHere, closes_after}
 use Rattle.zp_settle_laws.specs.Undisturbed.{HasMildFrames, takes_session}
+use Rattle.zx_base.proofs.Booleans.{true-not_false as true-false}
 
 -- ---- frames in a transcript
 

@@ -1,6 +1,6 @@
 -- An attached connection whose session lives takes an answer or an entry, and stays open.
 use Rattle.std.proofs.Common.{◌≡◌, ℕ, List, [], ◌∷◌, take, refl, sym, ap, ◌∙◌, subst, arith, Bool, true, false, ℤ, pos, inl, inr}
-use Rattle.std.specs.Prelude.{Option, Some, None, ◌⊎◌, ◌||◌, MatchBool, if◌then◌else◌, ◌≤ℤ◌}
+use Rattle.std.specs.Prelude.{Option, Some, None, ◌⊎◌, MatchBool, if◌then◌else◌, ◌≤ℤ◌}
 use Rattle.std.specs.Arc.{arc_value}
 use Rattle.std.specs.Ordering.{int_eq}
 use Rattle.std.proofs.lemmas.Bool.Decides.{Decides-int_eq}
@@ -38,7 +38,7 @@ use Rattle.zs_session.specs.Alive.{is_alive_due}
 use Rattle.zs_session.specs.Answering.{viewed}
 use Rattle.zs_session.specs.Sessions.{attach_wants, life_key}
 use Rattle.zx_base.proofs.Options.{none_some, some_is}
-use Rattle.zp_laws.proofs.Cases.{either, of_alive}
+use Rattle.zp_laws.proofs.Cases.{of_alive}
 use Rattle.zp_laws.proofs.Honest.{records-sound}
 use Rattle.zp_laws.specs.Standing.{IsForTree}
 use Rattle.zp_step.specs.Kept.{keeps}
@@ -54,9 +54,9 @@ use Rattle.zp_step.specs.Steps.{Answers, Goes, StepsOpen, rests, takes}
 use Rattle.zp_step.specs.Taking.{TakesFrame, TakesReadable, end_of_plain, plainly}
 use Rattle.zp_step.specs.declared.action.Action.{Action}
 use Rattle.zp_step.specs.declared.input.Input.TheVariants as input
-use Rattle.zp_world_laws.proofs.Kept.{true-false}
 use Rattle.zp_settle_laws.proofs.Places.{view_on}
 use Rattle.zp_settle_laws.specs.Staying.{AreLasting, IsLasting, IsLastingIn, asks_close, closes_after, is_close, refuses}
+use Rattle.zx_base.proofs.Booleans.{or-split, true-not_false as true-false, either}
 
 -- ---- what an answer shows
 
@@ -80,10 +80,6 @@ Shows who (Checking f) (answer.Txn z b parts) = AreRecords (attach_wants who.ses
 Shows who (Reading xid r v ws) (answer.Txn z b parts) = IsForTree r × AreRecords ws parts × SeesLife who (view_on v z ws parts)
 Shows who (Committing xid r v p m) (answer.Txn z b parts) = IsForTree r × CommitShows who p z parts b
 Shows who _ a = Unit {0}
-
-pub or-both : (a b : Bool) → (a || b) ≡ false → (a ≡ false) × (b ≡ false)
-or-both true b h = absurd (true-false h)
-or-both false b h = (refl, h)
 
 is-lasting : (x : Core × List Action) (c' : Core) (out : List Action) → IsLasting x.0 → Is x c' out → IsLasting c'
 is-lasting x c' out k i = subst IsLasting (sym i.0) k
@@ -142,7 +138,7 @@ module _ (c' : Core) (out : List Action) where
 
   readable-lasting : (c : Core) (now : ℕ) (x : Frame) (o : Option Told) → plain_reply c.watches x ≡ o → closes_after x ≡ false → AreLasting c.waiting → TakesReadable c now c' out x o → IsLasting c'
   readable-lasting c now x (Some t) p k w h =
-      let mild : is_auth_refusal t.reply ≡ false = not-refused c.watches x t p (or-both (asks_close x) (refuses (plain_reply no_watches x)) k).1 in
+      let mild : is_auth_refusal t.reply ≡ false = not-refused c.watches x t p (or-split (asks_close x) (refuses (plain_reply no_watches x)) k).1 in
       is-lasting (plainly c (xid_of x) t) c' out (answered c (plainly c (xid_of x) t).0 (end_of_plain (is_auth_refusal t.reply)) (ap end_of_plain mild) w refl refl) h
   readable-lasting c now NoHeader None p k w h = absurd h
   readable-lasting c now (Unreadable xid place) None p k w h = absurd h
@@ -150,7 +146,7 @@ module _ (c' : Core) (out : List Action) where
   readable-lasting c now (Asks xid r) None p k w h = go (first-or-anew c c' xid r now out (update_path r) h)
     where
       stays : is_close r ≡ false
-      stays = (or-both (is_close r) (refuses (plain_reply no_watches (Asks xid r))) k).0
+      stays = (or-split (is_close r) (refuses (plain_reply no_watches (Asks xid r))) k).0
 
       go : PlansBeside c xid r now c' out ⊎ Looks c xid r empty_view now c' out → IsLasting c'
       go (inl y) = is-lasting (decided (record c { views = y.views }) xid r y.view now (Planned y.plan)) c' out (record { work = stays; waiting = w }) y.is

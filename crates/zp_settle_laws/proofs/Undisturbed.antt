@@ -20,15 +20,14 @@ use Rattle.zt_text.specs.declared.script.Happening.{Happening}
 use Rattle.zt_text.specs.declared.script.Why.TheVariants as why
 use Rattle.zt_text.specs.declared.script.Why.{Why}
 use Rattle.zx_base.proofs.Options.{none_some, some_is}
-use Rattle.zp_world_laws.proofs.Kept.{true-false}
-use Rattle.zp_world_laws.proofs.Numbers.{either-number, same-number}
+use Rattle.zp_world_laws.proofs.Numbers.{either-number}
 use Rattle.zp_world_laws.proofs.Running.{number-free, runs-grown, within-before}
 use Rattle.zp_world_laws.specs.Accounting.{IsWithinCounts, OffersSession}
 use Rattle.zp_settle_laws.proofs.Ongoing.{IsEndedBadly, IsOpenAt, answer-open, arrives-open, entry-open, exec-open, settles-open}
 use Rattle.zp_settle_laws.proofs.Onward.{Grows, Onward, effect-grows, effect-on, grows-then, restart-still, runs-grow}
-use Rattle.zp_settle_laws.proofs.Room.{and-false}
 use Rattle.zp_settle_laws.proofs.Roomy.{IsKept, every-run-kept, happens-kept}
 use Rattle.zp_settle_laws.specs.Undisturbed.{HasMildFrames, UndisturbedStayOpen, bad_at, ends_conn, takes_session}
+use Rattle.zx_base.proofs.Booleans.{and-false, true-not_false as true-false, same-number}
 
 -- ---- a line of another number
 

@@ -25,10 +25,9 @@ use Rattle.zp_step.specs.Stages.{Core, counted_up}
 use Rattle.zp_step.specs.declared.input.Input.TheVariants as input
 use Rattle.zp_world_laws.proofs.Acting.{is_own, one-own, own-unnamed}
 use Rattle.zp_world_laws.proofs.Arrivals.{framed-small}
-use Rattle.zp_world_laws.proofs.Executing.{same-nat}
 use Rattle.zp_world_laws.proofs.Numbers.{conn-here, conn-there}
-use Rattle.zp_world_laws.proofs.Packets.{both-true}
 use Rattle.zx_base.proofs.Options.{some_is}
+use Rattle.zx_base.proofs.Booleans.{and-both as both-true, same-test as same-nat}
 
 -- ---- lines of frames
 

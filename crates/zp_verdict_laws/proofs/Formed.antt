@@ -27,8 +27,8 @@ use Rattle.zk_service.specs.declared.update.UpdateKind.{UpdateKind}
 use Rattle.zk_service.specs.declared.update.UpdateRec.{UpdateRec}
 use Rattle.zp_verdict_laws.proofs.Meaning.{framed-opened, found-as}
 use Rattle.zp_verdict_laws.proofs.Progress.{Broken, Ended, Opened, Progress, Unused, broken-later, progress, progress-append, progressed, takes}
-use Rattle.zp_world_laws.proofs.Executing.{same-nat}
 use Rattle.zx_base.proofs.Options.{some_is}
+use Rattle.zx_base.proofs.Booleans.{same-test as same-nat}
 
 -- ---- a line that breaks nothing
 

@@ -23,8 +23,8 @@ use Rattle.zp_step.specs.Stages.{Core, is_shut, max_count}
 use Rattle.zp_step.specs.declared.input.Input.{Input}
 use Rattle.zp_world_laws.proofs.Acting.{acts-own, ends-own, is_own, own-unnamed}
 use Rattle.zp_world_laws.proofs.Actions.{Asks, Closes, Rests, Tail, is_closing, said, split, split-closes, split-outcome, tail_outcome}
-use Rattle.zp_world_laws.proofs.Executing.{same-nat}
 use Rattle.zp_world_laws.proofs.Numbers.{conn-here, conn-there}
+use Rattle.zx_base.proofs.Booleans.{same-test as same-nat}
 
 -- ---- a number is left so
 

@@ -11,7 +11,8 @@ use Rattle.zp_script.specs.StepOutcomes.{ended_by, leaves}
 use Rattle.zp_script.specs.Worlds.{Closed, Conn, World, conn_at, is_closed_actor}
 use Rattle.zp_verdict_laws.proofs.Handing.{ended-proceeds}
 use Rattle.zp_verdict_laws.proofs.Tidy.{Free, Proceeds, proceeds-same, proceeds-then}
-use Rattle.zp_world_laws.proofs.Restarting.{Distinct, Gives, all-found, gives-as, gives-others, is-true, sorted-distinct}
+use Rattle.zp_world_laws.proofs.Restarting.{Distinct, Gives, all-found, gives-as, gives-others, sorted-distinct}
+use Rattle.zx_base.proofs.Booleans.{true-from_T as is-true}
 
 not-closed : (p : ℕ) (x : Conn) → is_open_at p x ≡ true → x.actor ≡ Closed → ⊥
 not-closed p x h e = closed-open (sym (ap is_closed_actor e)) ((and_parts (p == x.proxy) (not (is_closed_actor x.actor)) h).1)

@@ -32,7 +32,6 @@ use Rattle.zp_verdict_laws.proofs.Tidy.{ChangesOne, Free, IsTidy, IsInStep, Proc
 use Rattle.zp_verdict_laws.specs.Lawful.{AreCounted, FewLinesAreCounted, LinesCountFrames}
 use Rattle.zp_verdict_laws.specs.Written.{NamesSession}
 use Rattle.zp_step.specs.Stages.{new_core}
-use Rattle.zp_world_laws.proofs.Executing.{same-nat}
 use Rattle.zp_world_laws.proofs.Happenings.{passes}
 use Rattle.zp_world_laws.proofs.Numbers.{conn-here, conn-there, other-number}
 use Rattle.zp_world_laws.proofs.Running.{Settling, answers, by-effect, carries, enters, number-free, settles-keep}
@@ -40,6 +39,7 @@ use Rattle.zt_text.specs.declared.script.Happening.TheVariants as line
 use Rattle.zt_text.specs.declared.script.Happening.{Happening}
 use Rattle.zt_text.specs.declared.script.Why.TheVariants as why
 use Rattle.zx_base.proofs.Options.{none_some, some_is}
+use Rattle.zx_base.proofs.Booleans.{same-test as same-nat}
 
 -- ---- a number is taken
 

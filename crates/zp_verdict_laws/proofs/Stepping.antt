@@ -38,7 +38,7 @@ use Rattle.zs_session.specs.declared.connect.ConnectStep.TheVariants as steps
 use Rattle.zs_session.specs.declared.connect.ConnectStep.{ConnectStep}
 use Rattle.zs_session.specs.declared.connect.Fresh.{Fresh}
 use Rattle.zx_base.proofs.Options.{none_some, some_is}
-use Rattle.zp_laws.proofs.Cases.{either, of_alive}
+use Rattle.zp_laws.proofs.Cases.{of_alive}
 use Rattle.zp_laws.proofs.Keeping.{PlansBeside, first-or-anew, leaves-beside}
 use Rattle.zp_laws.specs.Standing.{IsForTree}
 use Rattle.zp_step.proofs.Shutting.{shut-for-good, steps-open}
@@ -59,6 +59,7 @@ use Rattle.zp_step.specs.declared.input.Input.{Input}
 use Rattle.zp_verdict_laws.proofs.Connecting.{IsNaturalStep, connects-natural}
 use Rattle.zp_verdict_laws.proofs.Shown.{IsNaturalView, at-natural, empty-natural, found-natural, number-natural, parts-natural, view-number, viewed-natural}
 use Rattle.zp_verdict_laws.proofs.Stored.{AreNaturalParts, IsNatural, IsNaturalAnswer, IsNaturalCause, IsNaturalKv}
+use Rattle.zx_base.proofs.Booleans.{either}
 
 -- ---- what a connection keeps, is handed, and does
 

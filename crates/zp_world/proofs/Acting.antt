@@ -27,6 +27,7 @@ use Rattle.zp_world.specs.Flying.{IsActive, IsFitFlight, IsFlyingOf}
 use Rattle.zp_world.specs.Leaving.{Leaves}
 use Rattle.zp_world.specs.declared.activity.Seat.{Seat}
 use Rattle.zp_world.proofs.Grantable.{grantable}
+use Rattle.zx_base.proofs.Booleans.{true-not_false}
 
 -- ---- one more action
 
@@ -151,16 +152,13 @@ pub record HasActed (c : ℕ) (kind : Option UpdateKind) (first : ℕ) (zxid : �
   pub flies : is_shut core.stage ≡ false → IsFlyingOf core now
   pub world : w' ≡ added w (acts_all c kind (frame_lines c first zxid frames) flight out)
 
-true_false : true ≡ false → ⊥
-true_false e = cc
-
 left-after : (core : Core) (frames : List (List ℕ)) (now : Option Flight) (left : List (List ℕ)) → Goes core frames now [] left → left ≡ (if is_shut core.stage then [] else frames)
 left-after core frames now left (inl on) = on.2 ∙ ap (λ b. if b then [] else frames) on.0.closes
 left-after core frames now left (inr over) = over.3 ∙ sym (ap (λ b. if b then [] else frames) over.0)
 
 flies-then : (core : Core) (frames : List (List ℕ)) (now : Option Flight) (left : List (List ℕ)) → Goes core frames now [] left → is_shut core.stage ≡ false → IsFlyingOf core now
 flies-then core frames now left (inl on) live = on.0.stays live refl
-flies-then core frames now left (inr over) live = absurd (true_false (sym over.0 ∙ live))
+flies-then core frames now left (inr over) live = absurd (true-not_false (sym over.0 ∙ live))
 
 pub end-acting : (c : ℕ) (kind : Option UpdateKind) (first : ℕ) (zxid : ℤ) (frames : List (List ℕ)) (core : Core) (w : World) (flight : Option Flight) (out : List Action)
     (w' : World) (now : Option Flight) (rest : List Action) (left : List (List ℕ)) → rest ≡ [] → IsActing c kind first zxid frames core w flight out w' now rest left

@@ -1,5 +1,5 @@
 -- A look at the head: it is never denied, changes nothing, and shows what is kept under its key.
-use Rattle.std.proofs.Common.{◌≡◌, ℕ, ◌<◌, refl, sym, ap, ◌∙◌, arith, Bool, true, false, List, [], ◌∷◌, ◌++◌, length}
+use Rattle.std.proofs.Common.{◌≡◌, ℕ, ◌<◌, refl, sym, ap, ◌∙◌, arith, Bool, false, List, [], ◌∷◌, ◌++◌, length}
 use Rattle.std.specs.Prelude.{Option, Some, None, IsSome, ◌↔◌, pos, int_lt, ◌||◌, if◌then◌else◌}
 use Rattle.std.specs.Option.{option_to_list}
 use Rattle.std.specs.FinMap.{get}
@@ -16,6 +16,7 @@ use Rattle.ev_types.specs.declared.ask.Ask.TheVariants as ask
 use Rattle.ev_types.specs.declared.ask.RangeReq.{RangeReq}
 use Rattle.zx_base.proofs.Options.{some_is, some_none}
 use Rattle.zx_base.specs.Maps.{Bytes}
+use Rattle.zx_base.proofs.Booleans.{true-not}
 
 abbrev looked : Store → Bytes → Store × Answer
 looked s k = (s, answer.Range (revision s) (found (key_range k) (present s)))
@@ -42,9 +43,6 @@ look-answers s t k q a e h =
 
 pub look-not-denied : (s : Store) (k : Bytes) (q : RangeReq) → q ≡ key_range k → carry s (ask.Range q) ≡ None → ⊥
 look-not-denied s k q e h = some_none (sym (look-carried s k) ∙ ap (λ (r : RangeReq). carry s (ask.Range r)) (sym e) ∙ h)
-
-true-not : false ≡ true → ⊥
-true-not e = cc
 
 -- the last of what a range of one key found
 nil-ends : (rest : List Kv) (kv : Kv) → rest ++ kv ∷ [] ≡ [] → ⊥

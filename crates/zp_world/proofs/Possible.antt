@@ -18,7 +18,7 @@ use Rattle.zs_session.specs.Answering.{IsAwaited}
 use Rattle.zt_text.specs.declared.script.Happening.TheVariants as line
 use Rattle.zt_text.specs.declared.script.Why.{Why}
 use Rattle.zt_text.specs.declared.script.Why.TheVariants as why
-use Rattle.zx_base.proofs.Options.{none_some, some_is, some_none}
+use Rattle.zx_base.proofs.Options.{none_some, some_is, some_none, none-unless_some}
 
 -- ---- one test
 
@@ -146,17 +146,13 @@ pub record IsEntered (c : ℕ) (w : World) : Type 0 where
   pub entry : Entry
   pub next : next_entry c w ≡ Some entry
 
-nothing-is : {A : Type 0} (o : Option A) → is_some o ≡ false → o ≡ None
-nothing-is None h = refl
-nothing-is (Some x) h = absurd (let e : true ≡ false = h in cc)
-
 pub entry-taken : (c : ℕ) (w : World) (later : Option Why) → entry_fault c w later ≡ None → IsEntered c w × (later ≡ None)
 entry-taken c w later h =
     let s = connection-serves c w (if_fails (is_some (flight_at c w)) why.RequestOut (if_fails (is_none (next_entry c w)) why.NoEntry later)) h in
     let p = passes (is_some (flight_at c w)) why.RequestOut (if_fails (is_none (next_entry c w)) why.NoEntry later) s.1 in
     let q = passes (is_none (next_entry c w)) why.NoEntry later p.1 in
     let e = there-is (next_entry c w) q.0 in
-    (record { serving = s.0; free = nothing-is (flight_at c w) p.0; entry = e.0; next = e.1 }, q.1)
+    (record { serving = s.0; free = none-unless_some (flight_at c w) p.0; entry = e.0; next = e.1 }, q.1)
 
 pub entry-serves : (c : ℕ) (w : World) → fault w (line.Entry c) ≡ None → IsEntered c w
 unfolding fault

@@ -1,17 +1,19 @@
 -- A proxy restarts: those that are open at it end one by one, each as it was before the first one ended.
 use Rattle.std.proofs.Common.{◌≡◌, ◌≢◌, ℕ, List, [], ◌∷◌, map, refl, sym, ap, ◌∙◌, subst, Bool, true, false, cond}
-use Rattle.std.specs.Prelude.{Option, Some, None, T, filter, fold, if◌then◌else◌}
+use Rattle.std.specs.Prelude.{Option, Some, None, filter, fold, if◌then◌else◌}
 use Rattle.std.specs.FinMap.{entries, entries_sorted, find, get, get-entries, get-insert, is_sorted}
 use Rattle.std.specs.FinMap.Entries.{below_all}
 use Rattle.std.specs.Ordering.{eq_by_cmp, is_lt, nat_cmp}
 use Rattle.std.proofs.lemmas.Bool.{and_parts}
-use Rattle.std.proofs.lemmas.Cmp.{nat_cmp_total, tied_itself}
+use Rattle.std.proofs.lemmas.Cmp.{nat_cmp_total}
 use Rattle.zk_service.specs.declared.cause.Cause.TheVariants as cause
 use Rattle.zp_script.specs.Effects.{is_open_at, restarted, stopped}
 use Rattle.zp_script.specs.StepOutcomes.{ended_by, leaves}
 use Rattle.zp_script.specs.Worlds.{Closed, Conn, World, conn_at}
 use Rattle.zp_world.specs.Activities.{open_numbers}
 use Rattle.zp_world.proofs.Apart.{equal, itself}
+use Rattle.zx_base.proofs.Booleans.{true-from_T}
+use Rattle.zx_base.proofs.Orders.{less-apart}
 
 -- none of them has this number
 abbrev AreOthers : ℕ → List (ℕ × Conn) → Type 0
@@ -35,19 +37,9 @@ numbers_among p es = map (λ (e : ℕ × Conn). e.0) (open_among p es)
 
 -- ---- the entries of a map stand
 
-true_of : (b : Bool) → T b → b ≡ true
-true_of true h = refl
-true_of false h = absurd h
-
-false_true : false ≡ true → ⊥
-false_true e = cc
-
-below-other : (k n : ℕ) → is_lt (nat_cmp k n) ≡ true → n ≢ k
-below-other k n h e = false_true (sym (ap is_lt (tied_itself nat_cmp_total k)) ∙ ap (λ m. is_lt (nat_cmp k m)) (sym e) ∙ h)
-
 below-others : (k : ℕ) (es : List (ℕ × Conn)) → below_all nat_cmp k es ≡ true → AreOthers k es
 below-others k [] h = tt
-below-others k (e ∷ es) h = let q = and_parts (is_lt (nat_cmp k e.0)) (below_all nat_cmp k es) h in (below-other k e.0 q.0, below-others k es q.1)
+below-others k (e ∷ es) h = let q = and_parts (is_lt (nat_cmp k e.0)) (below_all nat_cmp k es) h in (less-apart k e.0 q.0, below-others k es q.1)
 
 untied : (k n : ℕ) → n ≢ k → eq_by_cmp nat_cmp n k ≡ false
 untied k n apart = go (eq_by_cmp nat_cmp n k) refl
@@ -76,7 +68,7 @@ stand-as f g (e ∷ es) same h = (same e.0 ∙ h.0, h.1, stand-as f g es same h.
 entries-stand : (w : World) → Stand (λ k. conn_at k w) (entries w.conns)
 entries-stand w =
     stand-as (λ k. find nat_cmp k (entries w.conns)) (λ k. conn_at k w) (entries w.conns) (λ k. get-entries w.conns k)
-    (all-found (entries w.conns) (true_of (is_sorted nat_cmp (entries w.conns)) (entries_sorted w.conns)))
+    (all-found (entries w.conns) (true-from_T (is_sorted nat_cmp (entries w.conns)) (entries_sorted w.conns)))
 
 -- ---- those that are open
 

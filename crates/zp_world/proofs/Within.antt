@@ -1,5 +1,5 @@
 -- No count of frames is at its end; what an iterator has left; and the entries of the map of what answers to numbers.
-use Rattle.std.proofs.Common.{◌≡◌, ℕ, ◌<◌, List, [], ◌∷◌, refl, sym, ◌∙◌, subst, Bool, true, false, cond, length, arith}
+use Rattle.std.proofs.Common.{◌≡◌, ℕ, ◌<◌, List, [], sym, ◌∙◌, subst, Bool, true, false, cond}
 use Rattle.std.specs.Prelude.{Some, None}
 use Rattle.std.specs.List.Sorted.{IsStrictlySortedBy}
 use Rattle.std.specs.Map.{keys_of}
@@ -14,6 +14,7 @@ use Rattle.zx_base.proofs.Options.{none_some, some_is}
 use Rattle.zp_script.specs.Worlds.{Conn, Conns}
 use Rattle.zp_step.specs.Stages.{max_count}
 use Rattle.zp_world.specs.Activities.{AreWithin}
+use Rattle.zx_base.proofs.Lists.{no-length}
 
 -- ---- counts
 
@@ -35,10 +36,6 @@ within-removed m k all c x h = go (eq_by_cmp nat_cmp c k) (sym (get-remove nat_c
     go false e = all c x e
 
 -- ---- what an iterator has left
-
-no-length : {X : Type 0} (xs : List X) → length xs ≡ 0 → xs ≡ []
-no-length [] h = refl
-no-length (x ∷ xs) h = absurd (omega arith)
 
 pub nothing-left : {X Z : Type 0} (it : IntoIter X Z) → into_iter_len it ≡ 0 → into_iter_items it ≡ []
 nothing-left it none = no-length it.rest.items (sym it.rest.ok.0 ∙ none)

@@ -34,15 +34,15 @@ use Rattle.zp_world_laws.proofs.Commits.{line_of}
 use Rattle.zp_world_laws.proofs.Connecting.{connect-carried, connect-denied}
 use Rattle.zp_world_laws.proofs.Effects.{foreign-precedes, lapse-precedes, left-at, stored-in}
 use Rattle.zp_world_laws.proofs.Entering.{entries-line, exec-entries, stray-entries}
-use Rattle.zp_world_laws.proofs.Executing.{precedes-self, same-nat}
+use Rattle.zp_world_laws.proofs.Executing.{precedes-self}
 use Rattle.zp_world_laws.proofs.Growing.{same-precedes}
-use Rattle.zp_world_laws.proofs.Kept.{carry-precedes, executes-whole, stray-whole, tick-whole, true-false}
+use Rattle.zp_world_laws.proofs.Kept.{carry-precedes, executes-whole, stray-whole, tick-whole}
 use Rattle.zp_world_laws.proofs.Knowing.{ActsAlone, counted-aside, known-alone, known-none, update-aside, close-left}
 use Rattle.zp_world_laws.proofs.Lines.{packets-plain}
 use Rattle.zp_world_laws.proofs.Naming.{close-none, frame-none, made-number, made-of, never-attached, never-carried, never-opened, never-sent}
-use Rattle.zp_world_laws.proofs.Numbers.{conn-here, conn-there, other-number, same-number}
+use Rattle.zp_world_laws.proofs.Numbers.{conn-here, conn-there, other-number}
 use Rattle.zp_world_laws.proofs.Opening.{open-whole}
-use Rattle.zp_world_laws.proofs.Packets.{both-true, packets-append}
+use Rattle.zp_world_laws.proofs.Packets.{packets-append}
 use Rattle.zp_world_laws.proofs.Reapers.{reap-carried}
 use Rattle.zp_world_laws.proofs.Reaping.{damaged-memory, looking_reaper, looks-first, reap-whole}
 use Rattle.zp_world_laws.proofs.Talking.{ahead-push, first_place-front}
@@ -60,6 +60,7 @@ use Rattle.zp_world_laws.specs.Serving.{StoreServes, kind_lines, next_revision, 
 use Rattle.zs_reap.specs.Steps.{reaper_wants}
 use Rattle.zs_session.specs.declared.connect.Fresh.{Fresh}
 use Rattle.zx_base.proofs.Options.{none_some, some_is}
+use Rattle.zx_base.proofs.Booleans.{and-both as both-true, same-test as same-nat, true-not_false as true-false, same-number}
 
 -- ---- what the store does by itself
 

@@ -21,11 +21,9 @@ use Rattle.zp_step.specs.declared.action.Action.TheVariants as action
 use Rattle.zp_step.specs.declared.action.Action.{Action}
 use Rattle.zp_world_laws.proofs.Closing.{AreShown}
 use Rattle.zp_world_laws.proofs.Entering.{entries-line}
-use Rattle.zp_world_laws.proofs.Executing.{same-nat}
 use Rattle.zp_world_laws.proofs.Growing.{quiet-change, same-precedes}
 use Rattle.zp_world_laws.proofs.Knowing.{known-alone}
 use Rattle.zp_world_laws.proofs.Numbers.{conn-here, conn-there, either-number, number-same, other-number}
-use Rattle.zp_world_laws.proofs.Packets.{both-true}
 use Rattle.zp_world_laws.proofs.Talking.{is_quiet}
 use Rattle.zp_world_laws.proofs.Within.{within-unnamed}
 use Rattle.zp_world_laws.specs.Connections.{Whole}
@@ -33,6 +31,7 @@ use Rattle.zp_world_laws.specs.Entering.{AreEntries}
 use Rattle.zp_world_laws.specs.Knowing.{IsKnownAs, Known}
 use Rattle.zp_world_laws.specs.Naming.{is_unnamed, names_conn}
 use Rattle.zx_base.proofs.Options.{none_some, some_is}
+use Rattle.zx_base.proofs.Booleans.{and-both as both-true, same-test as same-nat}
 
 -- a line that one connection, or one reaper, adds by itself
 abbrev pub is_own : ℕ → TranscriptLine → Bool

@@ -22,11 +22,9 @@ use Rattle.zp_step.specs.declared.input.Input.TheVariants as input
 use Rattle.zp_world_laws.proofs.Acting.{Acts, acts-entries, acts-known, acts-within, is_own}
 use Rattle.zp_world_laws.proofs.Arriving.{alike-whole, lines-shown, shown-whole, zxid-shown}
 use Rattle.zp_world_laws.proofs.Closing.{but-of}
-use Rattle.zp_world_laws.proofs.Executing.{same-nat}
 use Rattle.zp_world_laws.proofs.Frames.{HasJustCome, frame-acts, frame-placed, lined-frame}
 use Rattle.zp_world_laws.proofs.Knowing.{GrowsBeside, grows-plain, stage-push}
 use Rattle.zp_world_laws.proofs.Numbers.{conn-here, conn-there}
-use Rattle.zp_world_laws.proofs.Packets.{both-true}
 use Rattle.zp_world_laws.proofs.Rising.{badly-grown, frames-grown}
 use Rattle.zp_world_laws.proofs.Stepping.{closes-acts}
 use Rattle.zp_world_laws.proofs.Within.{within-frame}
@@ -37,6 +35,7 @@ use Rattle.zp_world_laws.specs.Counting.{HasFrames, IsLined}
 use Rattle.zp_world_laws.specs.Knowing.{IsKnownAs, Known}
 use Rattle.zp_world_laws.specs.Reaping.{IsReapFlight}
 use Rattle.zx_base.proofs.Options.{some_is}
+use Rattle.zx_base.proofs.Booleans.{and-both as both-true, same-test as same-nat}
 
 pub spelled-small : (fs : List (List ℕ)) (front : List ℕ) → Spelled IsFrame fs front → All (λ f. length f ≤ max_frame) fs
 spelled-small [] front h = All-nil (λ f. length f ≤ max_frame)

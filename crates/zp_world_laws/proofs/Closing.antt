@@ -28,6 +28,7 @@ use Rattle.zp_world_laws.proofs.Serving.{elsewhere-plain, serving-push}
 use Rattle.zp_world_laws.proofs.Talking.{is_quiet}
 use Rattle.zp_world_laws.specs.Connections.{HasSmallFrames, IsClosedAt, IsServingConn, Whole}
 use Rattle.zp_world_laws.specs.Holding.{Holds, Left, Of, Source, air, asker_in, left_in, out_in, out_of}
+use Rattle.zx_base.proofs.Booleans.{same-number}
 
 -- ---- whole but for one connection
 
@@ -157,9 +158,6 @@ was-left w c k (Some (Out a)) z o e =
       | inr new ↦ inl (new.0, o ∙ new.1)
     ]
 
-equal : (a b : ℕ) → a ≡ b → (a == b) ≡ true
-equal a b e = grind (arith, nat_tests)
-
 unequal : (a b : ℕ) → a < b → (a == b) ≡ false
 unequal a b e = grind (arith, nat_tests)
 
@@ -176,13 +174,13 @@ module _ (w : World) (c : ℕ) (x : Conn) (end : Ended) (there : conn_at c w ≡
   was : (o : Source) (z : Asking) → air (closed_world w c x end) o ≡ Some z → air w (from_where w c o) ≡ Some z
   was (Of d) z e = (out-with w c d (closed_conn x) z refl e).1
   was (Left k) z e = elim (left-of k z e) [
-    | inl new ↦ ap (λ b. air w (cond b (Of c) (Left k))) (equal k (length w.strays) new.0) ∙ new.1
+    | inl new ↦ ap (λ b. air w (cond b (Of c) (Left k))) (same-number k (length w.strays) new.0) ∙ new.1
     | inr old ↦ ap (λ b. air w (cond b (Of c) (Left k))) (unequal k (length w.strays) old.0) ∙ old.1
   ]
 
   crossed : (d k : ℕ) (p q : Asking) → air (closed_world w c x end) (Of d) ≡ Some p → air (closed_world w c x end) (Left k) ≡ Some q → Of d ≡ from_where w c (Left k) → ⊥
   crossed d k p q ea eb f = elim (left-of k q eb) [
-    | inl new ↦ not-here d p ea (of-same d c (f ∙ ap (λ b. cond b (Of c) (Left k)) (equal k (length w.strays) new.0)))
+    | inl new ↦ not-here d p ea (of-same d c (f ∙ ap (λ b. cond b (Of c) (Left k)) (same-number k (length w.strays) new.0)))
     | inr old ↦ of-left d k (f ∙ ap (λ b. cond b (Of c) (Left k)) (unequal k (length w.strays) old.0))
   ]
 
@@ -193,10 +191,10 @@ module _ (w : World) (c : ℕ) (x : Conn) (end : Ended) (there : conn_at c w ≡
   distinct (Left k) (Left j) p q ea eb f = elim (left-of k p ea) [
     | inl new ↦ elim (left-of j q eb) [
       | inl also ↦ ap Left (new.0 ∙ sym also.0)
-      | inr old ↦ absurd (of-left c j (sym (ap (λ b. cond b (Of c) (Left k)) (equal k (length w.strays) new.0)) ∙ f ∙ ap (λ b. cond b (Of c) (Left j)) (unequal j (length w.strays) old.0)))
+      | inr old ↦ absurd (of-left c j (sym (ap (λ b. cond b (Of c) (Left k)) (same-number k (length w.strays) new.0)) ∙ f ∙ ap (λ b. cond b (Of c) (Left j)) (unequal j (length w.strays) old.0)))
     ]
     | inr old ↦ elim (left-of j q eb) [
-      | inl new ↦ absurd (of-left c k (sym (ap (λ b. cond b (Of c) (Left j)) (equal j (length w.strays) new.0)) ∙ sym f ∙ ap (λ b. cond b (Of c) (Left k)) (unequal k (length w.strays) old.0)))
+      | inl new ↦ absurd (of-left c k (sym (ap (λ b. cond b (Of c) (Left j)) (same-number j (length w.strays) new.0)) ∙ sym f ∙ ap (λ b. cond b (Of c) (Left k)) (unequal k (length w.strays) old.0)))
       | inr also ↦ sym (ap (λ b. cond b (Of c) (Left k)) (unequal k (length w.strays) old.0)) ∙ f ∙ ap (λ b. cond b (Of c) (Left j)) (unequal j (length w.strays) also.0)
     ]
   ]

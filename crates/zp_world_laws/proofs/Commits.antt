@@ -25,8 +25,8 @@ use Rattle.zn_layout.specs.Keys.{HeadKey, key_bytes}
 use Rattle.zn_layout.specs.StandsFor.{HeadMeans, StandsFor, at}
 use Rattle.zp_script.specs.Worlds.{zxid_at}
 use Rattle.zp_world_laws.proofs.Moments.{beyond, le-or-next, newer, older, reached}
-use Rattle.zp_world_laws.proofs.Packets.{both-true}
 use Rattle.zp_world_laws.specs.Serving.{Commits, StoreServes, kind_lines, moment_of, next_revision, update_lines}
+use Rattle.zx_base.proofs.Booleans.{and-both as both-true}
 
 -- ---- the present
 

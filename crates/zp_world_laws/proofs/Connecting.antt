@@ -43,7 +43,7 @@ use Rattle.zp_step.specs.Stages.{Core}
 use Rattle.zp_world_laws.proofs.Asking.{ranges-read}
 use Rattle.zp_world_laws.proofs.Commits.{Committed, line_of, stands-now, zxid-next, zxid-within}
 use Rattle.zp_world_laws.proofs.Connects.{was-seen}
-use Rattle.zp_world_laws.proofs.Executing.{precedes-self, same-nat, update-room}
+use Rattle.zp_world_laws.proofs.Executing.{precedes-self, update-room}
 use Rattle.zp_world_laws.proofs.Growing.{same-precedes, serves-same}
 use Rattle.zp_world_laws.proofs.Knowing.{rests-push, zxid-rises}
 use Rattle.zp_world_laws.proofs.Looking.{get-last}
@@ -64,6 +64,7 @@ use Rattle.zs_session.specs.declared.connect.Connect.{Connect}
 use Rattle.zs_session.specs.declared.connect.Phase.TheVariants.{Attaching, Creating, Granting, Keeping, Looking, LookingAgain, Over, Unasked}
 use Rattle.zs_session.specs.declared.connect.Phase.{Phase}
 use Rattle.zx_base.proofs.Options.{none_some, some_is}
+use Rattle.zx_base.proofs.Booleans.{same-test as same-nat}
 
 -- ---- the session after its line
 

@@ -4,7 +4,7 @@ use Rattle.std.specs.Prelude.{Option, Some, not, ◌≤ℤ◌, ◌&&◌, nat_le,
 use Rattle.std.specs.FinMap.{get}
 use Rattle.std.specs.Ordering.{int_eq}
 use Rattle.std.specs.List.{list_all}
-use Rattle.std.proofs.lemmas.Bool.Decides.{nat_tests, Decides-int_eq}
+use Rattle.std.proofs.lemmas.Bool.Decides.{nat_tests}
 use Rattle.std.proofs.lemmas.Int.{ints}
 use Rattle.std.proofs.lemmas.Slice.Eq.{bytes_eq-Decides}
 use Rattle.ev_types.specs.Store.{Store, acts_applied, holds, last_revision, mod_of, present, revision, store_at}
@@ -30,10 +30,10 @@ use Rattle.zp_laws.proofs.NewSessions.{new_session-commits}
 use Rattle.zs_session.specs.Sessions.{attach_guards, life_key, new_session_txn}
 use Rattle.zx_base.proofs.Options.{some_is}
 use Rattle.zp_world_laws.proofs.Commits.{stands-now, zxid-next}
-use Rattle.zp_world_laws.proofs.Packets.{both-true}
 use Rattle.zp_world_laws.proofs.Plans.{number-is}
 use Rattle.zp_world_laws.specs.Bounds.{IsBoundAttach, IsBoundNew, IsBoundReap, IsUnattached, WasLifeOf}
 use Rattle.zp_world_laws.specs.Serving.{Commits, GuardsHold, StoreServes, next_revision}
+use Rattle.zx_base.proofs.Booleans.{and-both as both-true, same-int}
 
 small-is : (n : ℕ) → n ≤ max_frame → nat_le n max_frame ≡ true
 small-is n le = grind (arith, nat_tests)
@@ -48,9 +48,6 @@ attachable s lines c r u =
     ∙ both-true (is_none (attach_of c lines) && is_small_frame (frame c 0 lines)) (int_lt r.last_zxid (next_revision s))
     (both-true (is_none (attach_of c lines)) (is_small_frame (frame c 0 lines)) (ap is_none u.unattached) (ap is_small_frame u.framed ∙ small-is (length u.bytes) u.small))
     (below-next s r.last_zxid u.past)
-
-same-int : (a b : ℤ) → a ≡ b → int_eq a b ≡ true
-same-int a b e = (Decides-int_eq a b).1 e
 
 four : (a b c d e : Bool) → a ≡ true → b ≡ true → c ≡ true → d ≡ true → e ≡ true → (a && b && c && d && e) ≡ true
 four a b c d e x y z u v = both-true (a && b && c && d) e (both-true (a && b && c) d (both-true (a && b) c (both-true a b x y) z) u) v

@@ -57,6 +57,7 @@ use Rattle.zp_world_laws.specs.Bounds.{IsBound, IsBoundAs, IsBoundAsk, attachmen
 use Rattle.zp_world_laws.specs.Connections.{IsServingConn}
 use Rattle.zp_world_laws.specs.Holding.{Indexed, Talks, requested_by}
 use Rattle.zp_world_laws.specs.Serving.{StoreServes, next_revision, only_reads, update_lines}
+use Rattle.zx_base.proofs.Booleans.{same-test}
 
 -- ---- before a first answer, the moment of what a stage holds is free
 
@@ -193,19 +194,16 @@ record IsOfRequest (kind : UpdateKind) (c i : ℕ) : Type 0 where
   shown : (z : ℤ) → own_update_shown c i (Update (record { zxid = z; kind = kind })) ≡ Some (record { zxid = z; kind = kind })
   index : index_in c kind ≡ Some i
 
-pub same-nat : (c : ℕ) → (c == c) ≡ true
-same-nat c = grind (arith, nat_tests)
-
 of-request : (q : Request) (id : ℤ) (c i m : ℕ) → IsOfRequest (kind_of_request c i id m q) c i
 of-request req.Close id c i m = record {
   asked = refl;
-  shown = λ z. ap (λ b. when (b && (i == i)) (record { zxid = z; kind = Closed id c i })) (same-nat c) ∙ ap (λ b. when b (record { zxid = z; kind = Closed id c i })) (same-nat i);
-  index = ap (λ b. when b i) (same-nat c);
+  shown = λ z. ap (λ b. when (b && (i == i)) (record { zxid = z; kind = Closed id c i })) (same-test c) ∙ ap (λ b. when b (record { zxid = z; kind = Closed id c i })) (same-test i);
+  index = ap (λ b. when b i) (same-test c);
 }
 of-request _ id c i m = record {
   asked = refl;
-  shown = λ z. ap (λ b. when (b && (i == i)) (record { zxid = z; kind = Asked c i m })) (same-nat c) ∙ ap (λ b. when b (record { zxid = z; kind = Asked c i m })) (same-nat i);
-  index = ap (λ b. when b i) (same-nat c);
+  shown = λ z. ap (λ b. when (b && (i == i)) (record { zxid = z; kind = Asked c i m })) (same-test c) ∙ ap (λ b. when b (record { zxid = z; kind = Asked c i m })) (same-test i);
+  index = ap (λ b. when b i) (same-test c);
 }
 
 pub kind-same : (q : Request) (id : ℤ) (c i m : ℕ) → kind_of_request c i id m q ≡ kind_for q id c i m

@@ -39,10 +39,8 @@ use Rattle.zp_world_laws.proofs.Acting.{Acts, leaves-acts}
 use Rattle.zp_world_laws.proofs.Actions.{said}
 use Rattle.zp_world_laws.proofs.Arriving.{Arrived, Queues, Shuts, arrived, busy-whole, is_busy}
 use Rattle.zp_world_laws.proofs.Closing.{AreShown, but-of}
-use Rattle.zp_world_laws.proofs.Executing.{same-nat}
 use Rattle.zp_world_laws.proofs.Greeting.{IsConnectAt, asking_core, asks-acts, in_phase}
 use Rattle.zp_world_laws.proofs.Handing.{IsReadyFor, handed-whole, stays-served}
-use Rattle.zp_world_laws.proofs.Kept.{true-false}
 use Rattle.zp_world_laws.proofs.Knowing.{AreAside}
 use Rattle.zp_world_laws.proofs.Stepping.{closing-acts, counts-on, handed-acts}
 use Rattle.zp_world_laws.proofs.Talking.{first_place-front}
@@ -59,6 +57,7 @@ use Rattle.zs_session.specs.declared.connect.Fresh.{Fresh}
 use Rattle.zs_session.specs.declared.connect.Phase.TheVariants.{Looking}
 use Rattle.zs_session.specs.declared.connect.Phase.{Phase}
 use Rattle.zx_base.proofs.Options.{none_some}
+use Rattle.zx_base.proofs.Booleans.{same-test as same-nat, true-not_false as true-false}
 
 -- ---- its line
 

@@ -56,11 +56,10 @@ use Rattle.zp_world_laws.proofs.Actions.{Split, said, said-packets, said-speech,
 use Rattle.zp_world_laws.proofs.Carrying.{one}
 use Rattle.zp_world_laws.proofs.Closing.{But, but-of, ends-whole, with_lines}
 use Rattle.zp_world_laws.proofs.Connecting.{IsAwaiting, connect-bound, connect-is}
-use Rattle.zp_world_laws.proofs.Executing.{precedes-self, same-nat}
+use Rattle.zp_world_laws.proofs.Executing.{precedes-self}
 use Rattle.zp_world_laws.proofs.Handing.{GoesOn, core-same, goes-on-whole, served-at}
-use Rattle.zp_world_laws.proofs.Kept.{true-false}
 use Rattle.zp_world_laws.proofs.Knowing.{AreAside, rests-push, close-last}
-use Rattle.zp_world_laws.proofs.Packets.{both-true, packets-append}
+use Rattle.zp_world_laws.proofs.Packets.{packets-append}
 use Rattle.zp_world_laws.proofs.Setting.{lone, sets-whole}
 use Rattle.zp_world_laws.proofs.Speaking.{all-quiet, speaks-but}
 use Rattle.zp_world_laws.proofs.Stepping.{closing-acts, counts-on, handed-acts}
@@ -79,6 +78,7 @@ use Rattle.zs_session.specs.declared.connect.ConnectStep.{ConnectStep}
 use Rattle.zs_session.specs.declared.connect.Phase.TheVariants.{Attaching, Creating, Granting, Keeping, Looking, LookingAgain, Over, Unasked}
 use Rattle.zs_session.specs.declared.connect.Phase.{Phase}
 use Rattle.zx_base.proofs.Options.{none_some, some_is}
+use Rattle.zx_base.proofs.Booleans.{and-both as both-true, same-test as same-nat, true-not_false as true-false}
 
 -- ---- the step
 

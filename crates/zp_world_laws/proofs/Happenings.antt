@@ -12,7 +12,7 @@ use Rattle.zp_script.specs.Effects.{EntersBy, IsEntry}
 use Rattle.zp_script.specs.Entries.{next_entry}
 use Rattle.zp_script.specs.Faults.{entry_fault, fault, flight_at, if_fails, is_kept_key, is_reaper_at, open_fault}
 use Rattle.zp_script.specs.Worlds.{Conn, World, conn_at, is_closed_actor}
-use Rattle.zx_base.proofs.Options.{some_none}
+use Rattle.zx_base.proofs.Options.{some_none, none-unless_some}
 use Rattle.zp_world_laws.proofs.Delivering.{IsTrueEntryInput, answer-whole, entry-whole}
 use Rattle.zp_world_laws.proofs.Entering.{exec-entries, next-true, stray-entries}
 use Rattle.zp_world_laws.proofs.Ends.{cut-whole, end-whole, lag-whole, refuse-whole}
@@ -28,10 +28,6 @@ use Rattle.zp_world_laws.specs.Keeping.{IsAttachedIn, Keeps, KeepsEntries, Keeps
 pub passes : (b : Bool) (cause : Why) (later : Option Why) → if_fails b cause later ≡ None → (b ≡ false) × (later ≡ None)
 passes true cause later h = absurd (some_none h)
 passes false cause later h = (refl, h)
-
-none-is : {A : Type 0} (o : Option A) → is_some o ≡ false → o ≡ None
-none-is None h = refl
-none-is (Some x) h = absurd (cc)
 
 -- ---- one by one
 
@@ -68,11 +64,11 @@ restart-keeps p w w' possible does h = subst Whole (sym does) (restart-whole w p
 
 pub open-keeps : (c p : ℕ) (id : ℤ) (passwd : List ℕ) → Keeps (line.Open c p id passwd)
 unfolding fault
-open-keeps c p id passwd w w' possible does h = subst Whole (sym does) (open-whole w c p id passwd (none-is (conn_at c w) ((passes (is_some (conn_at c w)) _ _ possible).0)) h)
+open-keeps c p id passwd w w' possible does h = subst Whole (sym does) (open-whole w c p id passwd (none-unless_some (conn_at c w) ((passes (is_some (conn_at c w)) _ _ possible).0)) h)
 
 pub reap-keeps : (c p : ℕ) (id : ℤ) → Keeps (line.Reap c p id)
 unfolding fault
-reap-keeps c p id w w' possible does h = reap-whole w w' c p id (none-is (conn_at c w) ((passes (is_some (conn_at c w)) _ _ possible).0)) does h
+reap-keeps c p id w w' possible does h = reap-whole w w' c p id (none-unless_some (conn_at c w) ((passes (is_some (conn_at c w)) _ _ possible).0)) does h
 
 pub answer-keeps : (c : ℕ) → KeepsIf (λ w. IsAttachedIn w c) (line.Answer c)
 answer-keeps c w w' a possible does h = answer-whole w w' c a.conn a.core a.there a.connection a.served does h
@@ -93,7 +89,7 @@ entry-idle-at c w possible =
     let a = open-passes c w (if_fails (is_reaper_at c w) why.NotAConnection entry) possible in
     let b = passes (is_reaper_at c w) why.NotAConnection entry a in
     let d = passes (is_some (flight_at c w)) why.RequestOut (if_fails (is_none (next_entry c w)) why.NoEntry None) b.1 in
-    none-is (flight_at c w) d.0
+    none-unless_some (flight_at c w) d.0
 
 entry-flight : (c : ℕ) (w : World) (x : Conn) → conn_at c w ≡ Some x → entry_fault c w None ≡ None → x.flight ≡ None
 entry-flight c w x there possible = sym (ap (option_and_then (λ (y : Conn). y.flight)) there) ∙ entry-idle-at c w possible

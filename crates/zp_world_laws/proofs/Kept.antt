@@ -36,6 +36,7 @@ use Rattle.zp_world_laws.proofs.Transactions.{other-carried, txn-carried}
 use Rattle.zp_world_laws.specs.Connections.{HasSmallFrames, IsClosedAt, IsServingConn, Whole}
 use Rattle.zp_world_laws.specs.Holding.{Holds, Left, Of, air, asker_in, left_in, made_for, out_in, out_of}
 use Rattle.zp_world_laws.specs.Serving.{kind_lines, update_lines}
+use Rattle.zx_base.proofs.Booleans.{true-not_false}
 
 -- ---- each connection's record is shown anew, or the connection is as it was and the lines are others'
 
@@ -73,14 +74,11 @@ small-more lines lines' more e n h c = subst (λ l. HasSmallFrames l c) (sym e) 
 pub closed-same : (w w' : World) (c : ℕ) → conn_at c w' ≡ conn_at c w → IsClosedAt w c → IsClosedAt w' c
 closed-same w w' c e t = (t.0, e ∙ t.1, t.2)
 
-pub true-false : true ≡ false → ⊥
-true-false e = cc
-
 -- an open connection has no strays
 pub no-stray : (w : World) (c : ℕ) (x : Conn) → ((k d : ℕ) (a : Asking) → air w (Left k) ≡ Some a → asker_in a ≡ Some d → IsClosedAt w d) → conn_at c w ≡ Some x → is_closed_actor x.actor ≡ false → (k : ℕ) (a : Asking) → air w (Left k) ≡ Some a → asker_in a ≡ Some c → ⊥
 no-stray w c x left e opens k a g r =
     let t = left k c a g r in
-    true-false (sym t.2 ∙ ap (λ (y : Conn). is_closed_actor y.actor) (some_is (sym t.1 ∙ e)) ∙ opens)
+    true-not_false (sym t.2 ∙ ap (λ (y : Conn). is_closed_actor y.actor) (some_is (sym t.1 ∙ e)) ∙ opens)
 
 -- ---- the clock, and other users
 

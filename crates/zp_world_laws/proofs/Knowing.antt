@@ -44,7 +44,6 @@ use Rattle.zp_world_laws.proofs.Growing.{precedes-trans, reap-kept, was-kept}
 use Rattle.zp_world_laws.proofs.Lines.{is_plain, plain-attach}
 use Rattle.zp_world_laws.proofs.Naming.{attach-unnamed, close-none, elsewhere-unnamed, frame-none, never-opened}
 use Rattle.zp_world_laws.proofs.Numbers.{either-number}
-use Rattle.zp_world_laws.proofs.Packets.{both-true}
 use Rattle.zp_world_laws.proofs.Serving.{Elsewhere, elsewhere-plain}
 use Rattle.zp_world_laws.proofs.Talking.{first_place-front}
 use Rattle.zp_world_laws.specs.Connecting.{HasOwnLine, IsConnectFlight, IsConnecting, IsInStage, IsOwnSession, IsSeenLife, IsUntouched, RestsOn}
@@ -64,6 +63,7 @@ use Rattle.zs_session.specs.declared.connect.Fresh.{Fresh}
 use Rattle.zs_session.specs.declared.connect.Phase.TheVariants.{Attaching, Creating, Granting, Keeping, Looking, LookingAgain, Over, Unasked}
 use Rattle.zs_session.specs.declared.connect.Phase.{Phase}
 use Rattle.zx_base.proofs.Options.{none_some, some_is}
+use Rattle.zx_base.proofs.Booleans.{and-both as both-true}
 
 -- ---- zxids rise
 

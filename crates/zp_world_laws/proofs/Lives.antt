@@ -33,10 +33,9 @@ use Rattle.zp_world_laws.proofs.Ends.{landed-but, landed-is}
 use Rattle.zp_world_laws.proofs.Entering.{next-true}
 use Rattle.zp_world_laws.proofs.Greeting.{greeted-acts}
 use Rattle.zp_world_laws.proofs.Handing.{IsReadyFor, core-same, handed-whole, stays-served}
-use Rattle.zp_world_laws.proofs.Kept.{true-false}
 use Rattle.zp_world_laws.proofs.Numbers.{conn-here, conn-there, either-number}
 use Rattle.zp_world_laws.proofs.Reapers.{reaps-acts}
-use Rattle.zp_world_laws.proofs.Restarting.{Distinct, Gives, all-found, gives-as, gives-others, is-true, sorted-distinct}
+use Rattle.zp_world_laws.proofs.Restarting.{Distinct, Gives, all-found, gives-as, gives-others, sorted-distinct}
 use Rattle.zp_world_laws.proofs.Stepping.{closes-acts, counts-on, handed-acts}
 use Rattle.zp_world_laws.proofs.Within.{within-close, within-more}
 use Rattle.zp_world_laws.specs.Accounting.{IsAccounted}
@@ -48,6 +47,7 @@ use Rattle.zp_world_laws.specs.Knowing.{IsKnownAs, Known}
 use Rattle.zp_world_laws.specs.Reaping.{IsReapFlight}
 use Rattle.zs_reap.specs.declared.reap.Reap.{Reap}
 use Rattle.zx_base.proofs.Options.{none_some, some_is}
+use Rattle.zx_base.proofs.Booleans.{true-from_T as is-true, true-not_false as true-false}
 
 -- ---- its ask has landed
 

@@ -1,5 +1,5 @@
 -- Lines that don't name a connection leave what the transcript shows of it.
-use Rattle.std.proofs.Common.{Bool, List, [], ap, append-nil, append_assoc, arith, false, length, refl, subst, sym, true, ℕ, ◌++◌, ◌+◌, ◌∙◌, ◌∷◌, ◌≡◌}
+use Rattle.std.proofs.Common.{List, [], ap, append-nil, append_assoc, arith, false, length, refl, subst, sym, true, ℕ, ◌++◌, ◌+◌, ◌∙◌, ◌∷◌, ◌≡◌}
 use Rattle.std.proofs.lemmas.Bool.{and_parts}
 use Rattle.std.specs.Prelude.{None, Option, Some, if◌then◌else◌, not, ◌&&◌, ◌==◌}
 use Rattle.zk_transcript.specs.Conversations.{close_shown}
@@ -11,18 +11,14 @@ use Rattle.zk_transcript.specs.declared.transcript.TranscriptLine.{TranscriptLin
 use Rattle.zk_service.specs.declared.update.UpdateRec.{UpdateRec}
 use Rattle.zp_laws.specs.Standing.{is_ahead}
 use Rattle.zp_world_laws.proofs.Carrying.{no-attach, no-index, one, requested-for, unlike}
-use Rattle.zp_world_laws.proofs.Kept.{true-false}
-use Rattle.zp_world_laws.proofs.Numbers.{number-same, same-number}
-use Rattle.zp_world_laws.proofs.Packets.{both-true, packets-append}
+use Rattle.zp_world_laws.proofs.Numbers.{number-same}
+use Rattle.zp_world_laws.proofs.Packets.{packets-append}
 use Rattle.zp_world_laws.proofs.Serving.{Elsewhere}
 use Rattle.zp_world_laws.proofs.Talking.{ahead-push, first_place-front, own-none, talks-push}
 use Rattle.zp_world_laws.specs.Holding.{Talks, made_for}
 use Rattle.zp_world_laws.specs.Naming.{is_made_for, is_unnamed, names_conn}
 use Rattle.zx_base.proofs.Options.{none_some, some_is}
-
-not-true : (b : Bool) → not b ≡ true → b ≡ false
-not-true true h = absurd (cc)
-not-true false h = refl
+use Rattle.zx_base.proofs.Booleans.{and-both as both-true, not-true, true-not_false as true-false, same-number}
 
 -- ---- one line
 

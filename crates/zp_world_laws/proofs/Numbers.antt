@@ -9,9 +9,7 @@ use Rattle.zx_base.proofs.Options.{none_some}
 use Rattle.zp_script.specs.declared.flight.Asking.{Asking}
 use Rattle.zp_script.specs.Worlds.{Conn, Conns, World, conn_at, with_conn}
 use Rattle.zp_world_laws.specs.Holding.{Left, Of, left_in}
-
-pub same-number : (c d : ℕ) → c ≡ d → (c == d) ≡ true
-same-number c d e = grind (arith, nat_tests)
+use Rattle.zx_base.proofs.Booleans.{same-number}
 
 pub number-same : (c d : ℕ) → (c == d) ≡ true → c ≡ d
 number-same c d e = grind (arith, nat_tests)

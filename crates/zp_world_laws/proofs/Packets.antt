@@ -7,10 +7,7 @@ use Rattle.std.proofs.lemmas.Slice.Eq.{bytes_eq-Decides}
 use Rattle.zk_transcript.specs.Walks.{Due, are_sent, packets, packets_from}
 use Rattle.zk_transcript.specs.declared.transcript.TranscriptLine.{TranscriptLine}
 use Rattle.zk_transcript.specs.declared.transcript.TranscriptLine.TheVariants.{Update, Open, Frame as FrameLine, Send, Lapse, Close}
-
-pub both-true : (a b : Bool) → a ≡ true → b ≡ true → (a && b) ≡ true
-both-true true b h e = e
-both-true false b h e = absurd (cc)
+use Rattle.zx_base.proofs.Booleans.{and-both}
 
 -- ---- in a longer transcript
 
@@ -73,7 +70,7 @@ heads : {A : Type 0} (x y : A) (xs ys : List A) → x ∷ xs ≡ y ∷ ys → (x
 heads x y xs ys h = (cc, cc)
 
 one_sent : (d p : Due) (n : ℕ) → d.0 ≤ n → n ≤ p.0 → d.1 ≡ p.1 → (nat_le d.0 p.0 && bytes_eq d.1 p.1) ≡ true
-one_sent d p n a b e = both-true (nat_le d.0 p.0) (bytes_eq d.1 p.1) (grind (arith, nat_tests)) ((bytes_eq-Decides d.1 p.1).1 e)
+one_sent d p n a b e = and-both (nat_le d.0 p.0) (bytes_eq d.1 p.1) (grind (arith, nat_tests)) ((bytes_eq-Decides d.1 p.1).1 e)
 
 -- the same packets, due no later than a place from which on they stand
 pub all_sent : (n : ℕ) (ds ps : List Due) → All (UpToPlace n) ds → All (FromPlace n) ps → map (λ (d : Due). d.1) ds ≡ map (λ (p : Due). p.1) ps → are_sent ds ps ≡ true
@@ -82,4 +79,4 @@ all_sent n [] (p ∷ ps) a b f = absurd (cc)
 all_sent n (d ∷ ds) [] a b f = absurd (cc)
 all_sent n (d ∷ ds) (p ∷ ps) a b f =
     let h = heads d.1 p.1 (map (λ (x : Due). x.1) ds) (map (λ (x : Due). x.1) ps) f in
-    both-true (nat_le d.0 p.0 && bytes_eq d.1 p.1) (are_sent ds ps) (one_sent d p n (All-head (UpToPlace n) d ds a) (All-head (FromPlace n) p ps b) h.0) (all_sent n ds ps (All-tail (UpToPlace n) d ds a) (All-tail (FromPlace n) p ps b) h.1)
+    and-both (nat_le d.0 p.0 && bytes_eq d.1 p.1) (are_sent ds ps) (one_sent d p n (All-head (UpToPlace n) d ds a) (All-head (FromPlace n) p ps b) h.0) (all_sent n ds ps (All-tail (UpToPlace n) d ds a) (All-tail (FromPlace n) p ps b) h.1)

@@ -1,7 +1,7 @@
 -- A plan that is bound to a view by its guards may be carried out whenever they hold: its session is attached where it was then,
 -- and the update is one that the service could make.
 use Rattle.std.proofs.Common.{◌≡◌, ℕ, ◌≤◌, List, length, take, refl, sym, ap, ◌∙◌, subst, arith, Bool, true, false, ℤ, pos, inl, inr}
-use Rattle.std.specs.Prelude.{Option, Some, None, nat_abs, not, ◌⊎◌, ◌≤ℤ◌, if◌then◌else◌, ◌&&◌, nat_lt, nat_le, Contains, option_and_then, is_some, ◌==◌, int_lt, int_le}
+use Rattle.std.specs.Prelude.{Option, Some, None, nat_abs, not, ◌⊎◌, ◌≤ℤ◌, if◌then◌else◌, ◌&&◌, nat_lt, nat_le, Contains, option_and_then, is_some, int_lt, int_le}
 use Rattle.std.specs.FinMap.{get}
 use Rattle.std.specs.Ordering.{int_eq}
 use Rattle.std.specs.List.{list_all}
@@ -42,9 +42,9 @@ use Rattle.zp_laws.proofs.Revisions.{may-commit}
 use Rattle.zp_laws.specs.Inputs.{kind_for}
 use Rattle.zp_laws.specs.Standing.{IsForTree, is_ahead}
 use Rattle.zp_world_laws.proofs.Commits.{stands-now, zxid-next}
-use Rattle.zp_world_laws.proofs.Packets.{both-true}
 use Rattle.zp_world_laws.specs.Bounds.{IsBoundRequest}
 use Rattle.zp_world_laws.specs.Serving.{Commits, GuardsHold, StoreServes, next_revision}
+use Rattle.zx_base.proofs.Booleans.{and-both as both-true, same-test}
 
 -- ---- the guard on the record of the session's life
 
@@ -149,14 +149,11 @@ does lines s z id c i now q y a done = elim (close-or-not s z id c i now q) [
       }
 ]
 
-index-self : (c : ℕ) → (c == c) ≡ true
-index-self c = grind (arith, nat_tests)
-
 -- its line comes after all of its connection's requests
 in-order : (lines : List TranscriptLine) (z id : ℤ) (c i now : ℕ) (q : Request) → is_ahead lines c i ≡ true → is_in_order lines (Update (record { zxid = z; kind = kind_for q id c i now })) ≡ true
 in-order lines z id c i now q h = elim (close-or-not (after lines) z id c i now q) [
-  | inl close ↦ subst (λ p. is_in_order lines (Update (record { zxid = z; kind = kind_for p id c i now })) ≡ true) (sym close) (ap (λ b. follows lines c (if b then Some i else None)) (index-self c) ∙ h)
-  | inr other ↦ subst (λ k. is_in_order lines (Update (record { zxid = z; kind = k })) ≡ true) (sym other.0) (ap (λ b. follows lines c (if b then Some i else None)) (index-self c) ∙ h)
+  | inl close ↦ subst (λ p. is_in_order lines (Update (record { zxid = z; kind = kind_for p id c i now })) ≡ true) (sym close) (ap (λ b. follows lines c (if b then Some i else None)) (same-test c) ∙ h)
+  | inr other ↦ subst (λ k. is_in_order lines (Update (record { zxid = z; kind = k })) ≡ true) (sym other.0) (ap (λ b. follows lines c (if b then Some i else None)) (same-test c) ∙ h)
 ]
 
 pub number-is : (id : ℤ) → pos 1 ≤ℤ id → id ≤ℤ max_long → is_id id ≡ true

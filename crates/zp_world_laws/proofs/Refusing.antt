@@ -5,7 +5,7 @@ use Rattle.ev_types.specs.Store.{Store}
 use Rattle.ev_types.specs.declared.answer.ActAns.{ActAns}
 use Rattle.ev_types.specs.declared.answer.Answer.TheVariants as answer
 use Rattle.ev_types.specs.declared.answer.Kv.{Kv}
-use Rattle.std.proofs.Common.{Bool, List, ap, arith, false, inl, inr, length, negsuc, pos, refl, subst, sym, true, ℤ, ◌∙◌, ◌≡◌}
+use Rattle.std.proofs.Common.{Bool, List, ap, arith, false, inl, inr, length, pos, refl, subst, sym, true, ℤ, ◌∙◌, ◌≡◌}
 use Rattle.std.proofs.lemmas.Int.{ints}
 use Rattle.std.proofs.lemmas.Slice.Eq.{bytes_eq-Decides}
 use Rattle.std.specs.Ordering.{int_eq}
@@ -24,14 +24,10 @@ use Rattle.zn_view.specs.Views.{Agrees}
 use Rattle.zn_view.specs.declared.plan.Plan.{Plan}
 use Rattle.zp_laws.proofs.Parts.{parts-worked}
 use Rattle.zp_laws.proofs.Revisions.{seen-any}
-use Rattle.zp_world_laws.proofs.Kept.{true-false}
-use Rattle.zp_world_laws.proofs.Packets.{both-true}
 use Rattle.zs_session.specs.Connecting.{SawNoneOfMine}
 use Rattle.zs_session.specs.Sessions.{life_key}
-
-abs-is : (z : ℤ) → pos 1 ≤ℤ z → pos (nat_abs z) ≡ z
-abs-is (pos n) h = refl
-abs-is (negsuc n) h = absurd (omega (arith, ints, h))
+use Rattle.zx_base.proofs.Booleans.{and-both as both-true, true-not_false as true-false}
+use Rattle.zx_base.proofs.Numbers.{pos-abs}
 
 module _ (r : ConnectRequest) (s : State) (v : View) (m : Keys) (sound : IsSound s) (st : StandsFor m s) (agrees : Agrees v m) (looked : pos 1 ≤ℤ r.session → seen v (key_bytes (life_key r.session)) ≡ None → ⊥) (none : SawNoneOfMine r v) where
   -- the record of its life is there, and was seen
@@ -42,7 +38,7 @@ module _ (r : ConnectRequest) (s : State) (v : View) (m : Keys) (sound : IsSound
       least = sound.numbered r.session x e
 
       there : session_at (pos (nat_abs r.session)) s ≡ Some x
-      there = ap (λ n. session_at n s) (abs-is r.session (sound.numbered r.session x e)) ∙ e
+      there = ap (λ n. session_at n s) (pos-abs r.session (sound.numbered r.session x e)) ∙ e
 
       go : (o : Option Kv) → at m (life_key r.session) ≡ o → LifeMeans (nat_abs r.session) (Some x) (stored_of o) → ⊥
       go None f lapsed = true-false (sym lapsed ∙ alive)

@@ -1,12 +1,11 @@
 -- A proxy restarts: all its open connections and reapers end.
-use Rattle.std.proofs.Common.{◌≡◌, ◌≢◌, ℕ, List, [], ◌∷◌, refl, sym, ap, ◌∙◌, Bool, true, false, cond}
-use Rattle.std.specs.Prelude.{Option, Some, T, fold, if◌then◌else◌}
+use Rattle.std.proofs.Common.{◌≡◌, ◌≢◌, ℕ, List, [], ◌∷◌, refl, ap, ◌∙◌, Bool, true, false, cond}
+use Rattle.std.specs.Prelude.{Option, Some, fold, if◌then◌else◌}
 use Rattle.std.specs.Cmp.{unsigned_tied}
 use Rattle.std.specs.FinMap.{entries, entries_sorted, find, get-entries, is_sorted}
 use Rattle.std.specs.FinMap.Entries.{below_all}
 use Rattle.std.specs.Ordering.{is_lt, nat_cmp}
 use Rattle.std.proofs.lemmas.Bool.{and_parts}
-use Rattle.std.proofs.lemmas.Cmp.{nat_cmp_total, tied_itself}
 use Rattle.zk_transcript.specs.History.{after}
 use Rattle.zk_service.specs.declared.cause.Cause.TheVariants as cause
 use Rattle.zk_service.specs.declared.cause.Ended.TheVariants as ended
@@ -14,8 +13,10 @@ use Rattle.zp_script.specs.Effects.{is_open_at, restarted, stopped}
 use Rattle.zp_script.specs.StepOutcomes.{ended_by, leaves}
 use Rattle.zp_script.specs.Worlds.{Closed, Conn, World, conn_at}
 use Rattle.zp_world_laws.proofs.Closing.{but-of, closed_conn, ends-whole}
-use Rattle.zp_world_laws.proofs.Numbers.{conn-there, other-number, same-number}
+use Rattle.zp_world_laws.proofs.Numbers.{conn-there, other-number}
 use Rattle.zp_world_laws.specs.Connections.{Whole}
+use Rattle.zx_base.proofs.Booleans.{true-from_T, same-number}
+use Rattle.zx_base.proofs.Orders.{less-apart}
 
 -- a function gives each of these entries
 abbrev pub Gives : (ℕ → Option Conn) → List (ℕ × Conn) → Type 0
@@ -31,12 +32,6 @@ Distinct [] = Unit {0}
 Distinct (e ∷ es) = Apart e.0 es × Distinct es
 
 -- ---- the entries of a map
-
-less-apart : (k n : ℕ) → is_lt (nat_cmp k n) ≡ true → n ≢ k
-less-apart k n h e = equal-less (sym (ap is_lt (tied_itself nat_cmp_total k)) ∙ ap (λ m. is_lt (nat_cmp k m)) (sym e) ∙ h)
-  where
-    equal-less : false ≡ true → ⊥
-    equal-less f = cc
 
 below-apart : (k : ℕ) (es : List (ℕ × Conn)) → below_all nat_cmp k es ≡ true → Apart k es
 below-apart k [] h = tt
@@ -60,10 +55,6 @@ pub gives-as : (f g : ℕ → Option Conn) (es : List (ℕ × Conn)) → ((k : �
 gives-as f g [] same h = tt
 gives-as f g (e ∷ es) same h = (same e.0 ∙ h.0, gives-as f g es same h.1)
 
-pub is-true : (b : Bool) → T b → b ≡ true
-is-true true t = refl
-is-true false t = absurd t
-
 -- ---- one by one
 
 pub gives-others : (w : World) (c : ℕ) (x : Conn) (es : List (ℕ × Conn)) → Apart c es → Gives (λ k. conn_at k w) es → Gives (λ k. conn_at k (leaves c w x Closed (ended_by c cause.Restart x.flight))) es
@@ -81,5 +72,5 @@ stopped-whole p w (e ∷ es) d g h = go (is_open_at p e.1) (λ v. stopped-whole 
 
 pub restart-whole : (w : World) (p : ℕ) → Whole w → Whole (restarted p w)
 restart-whole w p h =
-    let d = sorted-distinct (entries w.conns) (is-true (is_sorted nat_cmp (entries w.conns)) (entries_sorted w.conns)) in
+    let d = sorted-distinct (entries w.conns) (true-from_T (is_sorted nat_cmp (entries w.conns)) (entries_sorted w.conns)) in
     stopped-whole p w (entries w.conns) d (gives-as (λ k. find nat_cmp k (entries w.conns)) (λ k. conn_at k w) (entries w.conns) (λ k. get-entries w.conns k) (all-found (entries w.conns) d)) h

@@ -32,12 +32,13 @@ use Rattle.zp_step.specs.declared.input.Input.{Input}
 use Rattle.zp_world_laws.proofs.Effects.{stored-in}
 use Rattle.zp_world_laws.proofs.Numbers.{conn-here, conn-there, either-number}
 use Rattle.zp_world_laws.proofs.Reaping.{damaged-memory, looking_reaper, looks-first}
-use Rattle.zp_world_laws.proofs.Restarting.{Distinct, Gives, all-found, gives-as, gives-others, is-true, sorted-distinct}
+use Rattle.zp_world_laws.proofs.Restarting.{Distinct, Gives, all-found, gives-as, gives-others, sorted-distinct}
 use Rattle.zs_reap.specs.declared.reap.Reap.{Reap}
 use Rattle.zt_text.specs.declared.script.Happening.TheVariants as line
 use Rattle.zt_text.specs.declared.script.Happening.{Happening}
 use Rattle.zt_text.specs.declared.script.Why.TheVariants as why
 use Rattle.zx_base.proofs.Options.{none_some, some_is}
+use Rattle.zx_base.proofs.Booleans.{true-from_T as is-true}
 
 -- each connection that was there is there still, and a count of frames that was at its greatest value still is
 pub record Grown (w w' : World) : Type 0 where

@@ -11,12 +11,13 @@ use Rattle.zp_laws.specs.Frames.{is_served}
 use Rattle.zp_step.specs.Stages.{Core, is_shut}
 use Rattle.zp_world_laws.proofs.Carrying.{one, request-asker}
 use Rattle.zp_world_laws.proofs.Closing.{But}
-use Rattle.zp_world_laws.proofs.Kept.{closed-same, no-stray, true-false}
+use Rattle.zp_world_laws.proofs.Kept.{closed-same, no-stray}
 use Rattle.zp_world_laws.proofs.Numbers.{conn-here, conn-there, either-number, of-same}
 use Rattle.zp_world_laws.specs.Bounds.{IsBoundAsk}
 use Rattle.zp_world_laws.specs.Connections.{IsClosedAt, IsServingConn, Whole}
 use Rattle.zp_world_laws.specs.Holding.{Holds, IsAhead, IsSpoken, Left, Of, Source, Talks, air, asker_in, out_in, out_of, request_in}
 use Rattle.zx_base.proofs.Options.{none_some, some_is}
+use Rattle.zx_base.proofs.Booleans.{true-not_false as true-false}
 
 -- nothing of c may still be carried out but what is out of it
 pub lone : (w : World) (c : ℕ) (x : Conn) → ((e d : ℕ) (y : Conn) (a : Asking) → conn_at e w ≡ Some y → y.flight ≡ Some (Out a) → asker_in a ≡ Some d → d ≡ e) → ((k d : ℕ) (a : Asking) → air w (Left k) ≡ Some a → asker_in a ≡ Some d → IsClosedAt w d) → conn_at c w ≡ Some x → is_closed_actor x.actor ≡ false

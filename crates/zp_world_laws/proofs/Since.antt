@@ -53,12 +53,9 @@ use Rattle.zp_step.specs.declared.input.Input.{Input}
 use Rattle.zp_world_laws.proofs.Acting.{all-own-quiet, is_own, one-own, own-append}
 use Rattle.zp_world_laws.proofs.Actions.{Asks, Closes, Rests, Tail, asked_in, said, said-speech, split, split-asked, split-outcome, tail_outcome}
 use Rattle.zp_world_laws.proofs.Effects.{left-at, line-air, out-with, store-air, stored-in, stray-air}
-use Rattle.zp_world_laws.proofs.Executing.{same-nat}
-use Rattle.zp_world_laws.proofs.Kept.{true-false}
 use Rattle.zp_world_laws.proofs.Numbers.{conn-here, conn-there, either-number, left-some}
-use Rattle.zp_world_laws.proofs.Packets.{both-true}
 use Rattle.zp_world_laws.proofs.Reaping.{damaged-memory, looking_reaper, looks-first}
-use Rattle.zp_world_laws.proofs.Restarting.{Distinct, Gives, all-found, gives-as, gives-others, is-true, sorted-distinct}
+use Rattle.zp_world_laws.proofs.Restarting.{Distinct, Gives, all-found, gives-as, gives-others, sorted-distinct}
 use Rattle.zp_world_laws.proofs.Running.{SettlesOn, Settling, carries, number-free, settling-is}
 use Rattle.zp_world_laws.proofs.Speaking.{all-quiet}
 use Rattle.zp_world_laws.proofs.Talking.{is_quiet}
@@ -75,6 +72,7 @@ use Rattle.zs_session.specs.declared.connect.Phase.{Phase}
 use Rattle.zt_text.specs.declared.script.Happening.TheVariants as line
 use Rattle.zt_text.specs.declared.script.Happening.{Happening}
 use Rattle.zx_base.proofs.Options.{none_some, some_is}
+use Rattle.zx_base.proofs.Booleans.{and-both as both-true, true-from_T as is-true, same-test as same-nat, true-not_false as true-false}
 
 -- ---- an update's time
 

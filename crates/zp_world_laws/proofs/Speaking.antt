@@ -22,12 +22,13 @@ use Rattle.zp_world_laws.proofs.Executing.{precedes-self}
 use Rattle.zp_world_laws.proofs.Growing.{ask-kept, serves-quiet, shown-push}
 use Rattle.zp_world_laws.proofs.Kept.{Frameless, closed-same, small-more}
 use Rattle.zp_world_laws.proofs.Numbers.{either-number, number-same}
-use Rattle.zp_world_laws.proofs.Packets.{both-true, packets-append}
+use Rattle.zp_world_laws.proofs.Packets.{packets-append}
 use Rattle.zp_world_laws.proofs.Serving.{Elsewhere, serving-push}
 use Rattle.zp_world_laws.proofs.Talking.{ahead-push, first_place-front, is_quiet, talks-push}
 use Rattle.zp_world_laws.specs.Holding.{Holds, IsSpoken, Left, Of, Source, Talks, air, asker_in}
 use Rattle.zp_world_laws.specs.Serving.{StoreServes}
 use Rattle.zx_base.proofs.Options.{some_is}
+use Rattle.zx_base.proofs.Booleans.{and-both as both-true}
 
 speech-quiet : (c : ℕ) (l : TranscriptLine) → is_speech c l ≡ true → is_quiet l ≡ true
 speech-quiet c (Send d bytes) h = refl

@@ -29,13 +29,13 @@ use Rattle.zp_world_laws.proofs.Acting.{Acts, acts-own, ends-own, is_own, leaves
 use Rattle.zp_world_laws.proofs.Actions.{Asks, Closes, Rests, Split, Tail, is_closing, said, split, split-closes, split-outcome, split-sends, tail_outcome}
 use Rattle.zp_world_laws.proofs.Closing.{AreShown, But}
 use Rattle.zp_world_laws.proofs.Ends.{closing-whole}
-use Rattle.zp_world_laws.proofs.Kept.{true-false}
 use Rattle.zp_world_laws.proofs.Knowing.{AreAside, lined-aside, said-aside, close-ends, close-last}
 use Rattle.zp_world_laws.proofs.Within.{within-end}
 use Rattle.zp_world_laws.specs.Connecting.{IsInStage}
 use Rattle.zp_world_laws.specs.Connections.{Whole}
 use Rattle.zp_world_laws.specs.Counting.{HasFrames, IsLined}
 use Rattle.zp_world_laws.specs.Knowing.{IsKnownAs, HasClose}
+use Rattle.zx_base.proofs.Booleans.{true-not_false as true-false}
 
 -- ---- its frames
 

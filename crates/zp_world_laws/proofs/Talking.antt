@@ -17,8 +17,9 @@ use Rattle.zk_service.specs.declared.update.UpdateKind.{UpdateKind}
 use Rattle.zk_service.specs.declared.update.UpdateKind.TheVariants.{Begin, Session as NewSession, Attach, Asked, Closed, Reaped}
 use Rattle.zp_laws.proofs.WalkMoves.{walk-append}
 use Rattle.zp_laws.specs.Standing.{is_ahead}
-use Rattle.zp_world_laws.proofs.Packets.{FromPlace, UpToPlace, all_sent, are_sent-append, both-true, packets-append, packets-from}
+use Rattle.zp_world_laws.proofs.Packets.{FromPlace, UpToPlace, all_sent, are_sent-append, packets-append, packets-from}
 use Rattle.zp_world_laws.specs.Holding.{Indexed, Talks, requested_by}
+use Rattle.zx_base.proofs.Booleans.{and-both as both-true}
 
 -- ---- over one line more
 

@@ -31,7 +31,6 @@ use Rattle.zn_view.specs.Seen.{View, empty_view, head_of, head_zxid, seen}
 use Rattle.zn_view.specs.Views.{Agrees}
 use Rattle.zn_view.specs.declared.plan.Plan.{Plan}
 use Rattle.zn_view.specs.declared.want.Want.{Want}
-use Rattle.zp_laws.proofs.Cases.{either}
 use Rattle.zp_laws.proofs.Parts.{wanted-seen}
 use Rattle.zp_laws.proofs.Revisions.{seen-any}
 use Rattle.zp_world_laws.proofs.Knowing.{rests-push}
@@ -46,6 +45,7 @@ use Rattle.zs_session.specs.declared.connect.ConnectStep.{ConnectStep}
 use Rattle.zs_session.specs.declared.connect.Phase.TheVariants.{Attaching, Creating, Granting, Keeping, Looking, LookingAgain, Over, Unasked}
 use Rattle.zs_session.specs.declared.connect.Phase.{Phase}
 use Rattle.zx_base.proofs.Options.{none_some, some_is}
+use Rattle.zx_base.proofs.Booleans.{either}
 
 -- ---- what an answer leads to
 

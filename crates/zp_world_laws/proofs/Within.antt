@@ -23,16 +23,16 @@ use Rattle.zk_transcript.specs.declared.transcript.TranscriptLine.TheVariants.{C
 use Rattle.zk_transcript.specs.declared.transcript.TranscriptLine.{TranscriptLine}
 use Rattle.zp_world_laws.proofs.Actions.{said, said-speech}
 use Rattle.zp_world_laws.proofs.Closing.{AreShown}
-use Rattle.zp_world_laws.proofs.Executing.{same-nat}
 use Rattle.zp_world_laws.proofs.Knowing.{said-aside}
 use Rattle.zp_world_laws.proofs.Lines.{is_plain, packets-plain, plain-attach}
 use Rattle.zp_world_laws.proofs.Naming.{attach-unnamed, close-none, packets-unnamed}
-use Rattle.zp_world_laws.proofs.Packets.{both-true, packets-append}
+use Rattle.zp_world_laws.proofs.Packets.{packets-append}
 use Rattle.zp_world_laws.proofs.Speaking.{attach-speech}
 use Rattle.zp_world_laws.proofs.Talking.{first_place-front}
 use Rattle.zp_world_laws.specs.Counting.{IsLined}
 use Rattle.zp_world_laws.specs.Naming.{is_unnamed}
 use Rattle.zx_base.proofs.Options.{none_some}
+use Rattle.zx_base.proofs.Booleans.{and-both as both-true, same-test as same-nat}
 
 -- ---- packets stand at lines
 

@@ -1,5 +1,5 @@
 -- The parents of nodes: which they are, that each stands once, and how many.
-use Rattle.std.proofs.Common.{◌≡◌, ◌+◌, ◌≤◌, Bool, true, false, cond, ◌||◌, length, List, [], ◌∷◌, ◌++◌, Option, Some, None, refl, sym, ap, ◌∙◌, ⊎_elim, arith}
+use Rattle.std.proofs.Common.{◌≡◌, ◌+◌, ◌≤◌, Bool, true, false, cond, ◌||◌, length, List, [], ◌∷◌, ◌++◌, Option, Some, None, refl, sym, ap, ◌∙◌, arith}
 use Rattle.std.specs.Prelude.{IsTrue}
 use Rattle.std.specs.List.{list_any, All}
 use Rattle.std.proofs.Math.Bool.{or-false, or_assoc}
@@ -8,21 +8,16 @@ use Rattle.zk_model.proofs.ValidPaths.{parent-valid}
 use Rattle.std.proofs.lemmas.List.{length-append}
 use Rattle.std.proofs.lemmas.List.Folds.{list_any-append}
 use Rattle.zx_base.specs.Maps.{Bytes, same}
-use Rattle.zx_base.proofs.MapLaws.{either, same-true, same-false}
+use Rattle.zx_base.proofs.MapLaws.{same-true}
 use Rattle.zk_model.specs.Paths.{parent, is_child, is_at_path, is_path}
 use Rattle.zs_close.specs.Ending.{with_parent, parents_from, parents}
 use Rattle.zs_close.proofs.Removed.{AreApart}
-
-pub same-turned : (p q : Bytes) → same p q ≡ same q p
-same-turned p q = ⊎_elim
-    (λ e. ap (same p) (sym e) ∙ ap (λ (x : Bytes). same x p) e)
-    (λ n. same-false p q n ∙ sym (same-false q p (λ e. n (sym e))))
-    (either p q)
+use Rattle.zx_base.proofs.Numbers.{same-symm}
 
 -- a path is a child of its parent, and of no other
 is_child-some : (p q r : Bytes) → parent p ≡ Some q → is_child r p ≡ same r q
 unfolding is_child
-is_child-some p q r e = ap (λ (o : Option Bytes). is_at_path o r) e ∙ same-turned q r
+is_child-some p q r e = ap (λ (o : Option Bytes). is_at_path o r) e ∙ same-symm q r
 
 is_child-none : (p r : Bytes) → parent p ≡ None → is_child r p ≡ false
 unfolding is_child
@@ -76,7 +71,7 @@ apart_push (p ∷ found) q apart h = (
     left false b h = refl
 
     first : same p q ≡ false
-    first = same-turned p q ∙ left (same q p) (list_any (same q) found) h
+    first = same-symm p q ∙ left (same q p) (list_any (same q) found) h
 
 with_parent-apart : (found : List Bytes) (o : Option Bytes) → AreApart found → AreApart (with_parent found o)
 with_parent-apart found None apart = apart

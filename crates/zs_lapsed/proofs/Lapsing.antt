@@ -9,6 +9,7 @@ use Rattle.std.proofs.lemmas.List.Elements.{All-contains, All-contains_itself, A
 use Rattle.std.proofs.lemmas.List.Folds.{Any-from_list_any, list_any-from_Any}
 use Rattle.ev_types.specs.declared.answer.Kv.{Kv}
 use Rattle.zs_lapsed.specs.Listing.{AreListed, IsLastOpen, IsOpen, Lives, is_among, lapsed_of, numbers_in, max_listed, next_from, session_in}
+use Rattle.zx_base.proofs.Booleans.{false-unless_true, true-not_false}
 
 -- ---- the elements of a list
 
@@ -88,12 +89,9 @@ among-is living n is = found (Any-from_list_any (λ m. int_eq m n) living is)
 is-among : (living : List ℤ) (n : ℤ) → Contains living n → is_among living n ≡ true
 is-among living n c = list_any-from_Any (λ m. int_eq m n) living (c.0, n, c.1, c.2, (signed_Decides n n).1 refl)
 
-true-false : true ≡ false → ⊥
-true-false e = cc
-
 no-both : {A : Type 0} → (b : Bool) → not b ≡ true → b ≡ true → A
-no-both true denied said = absurd (true-false (sym denied))
-no-both false denied said = absurd (true-false (sym said))
+no-both true denied said = absurd (true-not_false (sym denied))
+no-both false denied said = absurd (true-not_false (sym said))
 
 not-from : (b : Bool) → (b ≡ true → ⊥) → not b ≡ true
 not-from true denied = absurd (denied refl)
@@ -141,16 +139,12 @@ first-pass p zero xs n c passes = none-in n c
 first-pass p (suc k) [] n c passes = none-in n c
 first-pass p (suc k) (x ∷ xs) n c passes = passing-place p k x xs n (λ d. first-pass p k xs n d passes) passes (one-of x (take k xs) n c)
 
-not-true : (b : Bool) → (b ≡ true → ⊥) → b ≡ false
-not-true true denied = absurd (denied refl)
-not-true false denied = refl
-
 pub no_living_is_lapsed : (opened alive : List Kv) (most : ℕ) (all : List ℤ) (lives : ℤ → Bool) (n : ℤ) → AreListed opened alive most all lives → Contains (lapsed_of opened alive) n → lives n ≡ false
 no_living_is_lapsed opened alive most all lives n listed c =
     let living = numbers_in (codes "zk/l/") alive in
     let numbers = numbers_in (codes "zk/s/") opened in
     let there : Contains (take most all) n = subst (λ (l : List ℤ). Contains l n) listed.first (kept-was (λ m. not (is_among living m)) numbers n c) in
-    not-true (lives n) (λ passes. no-both (is_among living n) (kept-passes (λ m. not (is_among living m)) numbers n c) (is-among living n (subst (λ (l : List ℤ). Contains l n) (sym listed.living) (first-pass lives most all n there passes))))
+    false-unless_true (lives n) (λ passes. no-both (is_among living n) (kept-passes (λ m. not (is_among living m)) numbers n c) (is-among living n (subst (λ (l : List ℤ). Contains l n) (sym listed.living) (first-pass lives most all n there passes))))
 
 -- ---- where the next list begins
 

@@ -1,5 +1,5 @@
 -- The keys of a session, and what they mean where the session changes and the tree stays.
-use Rattle.std.proofs.Common.{◌≡◌, ◌≢◌, ℕ, ℤ, pos, Bool, true, false, cond, List, [], ◌∷◌, length, Option, Some, None, refl, sym, ap, ◌∙◌, subst, arith, eq-eqb, eqb-true}
+use Rattle.std.proofs.Common.{◌≡◌, ◌≢◌, ℕ, ℤ, pos, Bool, true, false, cond, List, [], Option, Some, None, refl, sym, ap, ◌∙◌, subst, arith, eq-eqb, eqb-true}
 use Rattle.std.specs.Prelude.{nat_abs, nat_eq, ◌≤ℤ◌}
 use Rattle.std.proofs.lemmas.Int.{ints}
 use Rattle.ev_types.specs.declared.answer.Kv.{Kv}
@@ -19,10 +19,6 @@ use Rattle.zn_layout.specs.StandsFor.{Stored, at, IsNodes, NodesMean, IsLife, Li
 
 pub no_triggers-within : IsHeadRec []
 no_triggers-within = record { count = omega arith; valid = λ k d lt. absurd (omega arith) }
-
-pub length-none : {A : Type 0} (xs : List A) → length xs ≡ 0 → xs ≡ []
-length-none [] h = refl
-length-none (x ∷ xs) h = absurd (omega (arith, h))
 
 -- a key whose last put has no revision isn't there
 absent_by : (o : Option Kv) → ((kv : Kv) → o ≡ Some kv → pos 1 ≤ℤ kv.mod_revision) → mod_of o ≡ pos 0 → o ≡ None

@@ -3,14 +3,15 @@ use Rattle.std.proofs.Common.{◌≡◌, ℕ, zero, suc, ◌+◌, ◌-◌, zero-
 use Rattle.std.specs.Prelude.{nat_abs, nat_lt, decimal}
 use Rattle.std.specs.Fmt.{digits, digits_onto, digit_glyph, signed_decimal}
 use Rattle.std.specs.List.{list_all}
-use Rattle.std.specs.Int.{bytes_high_first, byte_at, from_be_bytes, to_be_bytes, w64}
+use Rattle.std.specs.Int.{bytes_high_first, from_be_bytes, to_be_bytes, w64}
 use Rattle.std.proofs.lemmas.Bool.{and_from, and_right, cases_Bool, lt-ltb}
 use Rattle.std.proofs.lemmas.Fmt.{decimal_by_steps}
 use Rattle.std.proofs.lemmas.Grind.{common_steps}
 use Rattle.std.proofs.lemmas.Int.{ints}
-use Rattle.std.proofs.lemmas.Nat.{from_be_bytes-to_be_bytes_8, mod_below}
+use Rattle.std.proofs.lemmas.Nat.{from_be_bytes-to_be_bytes_8}
 use Rattle.zt_text.specs.Scripts.{decimal_digit, digits_value, hex, hex_byte, hex_value, hex_pairs, ◌>>=◌}
 use Rattle.zt_text.specs.Transcripts.{AreBytes, IsSessionNumber, IsSignedNumber, hex_digit_text, hex_spelled, hex_text, id_text}
+use Rattle.zx_base.proofs.Numbers.{byte_at-below}
 
 -- ---- no blank and no line feed
 
@@ -135,10 +136,6 @@ hex-hex_text [] fits = refl
 hex-hex_text (b ∷ bs) fits =
     let other = and_right (hex_digit_text (b / 16) == 45) false refl in
     rw other (hex_pairs-hex_digits (b ∷ bs) fits)
-
-byte_at-below : (k n : ℕ) → byte_at k n < 256
-byte_at-below zero n = omega arith
-byte_at-below (suc k) n = mod_below (n / 256 ^ suc k) 256 (omega arith)
 
 pub bytes_high_first-bytes : (k n : ℕ) → AreBytes (bytes_high_first k n)
 bytes_high_first-bytes zero n = tt

@@ -10,6 +10,7 @@ use Rattle.zx_base.proofs.MapLaws.{ext, either, same-refl, same-false, same-true
 use Rattle.zk_model.specs.PathSets.{has}
 use Rattle.zk_model.specs.Watches.{PathSet}
 use Rattle.zw_watch.specs.Noted.{IsWithout}
+use Rattle.zx_base.proofs.Booleans.{or-second}
 
 absent : (o : Option (Unit {0})) → is_some o ≡ false → o ≡ None
 absent None h = refl
@@ -31,15 +32,11 @@ without-noted now before noted path gone h q = h q ∙ go (same path q) refl ∙
     go true e = none_either (has q noted) (same path q) (get now q) (ap (get now) (sym (same-true path q e)) ∙ absent (get now path) gone)
     go false e = ap (λ b. cond b None (get now q)) (sym (ap (λ b. has q noted || b) e ∙ or-false (has q noted)))
 
-or_right : (b c : Bool) → c ≡ true → (b || c) ≡ true
-or_right true c h = refl
-or_right false c h = h
-
 -- a path that is noted may be put in
 pub without-inserted : (now before : PathSet) (noted : List Bytes) (path : Bytes) → IsWithout now (noted ++ path ∷ []) before → IsWithout (insert now path tt) (noted ++ path ∷ []) before
 without-inserted now before noted path h q = ⊎_elim
     (λ (e : q ≡ path).
-    let noted_there : has q (noted ++ path ∷ []) ≡ true = has-noted q path noted ∙ or_right (has q noted) (same path q) (ap (same path) e ∙ same-refl path) in
+    let noted_there : has q (noted ++ path ∷ []) ≡ true = has-noted q path noted ∙ or-second (has q noted) (same path q) (ap (same path) e ∙ same-refl path) in
     h q ∙ ap (λ b. cond b None (get now q)) noted_there ∙ sym (ap (λ b. cond b None (get (insert now path tt) q)) noted_there))
     (λ (n : q ≢ path). h q ∙ ap (cond (has q (noted ++ path ∷ [])) None) (sym (get-insert_other now path q tt n)))
     (either q path)

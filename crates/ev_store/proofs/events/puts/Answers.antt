@@ -7,9 +7,10 @@ use Rattle.ev_types.specs.Store.{keys_from}
 use Rattle.ev_store.specs.Changes.{puts_once}
 use Rattle.ev_store.specs.Events.{puts_from}
 use Rattle.ev_store.specs.Folds.{key_after_revisions, puts_after_revisions}
-use Rattle.ev_store.proofs.Places.{all-take, all-drop}
+use Rattle.ev_store.proofs.Places.{all-drop}
 use Rattle.ev_store.proofs.Putting.{puts_from-read}
 use Rattle.ev_store.proofs.events.puts.Goals as goal
+use Rattle.zx_base.proofs.Lists.{all-take}
 
 pub returns : goal.returns
 returns c =

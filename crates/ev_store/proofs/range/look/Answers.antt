@@ -7,8 +7,8 @@ use Rattle.ev_types.specs.declared.answer.RangeAns.{RangeAns}
 use Rattle.ev_store.specs.Changes.{puts_once}
 use Rattle.ev_store.specs.Folds.{within_changes}
 use Rattle.ev_store.proofs.Holding.{looked-values}
-use Rattle.ev_store.proofs.Places.{all-take}
 use Rattle.ev_store.proofs.range.look.Goals as goal
+use Rattle.zx_base.proofs.Lists.{all-take}
 
 pub returns : goal.returns
 returns c =

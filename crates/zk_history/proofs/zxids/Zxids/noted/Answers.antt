@@ -4,9 +4,9 @@ use Rattle.std.specs.BTreeMap as tree
 use Rattle.std.specs.Ordering.{int_cmp, int_eq}
 use Rattle.zk_history.specs.Shown.{is_zxid, kept, place_of}
 use Rattle.zk_history.proofs.Marks.{new-kept, old-kept}
-use Rattle.zk_history.proofs.Updates.{same_zxid}
 use Rattle.zk_history.proofs.zxids.Zxids.noted.Goals as goal
 use Rattle.zk_history.proofs.zxids.Zxids.noted.Goals.{then-not-contains_key+in_ok-insert, else-not-contains_key}
+use Rattle.zx_base.proofs.Booleans.{same-from_int_eq as same_zxid}
 
 pub returns : goal.returns
 returns c = λ z.

@@ -1,0 +1,22 @@
+-- Numbers.
+use Rattle.std.proofs.Common.{◌≡◌, ◌-◌, ℕ, pos, ◌^◌, ◌<◌, ◌/◌, zero, suc, arith, negsuc, refl, ℤ}
+use Rattle.std.specs.Cmp.Lexicographic.{nat_list_eq_equiv}
+use Rattle.zx_base.specs.Maps.{Bytes, same}
+use Rattle.std.specs.Int.{byte_at}
+use Rattle.std.proofs.Math.Nat.{mod-lt}
+use Rattle.std.proofs.lemmas.Int.{ints}
+use Rattle.std.specs.Prelude.{nat_abs, ◌≤ℤ◌}
+
+pub same-symm : (p q : Bytes) → same p q ≡ same q p
+same-symm p q = nat_list_eq_equiv.symm p q
+
+pub pos-same : (m n : ℕ) → pos m ≡ pos n → m ≡ n
+pos-same m n e = cc
+
+pub byte_at-below : (k n : ℕ) → byte_at k n < 256
+byte_at-below zero n = mod-lt n (omega arith)
+byte_at-below (suc k) n = mod-lt (n / 256 ^ suc k) (omega arith)
+
+pub pos-abs : (z : ℤ) → pos 1 ≤ℤ z → pos (nat_abs z) ≡ z
+pos-abs (pos n) h = refl
+pos-abs (negsuc n) h = absurd (omega (arith, ints, h))
