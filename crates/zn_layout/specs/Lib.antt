@@ -9,3 +9,4 @@ pub mod Commits
 pub mod Reading
 pub mod ReadingSteps
 pub mod Listing
+pub mod Kept

@@ -259,7 +259,7 @@ module _ (parts : List Part) (who : Who) (v : View) (now : ℕ) (time : now < 2 
       let same : pos n ≡ o.0 = ap pos o.2 ∙ of_abs o.0 (omega (arith, ints, least)) in
       (subst (λ (k : ℤ). In k p.touched) (sym same) o.1, (known.1.0, ap (λ (k : ℤ). session_at k s) same ∙ known.1.1))
 
-  few_steps : st.steps ≤ 24
+  few_steps : st.steps ≤ max_parts
   few_steps = let spent = st.spent in omega (arith, spent, few)
 
   value_most : (n : ℕ) (y : Session) → pos 1 ≤ℤ pos n → session_at (pos n) s ≡ Some y → (w : Option Put) → NodesMean (session_at (pos n) s) (owned led.tree (pos n)) (left z w) → put_size w ≤ most n
@@ -279,7 +279,7 @@ module _ (parts : List Part) (who : Who) (v : View) (now : ℕ) (time : now < 2 
       let here : last ws (SessionKey n) ≡ Some c.put = ap (last ws) (sym e) ∙ last-is ws c led.once i in
       value_most n at.1.0 least at.1.1 c.put (subst (λ (o : Option (Option Put)). KeyFits z o (SessionKey n) s (with_tree s led.tree)) here fit)
 
-  sessions_most : (n : ℕ) → n ≡ sum_by (λ (o : ℤ). path_load s.tree o) (distinct p.touched) → sum_by (of_session most) ws ≤ 165 * 24 + n + 1024 * 24
+  sessions_most : (n : ℕ) → n ≡ sum_by (λ (o : ℤ). path_load s.tree o) (distinct p.touched) → sum_by (of_session most) ws ≤ 165 * max_parts + n + 1024 * max_parts
   sessions_most n loads =
       let split = sessions_sum most (λ (k : ℕ). before (pos k)) own_more ws (λ k. omega arith) in
       let first = sessions-within before ws (distinct p.touched) led.once (λ c k i e. distinct-has p.touched [] (pos k) (touched_at c k i e).0) in
@@ -290,7 +290,7 @@ module _ (parts : List Part) (who : Who) (v : View) (now : ℕ) (time : now < 2 
       let steps = few_steps in
       omega (arith, split, first, own, each, count, touched, steps, loads, few)
 
-  few_changes : length ws ≤ 96
+  few_changes : length ws ≤ 4 * max_parts
   few_changes = let bound = st.few in omega (arith, bound, few)
 
   changes_most : (n : ℕ) → n ≡ sum_by (λ (o : ℤ). path_load s.tree o) (distinct p.touched) → sum_by data_len parts + n ≤ max_load → sum_by change_size ws ≤ 1129024
@@ -317,7 +317,7 @@ module _ (parts : List Part) (who : Who) (v : View) (now : ℕ) (time : now < 2 
         let is : update_txn (guards_of xs) (written v ws) plan.triggers reads ≡ plan_txn plan = λ i. record { guards = sym guards i; success = sym acts i; failure = ranges_of (pos 0) (sym again i) } in
         let few_read = (read_few id v parts (Some []) ks read).0 in
         let short_read = (read_few id v parts (Some []) ks read).1 in
-        let few_seen : length xs ≤ 98 = omega (arith, picked-length v (read_keys id ks), keys_few id v ks, few_read, few) in
+        let few_seen : length xs ≤ 4 * max_parts + 2 = omega (arith, picked-length v (read_keys id ks), keys_few id v ks, few_read, few) in
         let short_seen : All (λ (y : SeenKey). length y.key ≤ 1033) xs = picked-each (λ (y : SeenKey). length y.key ≤ 1033) v (read_keys id ks) (λ k o i e. keys_once id v ks short_read k i) in
         let few_guards = guards-length xs in
         let few_again = again-length xs in
@@ -326,7 +326,7 @@ module _ (parts : List Part) (who : Who) (v : View) (now : ℕ) (time : now < 2 
         let size_written = light-written change_size v ws in
         let size = changes_most n loads low in
         let head = subst (λ (ts : List Trigger). change_size (head_put ts) ≤ 12 + 1029 * length ts) (sym told) (head_put-size p.triggers bounds) in
-        let triggers : length plan.triggers ≤ 48 = let bound = (runs_told who now v parts no_progress p 0 run (All-nil _)).1 in omega (arith, ap (λ (ts : List Trigger). length ts) told, bound, few) in
+        let triggers : length plan.triggers ≤ 2 * max_parts = let bound = (runs_told who now v parts no_progress p 0 run (All-nil _)).1 in omega (arith, ap (λ (ts : List Trigger). length ts) told, bound, few) in
         subst IsSendable is
         (update-sendable (guards_of xs) (written v ws) plan.triggers reads (omega (arith, few_guards, few_seen)) (omega (arith, few_written, count)) (omega (arith, few_again, few_guards, few_seen))
         (omega (

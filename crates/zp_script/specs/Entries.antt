@@ -5,6 +5,7 @@ use Rattle.std.specs.Option.{option_and_then}
 use Rattle.ev_types.specs.declared.answer.Kv.{Kv}
 use Rattle.ev_types.specs.Store.{mod_of}
 use Rattle.zk_model.specs.declared.node.Trigger.{Trigger}
+use Rattle.zn_layout.specs.Kept.{max_kept}
 use Rattle.zn_layout.specs.declared.entry.Entry.{Entry}
 use Rattle.zn_layout.specs.declared.record.HeadRec.{HeadRec}
 use Rattle.zn_layout.specs.Reading.{IsReadAs, head_bytes, IsHeadWithin}
@@ -56,7 +57,7 @@ next_entry c w = option_and_then (entry_after w.entries) (cursor_at c w)
 
 -- how many of the newest entries are kept
 abbrev pub max_kept_entries : ℕ
-max_kept_entries = 4096
+max_kept_entries = max_kept
 
 -- more than so many come after the cursor
 abbrev pub is_lagging_at : ℕ → Option ℤ → Bool

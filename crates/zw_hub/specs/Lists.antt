@@ -2,6 +2,7 @@
 use Rattle.std.specs.Prelude.{◌≡◌, ℕ, ◌+◌, ◌-◌, ℤ, pos, ◌+ℤ◌, Bool, ◌&&◌, is_none, [], ◌∷◌, ◌++◌, length, slice_get, Some, None, if◌then◌else◌}
 use Rattle.std.specs.Ordering.{int_eq}
 use mathlib.Core.List.{IsPrefix}
+use Rattle.zn_layout.specs.Kept.{max_kept as max_kept_entries}
 use Rattle.zn_layout.specs.declared.entry.Entry.{Entry}
 use Rattle.zw_hub.specs.declared.feed.FeedEnd.{FeedEnd}
 use Rattle.zw_hub.specs.declared.published.Published.{Published}
@@ -16,7 +17,7 @@ last_number list = list.first +ℤ pos (length list.entries)
 
 -- how many entries are kept, the newest ones
 abbrev pub max_kept : ℕ
-max_kept = 4096
+max_kept = max_kept_entries
 
 -- the number before that of the oldest entry that is kept
 abbrev pub floor : Published → ℤ
