@@ -24,7 +24,7 @@ use Rattle.ev_shared.specs.declared.shared_store.Watched.TheVariants as watched
 use Rattle.ev_shared.specs.declared.watch.Look.TheVariants as look
 use Rattle.ev_shared.specs.Watching.{IsNext, Looks, key_at, listed, found_in, put_by, put_at, NonePut, Unseen}
 use Rattle.zx_base.specs.Maps.{Bytes}
-use Rattle.zx_base.proofs.Booleans.{pos-nonzero}
+use Rattle.zx_base.proofs.Numbers.{pos-nonzero}
 
 one_at : (k : Bytes) (n : ℕ) (m : Keys) → found (key_at k n) m ≡ one_found (get m k)
 unfolding in_range

@@ -31,7 +31,7 @@ use Rattle.ev_store.specs.Compaction.{compact}
 use Rattle.ev_store.specs.Events.{puts_in, puts_from, puts_above, is_put, put_of}
 use Rattle.ev_store.proofs.Keys.{store_at-first, keys_from-append}
 use Rattle.ev_store.proofs.Revisions.{put_over-mod}
-use Rattle.zx_base.proofs.Booleans.{pos-nonzero}
+use Rattle.zx_base.proofs.Numbers.{pos-nonzero}
 
 -- ---- the keys after each revision
 

@@ -17,7 +17,7 @@ use Rattle.ev_types.specs.Store.{Store, Change, Puts, revision, after_changes, p
 use Rattle.ev_types.specs.Denials.{has_lease, is_full_store}
 use Rattle.ev_types.specs.Lapses.{is_leased, leased_keys, removals, lapse, foreign}
 use Rattle.ev_types.proofs.Grown.{present-grown, earlier-grown, revision-grown}
-use Rattle.zx_base.proofs.Booleans.{is_tied}
+use Rattle.zx_base.proofs.Orders.{is_tied}
 
 -- ---- what is there after removals
 

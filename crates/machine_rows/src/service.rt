@@ -22,7 +22,7 @@ pub struct Service {
     limit: usize,
 }
 
-/// The time of each create, delete, setData and multi, in milliseconds.
+/// The time of each create, create2, delete, setData and multi, in milliseconds.
 const TIME: u64 = 1000;
 
 /// The value, or `None` where a number does not fit its field: the row does not go on then.
@@ -225,7 +225,7 @@ impl Service {
         Ok(Some(text))
     }
 
-    /// A create, delete, setData or multi is carried out.
+    /// A create, create2, delete, setData or multi is carried out.
     fn carried_out(
         &mut self,
         alloc: Global,

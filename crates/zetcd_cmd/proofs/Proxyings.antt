@@ -20,7 +20,7 @@ use Rattle.zetcd_cmd.specs.Serving.{NamesEtcd, are_addresses, are_plain, is_addr
 use Rattle.zetcd_cmd.specs.Proxying.{HasNetCause, IsServe, NamesServe, Proxies, serve_status}
 use Rattle.zetcd_cmd.specs.declared.status.Status.{Status}
 use Rattle.zetcd_cmd.specs.declared.status.Status.TheVariants as status
-use Rattle.zx_base.proofs.Options.{same_limit}
+use Rattle.zx_base.proofs.Options.{some-both}
 
 -- ---- the words
 
@@ -46,7 +46,7 @@ serves_one [] listen other endpoint another n m one two = absurd one
 serves_one (w ∷ []) listen other endpoint another n m one two = absurd one
 serves_one (w ∷ v ∷ []) listen other endpoint another n m one two = absurd one
 serves_one (w ∷ v ∷ u ∷ []) listen other endpoint another n m one two = absurd one
-serves_one (w ∷ v ∷ u ∷ t ∷ []) listen other endpoint another n m one two = (sym one.1 ∙ two.1, sym one.3 ∙ two.3, same_limit n m (limit_in t.now) one.5 two.5)
+serves_one (w ∷ v ∷ u ∷ t ∷ []) listen other endpoint another n m one two = (sym one.1 ∙ two.1, sym one.3 ∙ two.3, some-both n m (limit_in t.now) one.5 two.5)
 serves_one (w ∷ v ∷ u ∷ t ∷ s ∷ words) listen other endpoint another n m one two = absurd one
 
 -- four words, the first of which is `serve`

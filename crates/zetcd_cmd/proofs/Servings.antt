@@ -16,7 +16,7 @@ use Rattle.zetcd_cmd.specs.declared.status.Status.{Status}
 use Rattle.zetcd_cmd.specs.declared.status.Status.TheVariants as status
 use Rattle.zetcd_cmd.specs.Outcomes.{IsWord}
 use Rattle.zetcd_cmd.specs.Serving.{IsEtcd, NamesEtcd, EtcdServes, digits_number, limit_in, etcd_status}
-use Rattle.zx_base.proofs.Options.{same_limit}
+use Rattle.zx_base.proofs.Options.{some-both}
 
 -- ---- the words
 
@@ -29,7 +29,7 @@ pub names_one : (words : List (Bor (List ℕ))) (listen other : List ℕ) (n m :
 names_one [] listen other n m one two = absurd one
 names_one (w ∷ []) listen other n m one two = absurd one
 names_one (w ∷ v ∷ []) listen other n m one two = absurd one
-names_one (w ∷ v ∷ u ∷ []) listen other n m one two = (sym one.1 ∙ two.1, same_limit n m (limit_in u.now) one.3 two.3)
+names_one (w ∷ v ∷ u ∷ []) listen other n m one two = (sym one.1 ∙ two.1, some-both n m (limit_in u.now) one.3 two.3)
 names_one (w ∷ v ∷ u ∷ t ∷ words) listen other n m one two = absurd one
 
 -- digits of which the first are too great a number

@@ -8,7 +8,7 @@ use Rattle.zetcd_cmd.specs.Proxying.{NamesServe}
 use Rattle.zetcd_cmd.specs.Serving.{NamesEtcd}
 use Rattle.zetcd_cmd.specs.Stressing.{IsStress, NamesStress, Stresses, count_in, max_connections, max_steps, number_in}
 use Rattle.zetcd_cmd.specs.declared.status.Status.{Status}
-use Rattle.zx_base.proofs.Options.{same_limit}
+use Rattle.zx_base.proofs.Options.{some-both}
 
 pub one_word : (name : List ℕ) (words : List (Bor (List ℕ))) (n c s : ℕ) → IsWord name words → IsStress words n c s → ⊥
 one_word name [] n c s is stress = is
@@ -42,7 +42,7 @@ stresses_one (w ∷ []) n m c d s t one two = absurd one
 stresses_one (w ∷ v ∷ []) n m c d s t one two = absurd one
 stresses_one (w ∷ v ∷ u ∷ []) n m c d s t one two = absurd one
 stresses_one (w ∷ v ∷ u ∷ x ∷ []) n m c d s t one two =
-    (same_limit n m (number_in v.now) one.1 two.1, same_limit c d (count_in max_connections u.now) one.2 two.2, same_limit s t (count_in max_steps x.now) one.3 two.3)
+    (some-both n m (number_in v.now) one.1 two.1, some-both c d (count_in max_connections u.now) one.2 two.2, some-both s t (count_in max_steps x.now) one.3 two.3)
 stresses_one (w ∷ v ∷ u ∷ x ∷ y ∷ words) n m c d s t one two = absurd one
 
 -- four words, the first of which is `stress`

@@ -166,7 +166,7 @@ impl<'a> Effects<'a> {
         }
     }
 
-    /// The body of the reply to the create, delete, setData or multi that the update at a place carried out.
+    /// The body of the reply to the create, create2, delete, setData or multi that the update at a place carried out.
     pub fn response(&self, place: usize) -> Option<&Body>
         requires { place < length self.now.all.now }
         ensures { (u : Updated) → slice_get self.now.all.now place ≡ Some (Update u) → option_map (λ b. b.now) result ≡ response_in (take place self.now.all.now) (state_at self.now.all.now place) u.zxid u.kind }

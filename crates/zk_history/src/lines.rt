@@ -117,7 +117,7 @@ fn attached(
     with_attached(alloc, state, zxid, id, connection)?.advanced(zxid, Seq::new(alloc))
 }
 
-/// What the create, delete, setData or multi of a frame does at this zxid and time, in milliseconds, where it is not refused.
+/// What the create, create2, delete, setData or multi of a frame does at this zxid and time, in milliseconds, where it is not refused.
 /// Faults as [`change`] does.
 pub fn planned_commit(
     alloc: Global,
@@ -145,11 +145,11 @@ pub fn planned_commit(
 #[derive(Drop)]
 pub struct Applied {
     pub state: State,
-    /// The body of the reply to the create, delete, setData or multi that the line carried out; `None` for any other line.
+    /// The body of the reply to the create, create2, delete, setData or multi that the line carried out; `None` for any other line.
     pub response: Option<Body>,
 }
 
-/// The state after a line that carried out no create, delete, setData or multi.
+/// The state after a line that carried out no create, create2, delete, setData or multi.
 fn silent(state: State) -> Applied
     ensures { (result.state ≡ state) × (result.response ≡ None) }
 {
@@ -180,7 +180,7 @@ fn committed(alloc: Global, state: State, zxid: i64, done: Option<Commit>) -> Re
     }
 }
 
-/// The state after a create, delete, setData or multi was carried out.
+/// The state after a create, create2, delete, setData or multi was carried out.
 #[tactic(auto, unfolding(zk_transcript::specs::History::updated))]
 fn asked(
     alloc: Global,

@@ -166,7 +166,7 @@ impl<'a> Index<'a> {
         self.effects.triggers(place)
     }
 
-    /// The body of the reply to the create, delete, setData or multi that the update at a place carried out.
+    /// The body of the reply to the create, create2, delete, setData or multi that the update at a place carried out.
     pub fn response(&self, place: usize) -> Option<&Body>
         requires { place < length self.now.lines.now }
         ensures { (u : Updated) → slice_get self.now.lines.now place ≡ Some (Update u) → option_map (λ b. b.now) result ≡ response_in (take place self.now.lines.now) (state_at self.now.lines.now place) u.zxid u.kind }

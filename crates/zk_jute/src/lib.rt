@@ -1,4 +1,5 @@
-//! The wire format of ZooKeeper as definitions and laws (zookeeper.jute, release 3.4): frames, records, packets.
+//! The wire format of ZooKeeper as definitions and laws: frames, records, packets (zookeeper.jute, release 3.4, and the
+//! three requests of release 3.5 that are answered).
 //!
 //! The codec, `zk_wire`, is proved to be these definitions, and transcripts cite them, so that neither is checked again when
 //! the other changes.

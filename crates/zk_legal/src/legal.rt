@@ -184,7 +184,7 @@ fn may_attach_session(
     Ok(is_resumed_by(id, &asked, state) && may_attach(before, connection, zxid, &asked))
 }
 
-/// Whether the request of a frame is a create, delete, setData or multi that is not refused.
+/// Whether the request of a frame is a create, create2, delete, setData or multi that is not refused.
 fn is_committed(
     alloc: Global,
     before: &Past,

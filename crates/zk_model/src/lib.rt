@@ -1,8 +1,8 @@
 //! The ZooKeeper service as the rest of the workspace speaks of it: its values as Rust types, and in `specs/` the
 //! definitions that contracts cite.
 //!
-//! The types are those of `zookeeper.jute` (release 3.4) and of the Programmer's Guide, with the fields that a client
-//! sees. Contracts see them as they are declared, with [`zx_base::Seq`] fields as lists.
+//! The types are those of `zookeeper.jute` (release 3.4, and create2, checkWatches and removeWatches of release 3.5) and of
+//! the Programmer's Guide, with the fields that a client sees. Contracts see them as they are declared, with [`zx_base::Seq`] fields as lists.
 //!
 //! The definitions, in reading order: `Limits`, `Codes`, `Access`, `Paths`, `PathFaults`, `Znodes`, `Single`, `Multi`,
 //! `Loads`, `Watches`. They are the machine: what each request does to a tree of znodes, and what watches see of it.

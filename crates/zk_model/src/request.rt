@@ -119,7 +119,7 @@ pub enum Request {
         path: Text,
         kind: i32,
     },
-    /// Takes the watches of this type away that this connection has armed on the path.
+    /// Takes away the watches of this type that this connection has armed on the path: 1 child watches, 2 data watches, 3 both.
     RemoveWatches {
         path: Text,
         kind: i32,

@@ -19,14 +19,14 @@ pub fn is_watcher_type(kind: i32) -> bool
     kind == CHILDREN || kind == DATA || kind == ANY
 }
 
-/// Whether watches of this type are child watches, or both.
+/// Whether a type of watches takes in child watches.
 pub fn names_children(kind: i32) -> bool
     ensures { result ≡ names_children kind }
 {
     kind == CHILDREN || kind == ANY
 }
 
-/// Whether watches of this type are data watches, or both.
+/// Whether a type of watches takes in data watches.
 pub fn names_data(kind: i32) -> bool
     ensures { result ≡ names_data kind }
 {

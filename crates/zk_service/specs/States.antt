@@ -90,7 +90,7 @@ commit_single (Done r t g) = Some (record { response = response_of r; tree = t; 
 abbrev pub made_stat : ℤ → List ℕ → ℤ → ℤ → ℕ → Stat
 made_stat flags content session zxid now = stat (new_node content (if is_ephemeral flags then session else pos 0) zxid now) 0
 
--- a path with a Stat beside it
+-- the body of a path with a Stat beside it; any other body stays as it is
 abbrev pub body_with_stat : Stat → Body → Body
 body_with_stat s (body.Path p) = body.PathStat p s
 body_with_stat s b = b

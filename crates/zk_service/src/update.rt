@@ -20,7 +20,7 @@ pub enum UpdateKind {
         id: i64,
         connection: u32,
     },
-    /// A create, delete, setData or multi: the frame `index` of the connection. `now` is the time at which it was planned.
+    /// A create, create2, delete, setData or multi: the frame `index` of the connection. `now` is the time at which it was planned.
     Asked {
         connection: u32,
         index: u64,

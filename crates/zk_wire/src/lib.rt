@@ -1,5 +1,5 @@
-//! ZooKeeper's wire protocol, both ways (zookeeper.jute, release 3.4): a stream as frames, frames as records, records as
-//! packets.
+//! ZooKeeper's wire protocol, both ways: a stream as frames, frames as records, records as packets (zookeeper.jute, release
+//! 3.4, and the three requests of release 3.5 that are answered).
 //!
 //! A packet is a length of four bytes and a frame of that many bytes. [`Cutter`] takes a stream in whatever pieces it
 //! comes and hands out its frames. The first frame of a connection is read by [`read_connect`], each later one by

@@ -32,4 +32,8 @@
 
 mod laws;
 
-pub use laws::{a_new_session_commits, a_session_is_attached, connects_are_answered, honest_values_are_records, plans_are_bound, plans_are_made_now, sends_are_walks, standing_lasts, steps_count, steps_end_well};
+pub use laws::{
+    a_new_session_commits, a_session_is_attached, connects_are_answered, honest_values_are_records,
+    plans_are_bound, plans_are_made_now, sends_are_walks, standing_lasts, steps_count,
+    steps_end_well,
+};

@@ -59,8 +59,8 @@ impl Armed {
         self.paths.arm(self.alloc, path.bytes(), child)
     }
 
-    /// Whether a watch of this type is armed on this path: 1 is a child watch, 2 a data watch, 3 either (`Watcher.WatcherType`,
-    /// release 3.5; a checkWatches asks it).
+    /// Whether a watch of this type is armed on this path (a checkWatches asks it). The type has to be 1, a child watch, 2, a
+    /// data watch, or 3, either (`Watcher.WatcherType`, release 3.5).
     pub fn has(&self, path: &Path, kind: i32) -> bool
         requires { IsTrue (is_watcher_type kind) }
         ensures { result ≡ is_watched self.now path.now kind }
@@ -69,7 +69,7 @@ impl Armed {
     }
 
     /// Takes the watches of this type away that are armed on this path, and says whether there was one (a removeWatches asks for
-    /// it). The types are those of [`Armed::has`].
+    /// it). The type has to be 1, 2 or 3, as in [`Armed::has`].
     pub fn remove(&mut self, path: &Path, kind: i32) -> bool
         requires { IsTrue (is_watcher_type kind) }
         ensures rest { self.new ≡ unwatched self.old path.now kind }

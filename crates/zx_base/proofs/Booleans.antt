@@ -1,11 +1,8 @@
 -- Truth values.
-use Rattle.std.proofs.Common.{◌≡◌, Bool, true, false, ◌||◌, refl, ◌&&◌, ℤ, ap, ◌∙◌, ℕ, arith, ◌≤◌, pos, cond}
-use Rattle.std.specs.Ordering.{int_eq, nat_cmp, eq_by_cmp}
+use Rattle.std.proofs.Common.{◌≡◌, Bool, true, false, ◌||◌, refl, ◌&&◌, ℤ, ap, ◌∙◌, ℕ, arith, cond}
+use Rattle.std.specs.Ordering.{int_eq}
 use Rattle.std.proofs.lemmas.Bool.Decides.{Decides-int_eq, nat_tests}
 use Rattle.std.specs.Prelude.{T, not, ◌==◌, MatchBool}
-use Rattle.std.proofs.lemmas.Int.{ints}
-use Rattle.std.specs.Cmp.Lexicographic.{slice_cmp}
-use Rattle.zx_base.specs.Maps.{Bytes}
 
 pub or-second : (a b : Bool) → b ≡ true → (a || b) ≡ true
 or-second true b h = refl
@@ -108,15 +105,6 @@ and-true false = refl
 pub not_false : (b : Bool) → not b ≡ false → b ≡ true
 not_false true h = refl
 not_false false h = absurd (cc)
-
-pub pos-nonzero : (r : ℕ) → 1 ≤ r → int_eq (pos r) (pos 0) ≡ false
-pos-nonzero r some = elim (int_eq (pos r) (pos 0)) as (λ b. int_eq (pos r) (pos 0) ≡ b → b ≡ false) [
-  | true ↦ λ h. absurd (let e : pos r ≡ pos 0 = (Decides-int_eq (pos r) (pos 0)).0 h in omega (arith, ints))
-  | false ↦ λ h. refl
-] refl
-
-pub is_tied : Bytes → Bytes → Bool
-is_tied = eq_by_cmp (slice_cmp nat_cmp)
 
 pub true-not : false ≡ true → ⊥
 true-not e = cc

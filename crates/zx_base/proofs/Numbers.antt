@@ -1,9 +1,11 @@
 -- Numbers.
-use Rattle.std.proofs.Common.{◌≡◌, ◌-◌, ℕ, pos, ◌^◌, ◌<◌, ◌/◌, zero, suc, arith, negsuc, refl, ℤ}
+use Rattle.std.proofs.Common.{◌≡◌, ◌-◌, ℕ, pos, ◌^◌, ◌<◌, ◌/◌, zero, suc, arith, negsuc, refl, ℤ, true, false, ◌≤◌}
 use Rattle.std.specs.Cmp.Lexicographic.{nat_list_eq_equiv}
 use Rattle.zx_base.specs.Maps.{Bytes, same}
 use Rattle.std.specs.Int.{byte_at}
 use Rattle.std.proofs.Math.Nat.{mod-lt}
+use Rattle.std.specs.Ordering.{int_eq}
+use Rattle.std.proofs.lemmas.Bool.Decides.{Decides-int_eq}
 use Rattle.std.proofs.lemmas.Int.{ints}
 use Rattle.std.specs.Prelude.{nat_abs, ◌≤ℤ◌}
 
@@ -20,3 +22,9 @@ byte_at-below (suc k) n = mod-lt (n / 256 ^ suc k) (omega arith)
 pub pos-abs : (z : ℤ) → pos 1 ≤ℤ z → pos (nat_abs z) ≡ z
 pos-abs (pos n) h = refl
 pos-abs (negsuc n) h = absurd (omega (arith, ints, h))
+
+pub pos-nonzero : (r : ℕ) → 1 ≤ r → int_eq (pos r) (pos 0) ≡ false
+pos-nonzero r some = elim (int_eq (pos r) (pos 0)) as (λ b. int_eq (pos r) (pos 0) ≡ b → b ≡ false) [
+  | true ↦ λ h. absurd (let e : pos r ≡ pos 0 = (Decides-int_eq (pos r) (pos 0)).0 h in omega (arith, ints))
+  | false ↦ λ h. refl
+] refl

@@ -15,8 +15,8 @@ pub none-unless_some : {A : Type 0} (o : Option A) → is_some o ≡ false → o
 none-unless_some None h = refl
 none-unless_some (Some x) h = absurd (cc)
 
-pub same_limit : (n m : ℕ) (o : Option ℕ) → o ≡ Some n → o ≡ Some m → n ≡ m
-same_limit n m o one two = cc
+pub some-both : (n m : ℕ) (o : Option ℕ) → o ≡ Some n → o ≡ Some m → n ≡ m
+some-both n m o one two = cc
 
 pub there : (o : Option (Unit {0})) → is_some o ≡ true → o ≡ Some tt
 there None h = absurd (cc)

@@ -2,9 +2,11 @@
 use Rattle.std.proofs.Common.{◌≡◌, true, refl, ◌≢◌, ℕ, sym, ap, ◌∙◌, false}
 use Rattle.std.specs.declared.cmp.Ordering.{Ordering}
 use Rattle.std.specs.declared.cmp.Ordering.TheVariants.{Less, Equal, Greater}
-use Rattle.std.specs.Ordering.{is_eq, is_lt, nat_cmp}
+use Rattle.std.specs.Ordering.{is_eq, is_lt, nat_cmp, eq_by_cmp}
+use Rattle.std.specs.Cmp.Lexicographic.{slice_cmp}
 use Rattle.std.proofs.lemmas.Cmp.{nat_cmp_total, tied_itself}
-use Rattle.std.specs.Prelude.{T}
+use Rattle.std.specs.Prelude.{T, Bool}
+use Rattle.zx_base.specs.Maps.{Bytes}
 
 pub equal-from_is_eq : (o : Ordering) → is_eq o ≡ true → o ≡ Equal
 equal-from_is_eq Less h = cc
@@ -26,3 +28,7 @@ pub less-from_T : (r : Ordering) → T (is_lt r) → r ≡ Less
 less-from_T Less h = refl
 less-from_T Equal h = absurd h
 less-from_T Greater h = absurd h
+
+-- these bytes compare as equal
+pub is_tied : Bytes → Bytes → Bool
+is_tied = eq_by_cmp (slice_cmp nat_cmp)
