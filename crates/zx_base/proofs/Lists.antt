@@ -14,7 +14,7 @@ slice_get-take (x ∷ xs) (suc k) zero h = refl
 slice_get-take (x ∷ xs) (suc k) (suc j) h = slice_get-take xs k j (omega arith)
 
 -- a path is one of these
-pub has : List Bytes → Bytes → Bool
+unfoldable pub has : List Bytes → Bytes → Bool
 has ps p = list_any (eq_by_cmp (slice_cmp nat_cmp) p) ps
 
 pub take-more : {A : Type 0} (a b : ℕ) (xs : List A) → a ≤ b → (more : List A) × (take b xs ≡ take a xs ++ more)

@@ -30,5 +30,5 @@ less-from_T Equal h = absurd h
 less-from_T Greater h = absurd h
 
 -- these bytes compare as equal
-pub is_tied : Bytes → Bytes → Bool
+unfoldable pub is_tied : Bytes → Bytes → Bool
 is_tied = eq_by_cmp (slice_cmp nat_cmp)
