@@ -1,6 +1,6 @@
 -- The addresses of a text, by their number.
 use Rattle.std.proofs.Common.{◌≡◌, ◌∙◌, ℕ, zero, suc, ◌<◌, ◌≤◌, ◌==◌, Bool, true, false, List, [], ◌∷◌, length, refl, sym, ap, subst, arith}
-use Rattle.std.specs.Prelude.{All, Option, Some, None, cond, filter, slice_get, unwrap_or}
+use Rattle.std.specs.Prelude.{All, Some, None, cond, filter, slice_get, unwrap_or}
 use Rattle.std.specs.List.{onto_first, slice_split}
 use Rattle.std.proofs.lemmas.List.{length-take}
 use Rattle.std.proofs.lemmas.Bool.Decides.{nat_tests}

@@ -1,12 +1,12 @@
 -- A link over a store that nobody else changes is honest.
-use Rattle.std.proofs.Common.{◌≡◌, ℕ, ◌≤◌, Bool, true, false, List, [], ◌∷◌, length, refl, sym, ap, subst, ◌∙◌, arith}
-use Rattle.std.specs.Prelude.{All, IfOk, Option, Some, None, Result, Ok, Err, if◌then◌else◌}
+use Rattle.std.proofs.Common.{◌≡◌, ◌≤◌, Bool, true, false, List, [], ◌∷◌, length, refl, sym, ap, subst, ◌∙◌, arith}
+use Rattle.std.specs.Prelude.{All, IfOk, Some, None, Result, Ok, Err, if◌then◌else◌}
 use Rattle.std.proofs.lemmas.List.{length-append}
 use Rattle.std.proofs.lemmas.List.Elements.{All-cons, All-nil}
 use Rattle.zx_base.proofs.Options.{some_is}
 use Rattle.ev_types.proofs.Grown.{earlier-grown}
 use Rattle.ev_types.specs.Denials.{carry, is_denied}
-use Rattle.ev_types.specs.Store.{Store, Change, carried_out, grown, store_at, txn_done, worked}
+use Rattle.ev_types.specs.Store.{Store, Change, carried_out, grown, store_at, txn_done}
 use Rattle.ev_types.specs.declared.answer.Answer.{Answer}
 use Rattle.ev_types.specs.declared.ask.Ask.{Ask}
 use Rattle.ev_types.specs.declared.ask.Ask.TheVariants as ask

@@ -3,7 +3,7 @@ use Rattle.std.proofs.Common.{◌≡◌, List, [], ◌∷◌, ◌++◌, length, 
 use Rattle.std.specs.Prelude.{Result}
 use Rattle.ev_types.specs.declared.answer.Answer.{Answer}
 use Rattle.ev_types.specs.declared.ask.Ask.{Ask}
-use Rattle.ev_call.specs.Calls.{Call, calls_of}
+use Rattle.ev_call.specs.Calls.{calls_of}
 use Rattle.ev_call.specs.declared.etcd.CallFault.{CallFault}
 
 pub calls_push : (qs : List Ask) (rs : List (Result Answer CallFault)) (q : Ask) (r : Result Answer CallFault) → length qs ≡ length rs

@@ -1,17 +1,16 @@
 -- What follows from the tries of a call.
 use Rattle.std.proofs.Common.{◌≡◌, ◌⊎◌, inl, inr, ℕ, suc, zero, ◌+◌, ◌<◌, ◌≤◌, Bool, true, false, List, [], ◌∷◌, ◌++◌, length, get_or, refl, sym, subst, ap, ◌∙◌, arith, ltb-true}
-use Rattle.std.specs.Prelude.{All, Option, Some, None, Result, Ok, Err, IfOk, nat_lt, if◌then◌else◌}
+use Rattle.std.specs.Prelude.{All, Option, Result, Ok, Err, IfOk, nat_lt, if◌then◌else◌}
 use Rattle.std.proofs.lemmas.List.{length-append}
 use Rattle.std.proofs.lemmas.Bool.Decides.{nat_tests}
-use Rattle.std.proofs.lemmas.List.Elements.{All-append, All-cons, All-head, All-nil, All-tail}
-use Rattle.ev_types.specs.Denials.{carry}
+use Rattle.std.proofs.lemmas.List.Elements.{All-cons, All-head, All-nil, All-tail}
 use Rattle.ev_types.specs.Store.{Store}
 use Rattle.ev_types.specs.declared.answer.Answer.{Answer}
 use Rattle.ev_types.specs.declared.ask.Ask.{Ask}
 use Rattle.ev_call.specs.Honest.{CarriesCall}
 use Rattle.ev_call.specs.declared.etcd.CallFault.{CallFault}
 use Rattle.ev_call.specs.declared.etcd.CallFault.TheVariants as call
-use Rattle.ev_failover.specs.Endpoints.{IsSentBy, Sent, with_sent}
+use Rattle.ev_failover.specs.Endpoints.{IsSentBy, Sent}
 use Rattle.ev_failover.specs.Reading.{is_reading}
 use Rattle.ev_failover.specs.Theorem.{CarriesEnd, FailsOnly, IsFault, NoneTwice, SendsOnce}
 use Rattle.ev_failover.specs.Turns.{IsLast, Tries, answer_of, goes_on, next_of, place_after, places}

@@ -1,5 +1,5 @@
 -- Looks at a client that waits.
-use Rattle.std.proofs.Common.{◌≡◌, ℕ, ◌+◌, ◌≤◌, Bool, true, false, List, length, refl, add-one}
+use Rattle.std.proofs.Common.{◌≡◌, ℕ, ◌+◌, ◌≤◌, Bool, true, List, length, refl, add-one}
 use Rattle.zx_outside.specs.Reading.{EndsForGood, Reads, counts_after_read}
 use Rattle.zx_outside.specs.declared.source.Got.{Got}
 use Rattle.ev_http.specs.Taking.{Told}

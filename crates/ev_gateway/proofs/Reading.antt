@@ -1,5 +1,5 @@
 -- An ask that was read can be carried out, and a key that is to be watched can be.
-use Rattle.std.proofs.Common.{ℕ, ◌≤◌, ◌^◌, arith}
+use Rattle.std.proofs.Common.{◌≤◌, ◌^◌, arith}
 use Rattle.std.proofs.lemmas.Int.{ints}
 use Rattle.std.specs.Prelude.{ℤ, pos, nat_abs, ◌≤ℤ◌, ◌<ℤ◌}
 use Rattle.ev_types.specs.declared.ask.Ask.{Ask}

@@ -3,7 +3,7 @@ use Rattle.std.proofs.Common.{◌≡◌, ◌∙◌, ℕ, ◌+◌, ◌≤◌, fal
 use Rattle.std.proofs.lemmas.Int.{ints}
 use Rattle.std.proofs.lemmas.List.{take-append-le}
 use Rattle.std.proofs.Math.Seq.{take-append-add}
-use Rattle.std.specs.Prelude.{ℤ, pos, nat_abs, ◌≤ℤ◌, ◌<ℤ◌, Option, Result, Ok, Err}
+use Rattle.std.specs.Prelude.{ℤ, pos, nat_abs, ◌<ℤ◌, Option, Result, Ok, Err}
 use Rattle.zx_outside.specs.Writing.{TakesFront, Takes}
 use Rattle.zx_outside.proofs.Streams.{Takes-append, append_known-nil}
 use Rattle.ev_types.specs.declared.answer.Kv.{Kv}
@@ -16,7 +16,7 @@ use Rattle.ev_http.proofs.Sending.{wrote_both}
 use Rattle.ev_http.specs.Taking.{Told}
 use Rattle.ev_gateway.specs.Looking.{Looks, Waits}
 use Rattle.ev_gateway.specs.Sinks.{Rests, SinkTold}
-use Rattle.ev_gateway.specs.Streaming.{IsEnding, IsPut, Rise, Streams, StreamsOn, Watches, WroteFront, begun, line_chunk, put_line, put_lines, told_whole}
+use Rattle.ev_gateway.specs.Streaming.{IsEnding, IsPut, Rise, Streams, Watches, WroteFront, begun, line_chunk, put_line, put_lines, told_whole}
 use Rattle.ev_gateway.specs.declared.watching.WatchEnd.{WatchEnd}
 use Rattle.ev_gateway.specs.declared.watching.WatchEnd.TheVariants as over
 use Rattle.ev_gateway.proofs.Looking.{no_look}

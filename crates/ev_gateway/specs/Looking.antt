@@ -1,6 +1,5 @@
 -- How a gateway looks, while a watch waits, whether its client is still there.
 use Rattle.std.specs.Prelude.{◌≡◌, ◌≤◌, ℕ, zero, suc, Bool, true, false, List, length}
-use Rattle.zx_outside.specs.Counts.{InputCounts, one_more}
 use Rattle.zx_outside.specs.Reading.{EndsForGood, Reads, counts_after_read}
 use Rattle.zx_outside.specs.declared.source.Got.{Got}
 use Rattle.zx_outside.specs.declared.source.Got.TheVariants as got

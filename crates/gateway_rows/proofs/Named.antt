@@ -1,5 +1,5 @@
 -- An address of one character.
-use Rattle.std.proofs.Common.{◌≤◌, [], ◌∷◌, codes, arith}
+use Rattle.std.proofs.Common.{◌≤◌, [], codes, arith}
 use Rattle.std.proofs.lemmas.List.Elements.{All-cons, All-nil}
 use Rattle.ev_call.specs.Addresses.{IsAddress}
 

@@ -1,7 +1,6 @@
 -- Accepts, one after the other.
-use Rattle.std.proofs.Common.{◌≡◌, ℕ, ◌+◌, ◌-◌, ◌^◌, ◌<◌, min, max, refl, sym, ap, ◌∙◌, arith}
-use Rattle.std.specs.Prelude.{Result, Ok, Err}
-use Rattle.zx_outside.specs.Counts.{one_more}
+use Rattle.std.proofs.Common.{◌≡◌, ℕ, ◌+◌, ◌-◌, ◌<◌, refl, sym, ap, ◌∙◌, arith}
+use Rattle.std.specs.Prelude.{Ok, Err}
 use Rattle.zx_net.specs.Nets.{NetCounts}
 use Rattle.zd_etcd.specs.declared.serving.Stop.{Stop}
 use Rattle.zd_etcd.specs.declared.serving.Stop.TheVariants as stop

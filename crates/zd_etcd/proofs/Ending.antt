@@ -1,7 +1,6 @@
 -- How the parts of a server's end come together.
-use Rattle.std.proofs.Common.{◌≡◌, ℕ, List, refl, sym, ◌∙◌, subst, inl, inr}
+use Rattle.std.proofs.Common.{◌≡◌, ℕ, List, refl, sym, subst, inl, inr}
 use Rattle.std.specs.Prelude.{Option, Result, Ok, Err}
-use Rattle.zx_outside.specs.Counts.{OutputCounts}
 use Rattle.zx_outside.specs.Writing.{Takes, TakesFront}
 use Rattle.zx_net.specs.Nets.{NetCounts}
 use Rattle.zd_etcd.specs.declared.serving.EtcdEnd.{EtcdEnd}

@@ -1,13 +1,12 @@
 -- Borrowed words are the words themselves.
-use Rattle.std.proofs.Common.{◌≡◌, List, ℕ, suc, [], ◌∷◌, length, min, ◌-◌, map, take, drop, codes, string_bytes, refl, sym, ap, subst, ◌∙◌, arith}
+use Rattle.std.proofs.Common.{◌≡◌, List, ℕ, suc, [], ◌∷◌, length, min, ◌-◌, map, take, drop, codes, string_bytes, refl, ap, ◌∙◌, arith}
 use Rattle.std.proofs.Math.Seq.{take-length}
 use Rattle.std.specs.declared.string.String.{String}
 use denote.Ref.{Bor}
 use Rattle.zetcd_cmd.specs.Outcomes.{IsWord}
 use Rattle.zetcd_cmd.specs.Proxying.{IsServe}
-use Rattle.zetcd_cmd.specs.Serving.{IsEtcd, is_address, limit_in}
+use Rattle.zetcd_cmd.specs.Serving.{IsEtcd, limit_in}
 use Rattle.zetcd_cmd.specs.Stressing.{IsStress, count_in, max_connections, max_steps, number_in}
-use Rattle.std.specs.Prelude.{true, Some}
 use Rattle.zetcd.specs.Arguments.{IsProxying, IsServeWords, IsStressing, arguments}
 
 abbrev pub texts : List (Bor (List ℕ)) → List (List ℕ)

@@ -1,5 +1,5 @@
 -- What a replay did, from how its script ended.
-use Rattle.std.proofs.Common.{◌≡◌, ℕ, ◌==◌, ◌⊎◌, ⊎_elim, false, true≢false, List, [], ◌∷◌, ◌++◌, refl, sym, ap, ◌∙◌, subst, arith, append-nil, inl, inr}
+use Rattle.std.proofs.Common.{◌≡◌, ℕ, ◌==◌, ◌⊎◌, ⊎_elim, false, true≢false, List, [], ◌++◌, refl, sym, ap, ◌∙◌, subst, arith, append-nil, inl, inr}
 use Rattle.std.specs.Prelude.{Bool, Option, length, ◌+◌, ◌<◌, ◌≤◌}
 use Rattle.std.specs.List.{Contains}
 use Rattle.std.proofs.lemmas.List.Elements.{All-contains}
@@ -19,7 +19,7 @@ use Rattle.zetcd_cmd.specs.declared.script.Stop.TheVariants as stop
 use Rattle.zetcd_cmd.specs.declared.status.Status.{Status}
 use Rattle.zetcd_cmd.specs.declared.status.Status.TheVariants as status
 use Rattle.zetcd_cmd.specs.Ending.{EndsAt, EndsReading}
-use Rattle.zetcd_cmd.specs.Outcomes.{Did, AreFirstLines, IsAtItsEnd, IsFront, StopsAt, ReplayWrites, Replays, TakesSome, IsUnharmed, Failed}
+use Rattle.zetcd_cmd.specs.Outcomes.{Did, IsAtItsEnd, IsFront, StopsAt, ReplayWrites, Replays, TakesSome, IsUnharmed, Failed}
 use Rattle.zetcd_cmd.specs.Reporting.{ending_text, status_after, stop_text}
 use Rattle.zetcd_cmd.specs.Scripting.{HasNoLineFeed, ScriptStands, IsApplied, IsHalted}
 use Rattle.zetcd_cmd.proofs.Progress.{script-lines}

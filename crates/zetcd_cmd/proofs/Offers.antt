@@ -1,12 +1,12 @@
 -- What a line that is read names: sessions' numbers in their range, and passwords of 16 bytes.
-use Rattle.std.proofs.Common.{◌≡◌, ℕ, ◌+◌, ◌*◌, ◌^◌, ◌<◌, ◌≤◌, List, [], ◌∷◌, length, true, false, if◌then◌else◌, Option, Some, None, refl, ap, sym, ◌∙◌, subst, suc, arith}
+use Rattle.std.proofs.Common.{◌≡◌, ℕ, ◌*◌, ◌^◌, ◌≤◌, List, [], ◌∷◌, length, true, false, if◌then◌else◌, Option, Some, None, refl, subst, arith}
 use Rattle.std.proofs.lemmas.Grind.{common_steps}
 use Rattle.std.proofs.lemmas.Int.{ints}
 use Rattle.std.specs.Prelude.{Bool, ℤ, pos, ◌≤ℤ◌, ◌==◌, ◌&&◌, bytes_eq, codes, nat_lt, option_and_then, IfSome}
 use Rattle.zk_model.specs.Limits.{max_long}
 use Rattle.zt_text.specs.declared.script.Happening.{Happening}
 use Rattle.zt_text.specs.declared.script.Happening.TheVariants as line
-use Rattle.zt_text.specs.Scripts.{as_session_id, bytes_line, digits_value, foreign_line, four_words, frame_happening, happening, hex, hex_byte, hex_value, hex_pairs, lapse_happening, happening_of_form, happening_read, max_line, number, number_and_bytes, numbered_line, of_number, one_word, open_happening, password, pieces, reap_line, session_id, three_words, two_words, ◌>>=◌}
+use Rattle.zt_text.specs.Scripts.{as_session_id, bytes_line, digits_value, foreign_line, four_words, frame_happening, happening, hex, hex_byte, hex_value, hex_pairs, lapse_happening, happening_of_form, happening_read, max_line, number, number_and_bytes, numbered_line, of_number, one_word, open_happening, password, pieces, reap_line, session_id, three_words, two_words}
 use Rattle.zp_verdict_laws.specs.Written.{NamesSession}
 use Rattle.zp_world.specs.Applying.{IsOfScript}
 

@@ -1,14 +1,14 @@
 -- From line to line of a run.
-use Rattle.std.proofs.Common.{◌≡◌, ℕ, List, [], ◌∷◌, ◌++◌, refl, sym, ap, ◌∙◌, subst, arith}
+use Rattle.std.proofs.Common.{◌≡◌, ℕ, List, [], ◌∷◌, ◌++◌, refl, ap, subst}
 use Rattle.std.proofs.lemmas.List.Elements.{All-append, All-cons, All-nil}
-use Rattle.std.specs.Prelude.{All, length, ◌<◌, ◌⊎◌}
+use Rattle.std.specs.Prelude.{length, ◌<◌, ◌⊎◌}
 use Rattle.zt_lines.specs.Readable.{IsLastLine}
 use Rattle.zk_transcript.specs.Legal.{Tick}
 use Rattle.zk_transcript.specs.declared.transcript.TranscriptLine.{TranscriptLine}
 use Rattle.zt_text.specs.Transcripts.{transcript_text}
 use Rattle.zt_text.specs.declared.script.Happening.{Happening}
 use Rattle.zp_script.specs.Happens.{Happens}
-use Rattle.zp_script.specs.Runs.{IsFirst, Runs, RunsFrom, tick_of}
+use Rattle.zp_script.specs.Runs.{IsFirst, RunsFrom, tick_of}
 use Rattle.zp_script.specs.Worlds.{World}
 use Rattle.zp_verdict_laws.proofs.Fitting.{all-offer, lines-of-runs-fit, written-replays-are-lawful}
 use Rattle.zp_verdict_laws.proofs.Running.{few-counted}

@@ -1,5 +1,5 @@
 -- The words of `etcd`, and what a server came to.
-use Rattle.std.proofs.Common.{◌≡◌, ℕ, ◌+◌, ◌*◌, ◌<◌, List, [], ◌∷◌, length, drop, get_or, refl, sym, ap, ◌∙◌, inl, inr, arith}
+use Rattle.std.proofs.Common.{◌≡◌, ℕ, ◌+◌, ◌*◌, ◌<◌, List, [], ◌∷◌, length, drop, get_or, refl, sym, ap, ◌∙◌, inl, inr}
 use Rattle.std.proofs.lemmas.List.{drop_more}
 use Rattle.zt_text.specs.Scripts.{◌>>=◌, decimal_digit, digits_value, max_number, not_above}
 use Rattle.zt_text.proofs.Digits.{digits_value-above}
@@ -12,10 +12,9 @@ use Rattle.zx_net.specs.Nets.{NetCounts}
 use Rattle.zd_etcd.specs.declared.serving.EtcdEnd.{EtcdEnd}
 use Rattle.zd_etcd.specs.declared.serving.EtcdEnd.TheVariants as ends
 use Rattle.zd_etcd.specs.Serving.{EtcdEnds, counts_at_end}
-use Rattle.zetcd_cmd.specs.declared.status.Status.{Status}
 use Rattle.zetcd_cmd.specs.declared.status.Status.TheVariants as status
 use Rattle.zetcd_cmd.specs.Outcomes.{IsWord}
-use Rattle.zetcd_cmd.specs.Serving.{IsEtcd, NamesEtcd, EtcdServes, digits_number, limit_in, etcd_status}
+use Rattle.zetcd_cmd.specs.Serving.{IsEtcd, NamesEtcd, digits_number, limit_in, etcd_status}
 use Rattle.zx_base.proofs.Options.{some-both}
 
 -- ---- the words

@@ -2,11 +2,10 @@
 use Rattle.std.proofs.Common.{◌≡◌, ℕ, List, [], ◌∷◌, length, sym, ◌∙◌, inl, inr, arith}
 use Rattle.std.specs.Prelude.{Option, Some, codes, slice_index_or, ◌⊎◌}
 use denote.Ref.{Bor}
-use Rattle.zx_outside.specs.Writing.{Takes}
 use Rattle.zetcd_cmd.specs.Outcomes.{IsWord}
 use Rattle.zetcd_cmd.specs.Proxying.{NamesServe}
 use Rattle.zetcd_cmd.specs.Serving.{NamesEtcd}
-use Rattle.zetcd_cmd.specs.Stressing.{IsStress, NamesStress, Stresses, count_in, max_connections, max_steps, number_in}
+use Rattle.zetcd_cmd.specs.Stressing.{IsStress, Stresses, count_in, max_connections, max_steps, number_in}
 use Rattle.zetcd_cmd.specs.declared.status.Status.{Status}
 use Rattle.zx_base.proofs.Options.{some-both}
 

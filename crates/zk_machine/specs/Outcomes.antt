@@ -1,5 +1,5 @@
 -- What the program answers, as the definitions' data.
-use Rattle.std.specs.Prelude.{◌≡◌, ℕ, ◌<◌, nat_le, if◌then◌else◌, ⊤, Bool, true, false, Option, Some, None}
+use Rattle.std.specs.Prelude.{◌≡◌, ℕ, ◌<◌, ⊤, Bool, true, false, Option, Some, None}
 use Rattle.zx_base.specs.Maps.{Bytes}
 use Rattle.zk_model.specs.PathFaults.{is_valid, tested}
 use Rattle.zk_machine.specs.declared.outcome.Outcome.{Outcome as Answer}

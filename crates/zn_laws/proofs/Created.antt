@@ -7,16 +7,14 @@ use Rattle.zx_base.specs.Maps.{Bytes}
 use Rattle.zx_base.proofs.Options.{none_some, some_is}
 use Rattle.zk_model.specs.declared.node.Node.{Node}
 use Rattle.zk_model.specs.declared.node.Stat.{Stat}
-use Rattle.zk_model.specs.declared.node.Trigger.{Trigger}
 use Rattle.zk_model.specs.declared.node.Trigger.TheVariants as trigger
-use Rattle.zk_model.specs.declared.reply.PartResult.{PartResult}
 use Rattle.zk_model.specs.declared.reply.PartResult.TheVariants as result
 use Rattle.zk_model.specs.declared.request.Acl.{Acl}
 use Rattle.zk_model.specs.declared.request.Part.TheVariants as part
 use Rattle.zk_model.specs.declared.request.Request.TheVariants as req
 use Rattle.zk_model.specs.Paths.{parent, sequence_path}
 use Rattle.zk_model.specs.Single.{Outcome, Done, Refused, create, create_at, create_node, create_under, effect, form_refusal, is_ephemeral, is_full, is_sequential, made_path, named, single, unless_refused, with_child}
-use Rattle.zk_model.specs.Znodes.{Tree, new_node, num_children, stat}
+use Rattle.zk_model.specs.Znodes.{new_node, num_children, stat}
 use Rattle.zk_model.proofs.Paths.{apart_from_parent}
 use Rattle.zk_model.proofs.SequenceParents.{parent-sequence}
 use Rattle.zk_service.specs.States.{Commit, IsSound, State, body_with_stat, commit, commit_with_stat, made_stat, response_of}

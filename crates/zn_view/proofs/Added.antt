@@ -1,5 +1,5 @@
 -- A view that takes parts, one after the other.
-use Rattle.std.proofs.Common.{◌≡◌, ℕ, ◌≤◌, refl, sym, ap, ◌∙◌, subst, arith, Bool, true, false, List, [], ◌∷◌, length, drop, min, ℤ, pos, length-drop, append-nil}
+use Rattle.std.proofs.Common.{◌≡◌, ℕ, ◌≤◌, refl, sym, ap, ◌∙◌, subst, arith, Bool, true, false, List, [], ◌∷◌, length, drop, min, ℤ, length-drop, append-nil}
 use Rattle.std.specs.Prelude.{Option, Some, None, All, IfSome, if◌then◌else◌}
 use Rattle.std.proofs.lemmas.List.Elements.{All-head, All-tail}
 use Rattle.ev_types.specs.declared.answer.ActAns.{ActAns}

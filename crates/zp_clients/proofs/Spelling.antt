@@ -1,5 +1,5 @@
 -- The connect of the clients, byte by byte.
-use Rattle.std.proofs.Common.{◌≡◌, ℕ, List, refl}
+use Rattle.std.proofs.Common.{◌≡◌, refl}
 use Rattle.zk_jute.specs.JuteWriting.{int_bytes, long_bytes}
 use Rattle.zp_clients.specs.declared.connect.TheConstants.{CONNECT}
 use Rattle.zp_clients.specs.Wishes.{connect_packet}

@@ -1,6 +1,6 @@
 -- What the driver hands in may be handed in.
 use Rattle.std.proofs.Common.{◌≡◌, ℤ, pos, List, [], ◌∷◌, Bool, true, false, refl, sym, ap, ◌∙◌, subst, inl, inr}
-use Rattle.std.specs.Prelude.{◌⊎◌, Option, Some, None, ◌+ℤ◌, ◌<ℤ◌, if◌then◌else◌}
+use Rattle.std.specs.Prelude.{Option, Some, None, ◌+ℤ◌, ◌<ℤ◌, if◌then◌else◌}
 use Rattle.ev_call.specs.Fitting.{AreCounts, Fits, PartsFit, PartFits}
 use Rattle.ev_types.specs.declared.answer.ActAns.{ActAns}
 use Rattle.ev_types.specs.declared.answer.ActAns.TheVariants as part

@@ -1,6 +1,6 @@
 -- Each step answers the frame at work, or leaves it at work, where a frame comes only once it is wanted.
 use Rattle.std.proofs.Common.{◌≡◌, ℕ, ◌≤◌, ℤ, pos, List, [], ◌∷◌, ◌++◌, length, Bool, true, false, refl, sym, ap, ◌∙◌, subst, inl, inr, append-nil, append_assoc, arith}
-use Rattle.std.specs.Prelude.{◌⊎◌, Option, Some, None, All, MatchBool, if◌then◌else◌}
+use Rattle.std.specs.Prelude.{◌⊎◌, Option, Some, None, All, if◌then◌else◌}
 use Rattle.std.specs.Arc.{arc_value}
 use Rattle.std.specs.Ordering.{int_eq}
 use Rattle.std.proofs.lemmas.List.Elements.{All-append, All-cons, All-nil}
@@ -38,7 +38,6 @@ use Rattle.zs_session.specs.declared.connect.Fresh.{Fresh}
 use Rattle.zx_base.proofs.Options.{none_some, some_is}
 use Rattle.zp_laws.proofs.Cases.{of_alive, of_txn}
 use Rattle.zp_laws.proofs.Ending.{notices-only, only_sends}
-use Rattle.zp_laws.proofs.Going.{close-sends}
 use Rattle.zp_laws.proofs.Keeping.{PlansBeside, first-or-anew, leaves-beside}
 use Rattle.zp_laws.proofs.Strides.{sends-append}
 use Rattle.zp_laws.specs.Walking.{sends}
@@ -53,7 +52,7 @@ use Rattle.zp_step.specs.Looking.{IfRecords, Looks, change_by, decided, expired,
 use Rattle.zp_step.specs.Plans.{Committed, finishes}
 use Rattle.zp_step.specs.Replies.{Is, close_after, closed_by, is_due, replied, send_notices, stage_after, waits}
 use Rattle.zp_step.specs.Stages.{Core, Pending, Stage, Unconnected, Connecting, Ready, KeepingAlive, Checking, Reading, Committing, Waiting, Shut, is_shut, seen_by, wanted_in}
-use Rattle.zp_step.specs.Steps.{Answers, Comes, Goes, Handles, MayTake, Steps, StepsOpen, awaits_entry, with_frame_counted, queued, rests, takes}
+use Rattle.zp_step.specs.Steps.{Answers, Comes, Goes, Handles, MayTake, Steps, awaits_entry, with_frame_counted, queued, rests, takes}
 use Rattle.zp_step.specs.Taking.{TakesFrame, TakesReadable, end_of_plain, plainly}
 use Rattle.zp_step.specs.declared.action.Action.{Action}
 use Rattle.zp_step.specs.declared.action.Action.TheVariants as action

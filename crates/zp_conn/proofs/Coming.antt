@@ -3,7 +3,7 @@ use Rattle.std.proofs.Common.{◌≡◌, ℕ, ◌+◌, ◌-◌, ◌≤◌, ◌^�
 use Rattle.std.specs.Prelude.{Option, Some, None, Result, Ok, Err, ◌⊎◌}
 use Rattle.zk_jute.specs.Frames.{Framed, bad_length}
 use Rattle.zk_jute.proofs.Framing.{framed_join, bad_stays, bad_rest}
-use Rattle.zk_wire.specs.Cutting.{Hands, CutRefuses, CutStands, Stream}
+use Rattle.zk_wire.specs.Cutting.{Hands, CutRefuses, Stream}
 use Rattle.zk_wire.specs.declared.cutter.CutFault.TheVariants.{BadLength, Memory}
 use Rattle.zk_wire.specs.declared.cutter.CutFault.{CutFault}
 use Rattle.zx_base.proofs.Options.{some_none}
@@ -11,7 +11,7 @@ use Rattle.zx_outside.specs.Reading.{Gives, GivesNone}
 use Rattle.zx_outside.proofs.Streams.{Gives-nil, Gives-none}
 use Rattle.zp_conn.specs.declared.inbox.Came.{Came}
 use Rattle.zp_conn.specs.declared.inbox.Came.TheVariants.{End, Failed, Frame, Nothing}
-use Rattle.zp_step.specs.Stages.{counted_up, max_count}
+use Rattle.zp_step.specs.Stages.{counted_up}
 use Rattle.zp_conn.specs.Inboxes.{Comes, Cuts, Holds, InboxState, IsBadAt, IsEndedAfter, IsQuiet, Pops, ReadsFrom, ReadsOn, came_by, faults_after, kept_by}
 
 abbrev IsHeldAs : List ℕ → Stream → Type 0

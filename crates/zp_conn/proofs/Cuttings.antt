@@ -1,6 +1,6 @@
 -- How the loop ends where memory runs out, and at a fault of the sink.
-use Rattle.std.proofs.Common.{◌≡◌, ◌≤◌, ℕ, length, ◌+◌, take, drop, List, [], ◌∷◌, ◌++◌, true, false, refl, sym, ap, ◌∙◌, subst, inl, inr, append-nil, append_assoc, map, arith}
-use Rattle.std.specs.Prelude.{◌⊎◌, Option, Some, None, Result, Ok, Err, Contains}
+use Rattle.std.proofs.Common.{◌≡◌, ◌≤◌, ℕ, length, ◌+◌, take, List, [], ◌∷◌, ◌++◌, true, false, refl, sym, ap, ◌∙◌, subst, inl, inr, append-nil, append_assoc, map, arith}
+use Rattle.std.specs.Prelude.{◌⊎◌, Option, Some, None, Ok, Err, Contains}
 use mathlib.Core.List.{IsPrefix}
 use Rattle.std.proofs.lemmas.List.{map-append}
 use Rattle.std.proofs.lemmas.List.Elements.{Contains-append_left}
@@ -11,7 +11,7 @@ use Rattle.zk_service.specs.declared.cause.Cause.TheVariants as cause
 use Rattle.zs_session.specs.declared.connect.Fresh.{Fresh}
 use Rattle.zx_base.specs.declared.memory.Memory.{Memory}
 use Rattle.zx_outside.specs.Counts.{one_more}
-use Rattle.zx_outside.specs.Writing.{Takes, TakesFront}
+use Rattle.zx_outside.specs.Writing.{TakesFront}
 use Rattle.zx_outside.proofs.Streams.{Takes-append}
 use Rattle.zp_step.specs.Stages.{Core, new_core}
 use Rattle.zp_step.specs.declared.input.Input.{Input}
@@ -30,11 +30,10 @@ use Rattle.zp_conn.specs.Answered.{AreAnswered}
 use Rattle.zp_conn.specs.Handing.{Hands, IsSpoken}
 use Rattle.zp_conn.specs.Inboxes.{InboxState}
 use Rattle.zp_conn.specs.Serving.{AreFirstFrames, IsUnstepped, SinkTold, Told, is_after_frames, outcomes_of}
-use Rattle.zp_conn.specs.Speaking.{HasSaid, IsCut, joined}
+use Rattle.zp_conn.specs.Speaking.{IsCut, joined}
 use Rattle.zp_conn.specs.Turning.{Stood, answers_in, listed}
 use Rattle.zp_conn.specs.Writing.{Flushes}
 use Rattle.zp_conn.specs.declared.inputs.Next.TheVariants as next
-use Rattle.zp_conn.specs.declared.speaking.Rest.{Rest}
 use Rattle.zp_conn.specs.declared.writing.WriteFault.{WriteFault}
 
 -- the notes of the next packet: it, or nothing

@@ -1,5 +1,5 @@
 -- How the loop ends: what stands then, and what the last write makes of it.
-use Rattle.std.proofs.Common.{◌≡◌, ◌≤◌, ℕ, take, drop, length, ◌+◌, List, [], ◌∷◌, ◌++◌, true, false, refl, sym, ap, ◌∙◌, subst, inl, inr, append-nil, append_assoc, map, arith}
+use Rattle.std.proofs.Common.{◌≡◌, ◌≤◌, ℕ, take, drop, length, ◌+◌, List, [], ◌++◌, false, refl, sym, ap, ◌∙◌, subst, inl, inr, append-nil, append_assoc, map, arith}
 use Rattle.std.specs.Prelude.{◌⊎◌, Option, Some, None, Result, Ok, Err, Contains}
 use mathlib.Core.List.{IsPrefix}
 use Rattle.std.proofs.lemmas.List.{take-append-drop}
@@ -23,10 +23,10 @@ use Rattle.zp_conn.proofs.Turning.{rose}
 use Rattle.zp_conn.specs.Answered.{AreAnswered, is_answered}
 use Rattle.zp_conn.specs.Driving.{Drives}
 use Rattle.zp_conn.specs.Inboxes.{InboxState}
-use Rattle.zp_conn.specs.Serving.{AreCallsOf, AreFirstFrames, AreNotesOf, IsEndedFor, IsWrittenOf, Rose, Serves, SinkTold, Told, is_after_frames, is_whole, with_calls}
+use Rattle.zp_conn.specs.Serving.{AreCallsOf, AreFirstFrames, AreNotesOf, IsEndedFor, IsWrittenOf, Rose, Serves, SinkTold, Told, with_calls}
 use Rattle.zp_conn.specs.Speaking.{joined}
 use Rattle.zp_conn.specs.Turning.{Ends, IsShownBy, IsUnheard, Stood, cut_short, ended_by}
-use Rattle.zp_conn.specs.Writing.{Flushes, Wrote}
+use Rattle.zp_conn.specs.Writing.{Flushes}
 use Rattle.zp_conn.specs.declared.inputs.Next.TheVariants as next
 use Rattle.zp_conn.specs.declared.writing.WriteFault.{WriteFault}
 

@@ -1,8 +1,8 @@
 -- Before anything came.
-use Rattle.std.proofs.Common.{◌≡◌, ◌-◌, ℕ, List, [], ◌++◌, length, refl, sym, ap, subst, inl}
+use Rattle.std.proofs.Common.{◌≡◌, ◌-◌, ℕ, List, [], refl, sym, subst, inl}
 use Rattle.zk_jute.proofs.Framing.{no_frame}
 use Rattle.zk_wire.specs.Cutting.{Stream, unread}
-use Rattle.zp_conn.specs.Inboxes.{Holds, InboxState}
+use Rattle.zp_conn.specs.Inboxes.{Holds}
 
 unread-holds : Holds [] [] (record { stream = unread; frames = []; count = 0 })
 unread-holds = record { stands = record { rest = []; framed = ([], refl, refl, no_frame [] refl); held = inl refl }; placed = refl; counted = refl }

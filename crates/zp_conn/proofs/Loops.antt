@@ -1,12 +1,11 @@
 -- The loop: how it begins, how a turn goes on, and how it ends.
-use Rattle.std.proofs.Common.{◌≡◌, ◌≤◌, ◌+◌, ℕ, ℤ, pos, List, [], ◌∷◌, ◌++◌, Bool, true, false, refl, sym, ap, ◌∙◌, subst, inl, inr, append-nil, arith}
-use Rattle.std.specs.Prelude.{◌⊎◌, ◌≤ℤ◌, Option, Some, None, Result, Ok, Err, Contains}
+use Rattle.std.proofs.Common.{◌≡◌, ◌≤◌, ◌+◌, ℕ, ℤ, pos, List, [], Bool, true, false, refl, sym, ap, subst, inl, inr, append-nil, arith}
+use Rattle.std.specs.Prelude.{◌≤ℤ◌, Option, Some, None, Result, Ok, Err}
 use Rattle.std.proofs.lemmas.List.Elements.{All-nil}
 use Rattle.ev_call.specs.Calls.{Call}
 use Rattle.ev_types.specs.declared.ask.Ask.{Ask}
 use Rattle.zk_service.specs.declared.cause.Cause.{Cause}
 use Rattle.zk_service.specs.declared.cause.Cause.TheVariants as cause
-use Rattle.zn_layout.specs.declared.entry.Entry.{Entry}
 use Rattle.zs_session.specs.declared.connect.Fresh.{Fresh}
 use Rattle.zx_base.specs.declared.memory.Memory.{Memory}
 use Rattle.zx_outside.specs.Counts.{OutputCounts}
@@ -17,13 +16,13 @@ use Rattle.zp_step.specs.declared.input.Input.{Input}
 use Rattle.zp_run.specs.Notes.{Noted}
 use Rattle.zp_conn.proofs.Closings.{closes-last}
 use Rattle.zp_conn.proofs.Cuttings.{flush-last, flush-on, hand-last, no-notes}
-use Rattle.zp_conn.proofs.Ends.{Last, last-ends}
+use Rattle.zp_conn.proofs.Ends.{Last}
 use Rattle.zp_conn.proofs.Goings.{spoken-on}
 use Rattle.zp_conn.proofs.Turning.{contains-none}
 use Rattle.zp_conn.specs.Handing.{Hands}
 use Rattle.zp_conn.specs.Inboxes.{Holds, InboxState}
-use Rattle.zp_conn.specs.Serving.{SinkTold, Told, with_calls}
-use Rattle.zp_conn.specs.Turning.{Ends, Stood, goes_on}
+use Rattle.zp_conn.specs.Serving.{Told, with_calls}
+use Rattle.zp_conn.specs.Turning.{Stood, goes_on}
 use Rattle.zp_conn.specs.Writing.{FlushesIf}
 use Rattle.zp_conn.specs.declared.inputs.Next.TheVariants as next
 use Rattle.zp_conn.specs.declared.speaking.Rest.{Rest}

@@ -1,17 +1,15 @@
 -- Packets, one after the other.
-use Rattle.std.proofs.Common.{◌≡◌, ℕ, List, [], ◌∷◌, ◌++◌, Bool, true, false, refl, sym, ap, ◌∙◌, subst, append-nil, append_assoc, map}
-use Rattle.std.specs.Prelude.{Option, Some, None, Result, Ok, Err, flat_map}
+use Rattle.std.proofs.Common.{◌≡◌, ℕ, List, [], ◌∷◌, ◌++◌, true, refl, sym, ap, ◌∙◌, subst, append-nil, append_assoc, map}
+use Rattle.std.specs.Prelude.{Option, Some, None, Ok, Err}
 use Rattle.zk_service.specs.declared.cause.Cause.{Cause}
 use Rattle.ev_types.specs.declared.ask.Ask.{Ask}
 use Rattle.zx_base.specs.declared.memory.Memory.{Memory}
 use Rattle.zp_step.specs.declared.action.Action.{Action}
 use Rattle.zp_step.specs.declared.action.Action.TheVariants as action
-use Rattle.zp_laws.specs.Ending.{asked_by, ends_well, is_end}
+use Rattle.zp_laws.specs.Ending.{ends_well, is_end}
 use Rattle.zp_laws.specs.Walking.{sends}
 use Rattle.zp_run.specs.Notes.{Noted, Out, with_note, with_notes}
-use Rattle.zp_run.specs.Runs.{closed_for}
 use Rattle.zp_conn.specs.Speaking.{HasSaid, IsCut, IsRest, IsSpeaking, Says, joined}
-use Rattle.zp_conn.specs.declared.speaking.Rest.{Rest}
 use Rattle.zp_conn.specs.declared.speaking.Rest.TheVariants as rest
 
 with_notes-nil : (n : Option (List Noted)) → with_notes n [] ≡ n

@@ -1,5 +1,5 @@
 -- What holding the packets of a step makes of the outbox and of the trace.
-use Rattle.std.specs.Prelude.{◌≡◌, ◌⊎◌, ℕ, true, List, [], ◌∷◌, ◌++◌, map, flat_map, Option, Some, None, Result, Ok, Err}
+use Rattle.std.specs.Prelude.{◌≡◌, ◌⊎◌, ℕ, true, List, ◌∷◌, ◌++◌, map, flat_map, Option, Some, None, Result, Ok, Err}
 use Rattle.zx_base.specs.declared.memory.Memory.{Memory}
 use Rattle.zp_step.specs.declared.action.Action.{Action}
 use Rattle.zp_laws.specs.Ending.{asked_by, ends_well}

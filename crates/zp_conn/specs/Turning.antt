@@ -15,7 +15,6 @@ use Rattle.zw_hub.specs.Feeds.{IsFed, IsOneRead, if_closed, if_lagged}
 use Rattle.zw_hub.specs.Lists.{Extends, IsAt, floor as floor_of}
 use Rattle.zw_hub.specs.declared.feed.Fed.{Fed}
 use Rattle.zw_hub.specs.declared.feed.Fed.TheVariants as fed
-use Rattle.zx_outside.specs.Counts.{one_more}
 use Rattle.zx_outside.specs.Reading.{Gives}
 use Rattle.zx_outside.specs.Writing.{Takes}
 use Rattle.zp_step.specs.Stages.{Core, asked_of, counted_up, is_shut, new_core, wants_of}
@@ -24,8 +23,8 @@ use Rattle.zp_step.specs.declared.input.Input.{Input}
 use Rattle.zp_step.specs.declared.input.Input.TheVariants as input
 use Rattle.zp_step.specs.declared.wants.Wants.TheVariants as wants
 use Rattle.zp_laws.specs.Ending.{takes_out}
-use Rattle.zp_run.specs.Notes.{Noted, notes_of, with_notes}
-use Rattle.zp_run.specs.Runs.{Runs, Step, answer_in, answers_of, asks_of, closed_for, entries_of, entry_in, frames_of, said}
+use Rattle.zp_run.specs.Notes.{notes_of, with_notes}
+use Rattle.zp_run.specs.Runs.{Runs, Step, answer_in, answers_of, asks_of, entries_of, entry_in, frames_of, said}
 use Rattle.zp_core.specs.Held.{IsHeld}
 use Rattle.zx_base.specs.declared.memory.Memory.{Memory}
 use Rattle.zp_conn.specs.Answered.{HasAnswered}

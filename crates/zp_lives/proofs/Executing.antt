@@ -29,7 +29,7 @@ use Rattle.zp_world_laws.proofs.Commits.{stands-now}
 use Rattle.zp_world_laws.proofs.Effects.{stored-in}
 use Rattle.zp_world_laws.proofs.Numbers.{conn-here}
 use Rattle.zp_world_laws.specs.Accounting.{IsAccounted}
-use Rattle.zp_world_laws.specs.Holding.{Of, air, out_in, out_of}
+use Rattle.zp_world_laws.specs.Holding.{Of, out_in, out_of}
 use Rattle.zp_world_laws.specs.Serving.{StoreServes, kind_lines, update_lines}
 use Rattle.zt_text.specs.declared.script.Happening.TheVariants as line
 use Rattle.zt_text.specs.declared.script.Why.TheVariants as why

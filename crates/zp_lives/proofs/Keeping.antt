@@ -3,7 +3,7 @@ use Rattle.ev_types.specs.declared.answer.Answer.{Answer}
 use Rattle.std.proofs.Common.{Bool, List, [], ap, false, refl, subst, sym, true, ℕ, ◌+◌, ◌<◌, ◌∙◌, ◌∷◌, ◌≡◌, ◌≤◌, length}
 use Rattle.std.proofs.lemmas.List.Elements.{All-cons, All-nil}
 use Rattle.std.specs.Arc.{arc_value}
-use Rattle.std.specs.Prelude.{All, MatchBool, None, Option, Some}
+use Rattle.std.specs.Prelude.{MatchBool, None, Option, Some}
 use Rattle.zk_model.specs.Limits.{max_frame}
 use Rattle.zk_service.specs.declared.cause.Cause.{Cause}
 use Rattle.zk_service.specs.declared.cause.Cause.TheVariants as cause
@@ -11,14 +11,13 @@ use Rattle.zp_script.specs.Arriving.{FramesArrive, shown_frame}
 use Rattle.zp_script.specs.Effects.{Delivers}
 use Rattle.zp_script.specs.Faults.{flight_at}
 use Rattle.zp_script.specs.Handing.{AnswerComes, AnswerComesTo, Handed, landed, landed_conn}
-use Rattle.zp_script.specs.Happens.{Happens}
 use Rattle.zp_script.specs.Kinds.{kind_asked}
 use Rattle.zp_script.specs.Runs.{tick_of}
-use Rattle.zp_script.specs.StepOutcomes.{acts_all, leaves}
+use Rattle.zp_script.specs.StepOutcomes.{acts_all}
 use Rattle.zp_script.specs.Worlds.{Conn, Connection, World, after_step, conn_at, is_open_conn}
 use Rattle.zp_script.specs.declared.flight.Flight.TheVariants.{Carried}
 use Rattle.zp_lives.proofs.Events.{events-keep}
-use Rattle.zp_lives.specs.Lives.{AccountedAreServed, HappensBeside, IsHanded, Lives, LivesAreAccounted, Takes, TakesBy, at_time}
+use Rattle.zp_lives.specs.Lives.{AccountedAreServed, HappensBeside, IsHanded, LivesAreAccounted, Takes, TakesBy, at_time}
 use Rattle.zp_run.specs.Runs.{Step}
 use Rattle.zp_step.specs.Laws.{end_by}
 use Rattle.zp_step.specs.Stages.{counted_up, is_shut, max_count}

@@ -20,7 +20,7 @@ use Rattle.zn_view.specs.declared.plan.Who.{Who}
 use Rattle.zp_script.specs.Arriving.{shown_frame}
 use Rattle.zp_script.specs.Entries.{cursor_of, cursor_wanted, entry_after, next_entry}
 use Rattle.zp_script.specs.Faults.{flight_at}
-use Rattle.zp_script.specs.Handing.{Handed, landed}
+use Rattle.zp_script.specs.Handing.{landed}
 use Rattle.zp_script.specs.Kinds.{kind_asked}
 use Rattle.zp_script.specs.StepOutcomes.{StepOutcome, acts_all, leaves}
 use Rattle.zp_script.specs.Worlds.{Conn, Connection, World, after_step, conn_at, with_conn, zxid_at}

@@ -1,16 +1,10 @@
 -- What one call did is a run of one connection alone.
-use Rattle.std.proofs.Common.{sym, subst}
-use Rattle.ev_types.specs.Store.{Store}
+use Rattle.std.proofs.Common.{subst}
 use Rattle.ev_call.specs.Honest.{CarriesAll}
-use Rattle.zk_service.specs.declared.cause.Cause.{Cause}
-use Rattle.zs_session.specs.declared.connect.Fresh.{Fresh}
 use Rattle.zp_run.specs.Runs.{answers_of}
-use Rattle.zp_conn.specs.Serving.{Serves, Told}
 use Rattle.zp_lives.proofs.Living.{alone-from-the-first, alone-served}
-use Rattle.zp_lives.specs.Alone.{IsRunAlone}
 use Rattle.zp_lives.specs.Feeding.{AreAnswered}
 use Rattle.zp_served.proofs.Carrying.{answered, same-calls}
-use Rattle.zp_served.specs.Honest.{IsServedOver}
 use Rattle.zp_served.specs.Served.{ServedAreAlone, ServedAreFed, ServedFromTheFirst}
 
 pub fed : ServedAreFed

@@ -1,6 +1,6 @@
 -- All that a store of its own was ever asked, by what its link tells.
 use Rattle.std.proofs.Common.{◌≡◌, List, [], ◌∷◌, ◌++◌, refl, sym, ap, subst, ◌∙◌}
-use Rattle.std.specs.Prelude.{Option, Some, Result, Ok}
+use Rattle.std.specs.Prelude.{Some, Result, Ok}
 use mathlib.Core.Logic.{∥∥₁_map}
 use Rattle.ev_call.specs.Asks.{IsGrantable}
 use Rattle.ev_call.specs.Calls.{Call, with_call}
@@ -15,8 +15,7 @@ use Rattle.zn_layout.specs.Begin.{begin_ask}
 use Rattle.zs_session.specs.declared.connect.Fresh.{Fresh}
 use Rattle.zp_conn.specs.Serving.{Serves, Told, with_calls}
 use Rattle.zp_served.proofs.Alone.{first}
-use Rattle.zp_served.specs.Begun.{IsBegun, IsLawful, ServesAlone}
-use Rattle.zp_served.specs.Honest.{IsHonestOver}
+use Rattle.zp_served.specs.Begun.{IsBegun, ServesAlone}
 use Rattle.zx_base.proofs.Options.{some_is}
 
 pub starts : (t s : Store) (told : List Call) → s ≡ t → told ≡ [] → ∥ CarriesAll t told s ∥₁

@@ -7,7 +7,7 @@ use Rattle.std.proofs.lemmas.List.{length-append, length-map}
 use Rattle.ev_types.specs.declared.answer.ActAns.{ActAns}
 use Rattle.ev_types.specs.declared.answer.Kv.{Kv}
 use Rattle.zk_model.specs.Limits.{max_owned}
-use Rattle.zk_model.specs.Paths.{is_child, is_path, parent, sequence_path}
+use Rattle.zk_model.specs.Paths.{is_path, parent, sequence_path}
 use Rattle.zk_model.specs.Single.{form_refusal, is_ephemeral, is_sequential, named}
 use Rattle.zk_model.specs.declared.request.Part.{Part}
 use Rattle.zk_model.specs.declared.request.Part.TheVariants as part

@@ -1,5 +1,5 @@
 -- The views that a connection keeps of the paths that it used. An update is planned on one at once, and need not read first.
-use Rattle.std.specs.Prelude.{◌≡◌, Bool, true, List, [], ◌∷◌, take, Option, Some, None, ℤ}
+use Rattle.std.specs.Prelude.{◌≡◌, List, ◌∷◌, take, Option, Some, None, ℤ}
 use Rattle.std.specs.Map.{lookup, remove_entry}
 use Rattle.ev_types.specs.declared.answer.ActAns.{ActAns}
 use Rattle.ev_types.specs.declared.answer.Kv.{Kv}

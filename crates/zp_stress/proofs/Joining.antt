@@ -1,6 +1,6 @@
 -- Lines of a schedule, one part after the other.
 use Rattle.std.proofs.Common.{◌≡◌, List, [], ◌∷◌, ◌++◌, sym, subst}
-use Rattle.std.specs.Prelude.{Option, Some, None}
+use Rattle.std.specs.Prelude.{Some}
 use Rattle.zt_text.specs.declared.script.Why.{Why}
 use Rattle.zp_script.specs.Faults.{fault}
 use Rattle.zp_script.specs.Happens.{Happens}

@@ -4,8 +4,6 @@ use Rattle.std.proofs.lemmas.Int.{ints}
 use Rattle.std.proofs.lemmas.List.Elements.{All-append, All-cons, All-nil}
 use Rattle.std.specs.Prelude.{All, length, replicate, slice_index, Option, Some, None, ◌<◌, ◌≤◌}
 use Rattle.rand_pcg.specs.Lcg.{Lcg}
-use Rattle.zk_judge.specs.Verdicts.{IsVerdict}
-use Rattle.zk_judge.specs.declared.verdict.Verdict.TheVariants.{Lawful}
 use Rattle.zk_transcript.specs.Legal.{Tick}
 use Rattle.zp_script.specs.declared.flight.Flight.{Flight}
 use Rattle.zp_script.specs.declared.flight.Flight.TheVariants.{Out, Carried, Denied}
@@ -18,7 +16,6 @@ use Rattle.zp_verdict_laws.proofs.Verdict.{every-replay-lawful}
 use Rattle.zp_step.specs.Stages.{max_count}
 use Rattle.zp_world_laws.proofs.Timing.{every-run-served}
 use Rattle.zp_world_laws.specs.Accounting.{OffersSession}
-use Rattle.zp_world_laws.specs.Giving.{IsServedRun}
 use Rattle.zt_text.specs.declared.script.Happening.{Happening}
 use Rattle.zt_text.specs.declared.script.Happening.TheVariants as line
 use Rattle.zt_text.specs.declared.script.Why.{Why}

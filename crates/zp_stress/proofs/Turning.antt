@@ -10,7 +10,6 @@ use Rattle.zt_text.specs.declared.script.Happening.TheVariants as line
 use Rattle.zt_text.specs.declared.script.Why.{Why}
 use Rattle.zt_text.specs.declared.script.Why.TheVariants as why
 use Rattle.zp_clients.specs.declared.draw.Draw.{Draw}
-use Rattle.zp_stress.specs.declared.schedule.Turn.{Turn}
 use Rattle.zp_stress.specs.declared.schedule.Turn.TheVariants.{Over, Deliver, GoOn}
 use Rattle.zp_stress.specs.Passing.{Passes, PassesBy}
 use Rattle.zp_stress.specs.Schedules.{Asks, Does, GoesOn, Pings, PingsBy, Sends, Steps, TurnsBy}

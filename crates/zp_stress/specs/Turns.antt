@@ -1,5 +1,5 @@
 -- What is left of a step after it was tried to carry out its connection's ask.
-use Rattle.std.specs.Prelude.{Option, Some, None}
+use Rattle.std.specs.Prelude.{Option, Some}
 use Rattle.zt_text.specs.declared.script.Why.{Why}
 use Rattle.zt_text.specs.declared.script.Why.TheVariants as why
 use Rattle.zp_stress.specs.declared.schedule.Turn.{Turn}

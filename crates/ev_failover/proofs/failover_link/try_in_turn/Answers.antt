@@ -1,5 +1,4 @@
-use Rattle.std.proofs.Common.{◌≡◌, ◌∙◌, ◌+◌, true, [], ◌∷◌, ◌++◌, length, sym, subst, arith}
-use Rattle.std.specs.Prelude.{All, List, Result}
+use Rattle.std.proofs.Common.{◌≡◌, ◌∙◌, ◌+◌, true, length, sym, arith}
 use Rattle.std.proofs.lemmas.List.{length-append}
 use Rattle.ev_failover.specs.Turns.{goes_on}
 use Rattle.ev_failover.proofs.Turning.{places_on, tries_on, went_on_more}

@@ -1,9 +1,7 @@
 use Rattle.std.proofs.Common.{◌≡◌, ◌∙◌, ◌++◌, [], List, ℕ, length, take, ap, sym, refl, arith, append-nil, subst}
 use Rattle.std.proofs.lemmas.Result.{err_from_is_err_and}
-use Rattle.zt_text.specs.Transcripts.{transcript_text}
 use Rattle.zx_outside.proofs.Streams.{Gives-nil, Gives-append, Gives-none, append_known-nil}
 use Rattle.zx_outside.specs.Reading.{Gives}
-use Rattle.zx_outside.specs.Writing.{Takes}
 use Rattle.zetcd_cmd.specs.declared.report.End.TheVariants as end
 use Rattle.zetcd_cmd.specs.declared.script.Stop.TheVariants as stop
 use Rattle.zetcd_cmd.specs.Scripting.{ScriptStands, EndsEarly}

@@ -1,4 +1,4 @@
-use Rattle.std.proofs.Common.{◌≡◌, ◌^◌, ◌-◌, ◌<◌, List, drop, length, subst}
+use Rattle.std.proofs.Common.{◌^◌, ◌-◌, ◌<◌, List, drop, length, subst}
 use Rattle.std.proofs.lemmas.Result.{err_from_is_err_and}
 use Rattle.zk_transcript.specs.declared.transcript.TranscriptLine.{TranscriptLine}
 use Rattle.zt_text.specs.Transcripts.{transcript_text}

@@ -1,4 +1,4 @@
-use Rattle.std.proofs.Common.{◌++◌, List, ℕ, [], subst}
+use Rattle.std.proofs.Common.{◌++◌, List, ℕ, subst}
 use Rattle.std.proofs.lemmas.Result.{on_ok_weaker, IfErr-weaker, err_from_is_err_and}
 use Rattle.zt_text.specs.Transcripts.{transcript_text}
 use Rattle.zx_outside.specs.Writing.{Takes}

@@ -1,5 +1,5 @@
 -- What opens the rest opens all.
-use Rattle.std.proofs.Common.{ℕ, ◌+◌, ◌-◌}
+use Rattle.std.proofs.Common.{◌+◌, ◌-◌}
 use Rattle.zp_script.specs.Worlds.{World}
 use Rattle.zp_stress.specs.Clients.{openings}
 use Rattle.zp_stress.specs.Passing.{PassesAll}

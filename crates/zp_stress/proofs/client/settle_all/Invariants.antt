@@ -1,5 +1,5 @@
 -- What settles the rest settles all.
-use Rattle.std.proofs.Common.{ℕ, ◌+◌, ◌-◌}
+use Rattle.std.proofs.Common.{◌+◌, ◌-◌}
 use Rattle.zp_script.specs.Worlds.{World}
 use Rattle.zp_stress.specs.Clients.{settlings}
 use Rattle.zp_stress.specs.Passing.{PassesAll}

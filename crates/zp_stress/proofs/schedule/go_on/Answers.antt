@@ -1,4 +1,4 @@
-use Rattle.std.proofs.Common.{◌≡◌, refl, sym, ap, ◌∙◌}
+use Rattle.std.proofs.Common.{refl, sym, ap, ◌∙◌}
 use Rattle.std.proofs.lemmas.Result.{on_ok_weaker}
 use Rattle.zp_clients.specs.Wishes.{is_ping}
 use Rattle.zp_stress.proofs.Turning.{asks_pings, asks_sends, goes_asks, goes_entry}

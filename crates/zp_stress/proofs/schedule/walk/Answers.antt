@@ -1,6 +1,6 @@
 use Rattle.std.proofs.Common.{◌≡◌, ℕ, suc, ◌+◌, ◌-◌, refl, sym, subst, arith, ◌∙◌}
 use Rattle.rand_pcg.specs.Lcg.{Lcg}
-use Rattle.zp_clients.specs.Draws.{IsInRange, after_draw}
+use Rattle.zp_clients.specs.Draws.{IsInRange}
 use Rattle.zp_clients.specs.declared.draw.Draw.{Draw}
 use Rattle.zp_stress.specs.Schedules.{Steps, Walks}
 use Rattle.zp_stress.proofs.schedule.walk.Goals as goal
