@@ -1,15 +1,17 @@
 //! The fields of a request, in order.
 
-ghost use Rattle.std.specs.Prelude.{◌≡◌, OnOk};
+ghost use Rattle.std.specs.Prelude.{◌≡◌, ◌∷◌, [], OnOk};
 ghost use Rattle.std.specs.List.{AllByRecursion};
+ghost use Rattle.zk_jute.specs.JuteValues.{int, long, boolean, buffer, ustring, ustrings};
 ghost use Rattle.zk_jute.specs.Numbers.{opcode_of, part_kind as kind_of_part};
-ghost use Rattle.zk_jute.specs.Records.{part_values};
+ghost use Rattle.zk_jute.specs.Records.{create_values, set_data_values, part_values};
 ghost use Rattle.zk_jute.specs.Sending.{header_values, whole_part, multi_values, asked_values, request_values};
 ghost use Rattle.zk_wire.specs.Putting.{put_all};
 
 use crate::sink::FieldSink;
 use zk_jute::{Opcode, PartKind};
-use zk_model::{Part, Request};
+use zk_model::{Acl, Part, Request};
+use zx_base::{Bytes, Seq, Text};
 
 /// Puts a request's header and its body.
 pub fn put_request<S: FieldSink>(sink: &mut S, xid: i32, request: &Request) -> Result<(), S::Fault>
@@ -38,56 +40,115 @@ pub fn put_body<S: FieldSink>(sink: &mut S, request: &Request) -> Result<(), S::
             content,
             acl,
             flags,
-        } => {
-            sink.ustring(path.as_slice())?;
-            sink.buffer(content.as_slice())?;
-            sink.acls(acl.as_slice())?;
-            sink.int(*flags)
-        }
+        } => put_create(sink, path, content, acl, *flags),
         Request::Delete { path, version } | Request::Check { path, version } => {
-            sink.ustring(path.as_slice())?;
-            sink.int(*version)
+            put_path_int(sink, path, *version)
         }
         Request::CheckWatches { path, kind } | Request::RemoveWatches { path, kind } => {
-            sink.ustring(path.as_slice())?;
-            sink.int(*kind)
+            put_path_int(sink, path, *kind)
         }
         Request::Exists { path, watch }
         | Request::GetData { path, watch }
         | Request::GetChildren { path, watch }
-        | Request::GetChildren2 { path, watch } => {
-            sink.ustring(path.as_slice())?;
-            sink.boolean(*watch)
-        }
+        | Request::GetChildren2 { path, watch } => put_path_boolean(sink, path, *watch),
         Request::SetData {
             path,
             content,
             version,
-        } => {
-            sink.ustring(path.as_slice())?;
-            sink.buffer(content.as_slice())?;
-            sink.int(*version)
-        }
+        } => put_set_data(sink, path, content, *version),
         Request::GetAcl { path } | Request::Sync { path } => sink.ustring(path.as_slice()),
         Request::Multi { parts } => put_parts(sink, parts.as_slice()),
-        Request::Auth { kind, scheme, auth } => {
-            sink.int(*kind)?;
-            sink.ustring(scheme.as_slice())?;
-            sink.buffer(auth.as_slice())
-        }
+        Request::Auth { kind, scheme, auth } => put_auth(sink, *kind, scheme, auth),
         Request::SetWatches {
             relative,
             exists,
             datas,
             children,
-        } => {
-            sink.long(*relative)?;
-            sink.ustrings(datas.as_slice())?;
-            sink.ustrings(exists.as_slice())?;
-            sink.ustrings(children.as_slice())
-        }
+        } => put_set_watches(sink, *relative, datas, exists, children),
         Request::Ping | Request::Close => Ok(()),
     }
+}
+
+/// Puts the fields of a create (`CreateRequest`), of a create2, and of a create in a multi.
+fn put_create<S: FieldSink>(
+    sink: &mut S,
+    path: &Text,
+    content: &Bytes,
+    acl: &Seq<Acl>,
+    flags: i32,
+) -> Result<(), S::Fault>
+    requires { AllByRecursion S.can_put (create_values path.now content.now acl.now flags) }
+    ensures { OnOk result (sink.new ≡ put_all S.put sink.old (create_values path.now content.now acl.now flags)) }
+{
+    sink.ustring(path.as_slice())?;
+    sink.buffer(content.as_slice())?;
+    sink.acls(acl.as_slice())?;
+    sink.int(flags)
+}
+
+/// Puts the fields of a setData (`SetDataRequest`), also of one in a multi.
+fn put_set_data<S: FieldSink>(
+    sink: &mut S,
+    path: &Text,
+    content: &Bytes,
+    version: i32,
+) -> Result<(), S::Fault>
+    requires { AllByRecursion S.can_put (set_data_values path.now content.now version) }
+    ensures { OnOk result (sink.new ≡ put_all S.put sink.old (set_data_values path.now content.now version)) }
+{
+    sink.ustring(path.as_slice())?;
+    sink.buffer(content.as_slice())?;
+    sink.int(version)
+}
+
+/// Puts a path and a number: a delete's and a check's version, or which watches a checkWatches or a removeWatches means.
+fn put_path_int<S: FieldSink>(sink: &mut S, path: &Text, number: i32) -> Result<(), S::Fault>
+    requires { AllByRecursion S.can_put (ustring path.now ∷ int number ∷ []) }
+    ensures { OnOk result (sink.new ≡ put_all S.put sink.old (ustring path.now ∷ int number ∷ [])) }
+{
+    sink.ustring(path.as_slice())?;
+    sink.int(number)
+}
+
+/// Puts a path and a flag: whether a read arms a watch.
+fn put_path_boolean<S: FieldSink>(sink: &mut S, path: &Text, flag: bool) -> Result<(), S::Fault>
+    requires { AllByRecursion S.can_put (ustring path.now ∷ boolean flag ∷ []) }
+    ensures { OnOk result (sink.new ≡ put_all S.put sink.old (ustring path.now ∷ boolean flag ∷ [])) }
+{
+    sink.ustring(path.as_slice())?;
+    sink.boolean(flag)
+}
+
+/// Puts the fields of an auth (`AuthPacket`).
+fn put_auth<S: FieldSink>(
+    sink: &mut S,
+    kind: i32,
+    scheme: &Text,
+    auth: &Bytes,
+) -> Result<(), S::Fault>
+    requires { AllByRecursion S.can_put (int kind ∷ ustring scheme.now ∷ buffer auth.now ∷ []) }
+    ensures { OnOk result (sink.new ≡ put_all S.put sink.old (int kind ∷ ustring scheme.now ∷ buffer auth.now ∷ [])) }
+{
+    sink.int(kind)?;
+    sink.ustring(scheme.as_slice())?;
+    sink.buffer(auth.as_slice())
+}
+
+/// Puts the fields of a setWatches (`SetWatches`): a zxid, and the paths of the data, exists and child watches.
+fn put_set_watches<S: FieldSink>(
+    sink: &mut S,
+    relative: i64,
+    datas: &Seq<Text>,
+    exists: &Seq<Text>,
+    children: &Seq<Text>,
+) -> Result<(), S::Fault>
+    requires { AllByRecursion S.can_put (long relative ∷ ustrings datas.now ∷ ustrings exists.now ∷ ustrings children.now ∷ []) }
+    ensures { OnOk result (sink.new ≡ put_all S.put sink.old (long relative ∷ ustrings datas.now ∷ ustrings exists.now ∷ ustrings children.now ∷ [])) }
+{
+    sink.long(relative)?;
+    sink.ustrings(datas.as_slice())?;
+    sink.ustrings(exists.as_slice())?;
+    sink.ustrings(children.as_slice())
 }
 
 fn put_parts<S: FieldSink>(sink: &mut S, parts: &[Part]) -> Result<(), S::Fault>
@@ -128,25 +189,15 @@ pub fn put_part_fields<S: FieldSink>(sink: &mut S, part: &Part) -> Result<(), S:
             content,
             acl,
             flags,
-        } => {
-            sink.ustring(path.as_slice())?;
-            sink.buffer(content.as_slice())?;
-            sink.acls(acl.as_slice())?;
-            sink.int(*flags)
-        }
+        } => put_create(sink, path, content, acl, *flags),
         Part::Delete { path, version } | Part::Check { path, version } => {
-            sink.ustring(path.as_slice())?;
-            sink.int(*version)
+            put_path_int(sink, path, *version)
         }
         Part::SetData {
             path,
             content,
             version,
-        } => {
-            sink.ustring(path.as_slice())?;
-            sink.buffer(content.as_slice())?;
-            sink.int(*version)
-        }
+        } => put_set_data(sink, path, content, *version),
     }
 }
 
