@@ -1,4 +1,4 @@
--- What the laws of sessions say.
+-- What the laws of new and of resumed sessions say.
 use Rattle.std.specs.Prelude.{◌≡◌, ℕ, ℤ, false, List, Some, None}
 use Rattle.ev_types.specs.Ranges.{Keys}
 use Rattle.ev_types.specs.Store.{acts_applied}
