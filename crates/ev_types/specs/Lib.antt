@@ -5,3 +5,4 @@ pub mod Lapses
 pub mod Reads
 pub mod Sizes
 pub mod Answers
+pub mod Laws
