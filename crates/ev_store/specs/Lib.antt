@@ -8,3 +8,4 @@ pub mod Events
 pub mod Folds
 pub mod Leased
 pub mod Versions
+pub mod Laws
