@@ -2,3 +2,4 @@ pub mod History
 pub mod Legal
 pub mod Walks
 pub mod Conversations
+pub mod Laws
