@@ -10,3 +10,4 @@ pub mod Reading
 pub mod ReadingSteps
 pub mod Listing
 pub mod Kept
+pub mod Laws
