@@ -90,7 +90,9 @@ IsLeft to body source source' sink sink' = (to ≡ route.Watch) × (from : ℤ) 
 -- memory ran out, and nothing was sent, or a front of a watch's stream
 abbrev pub Starves : Route → List ℕ → Told → Told → SinkTold → SinkTold → Type 0
 Starves to body source source' sink sink' =
-    (Rests sink sink' × (source' ≡ source)) ⊎ ((to ≡ route.Watch) × (from : ℤ) × (key : List ℕ) × reads_watch body from key × Streams (Err http.Memory) key (nat_abs from) sink sink' × Waits source source')
+    (Rests sink sink' × (source' ≡ source))
+    ⊎ ((to ≡ route.Watch) × (from : ℤ) × (key : List ℕ) × reads_watch body from key
+    × Streams (Err http.Memory) key (nat_abs from) sink sink' × Waits source source')
 
 -- the request is answered, or the answer was not sent, or its client left
 abbrev pub AnswersOr : Result (Unit {0}) GatewayEnd → Route → List ℕ → Told → Told → SinkTold → SinkTold → Type 0

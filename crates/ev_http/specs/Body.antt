@@ -265,7 +265,8 @@ StaysAtEnd (Err e) old new = new ≡ old
 -- What the taking of a part came to, whatever bytes of the message came before.
 abbrev pub TakesPart : Result Part HttpFault → Part → List ℕ → List ℕ → List ℕ → List ℕ → List ℕ → Told → Tally → Type 0
 TakesPart result p line body added line' body' source tally =
-    (start : ℕ) (f : Framing) (bytes : List ℕ) → Came start f p line bytes body → tally.taken ≡ counted (start + length (bytes ++ added)) → PartAnswer result start f p line' (bytes ++ added) body' source tally
+    (start : ℕ) (f : Framing) (bytes : List ℕ) → Came start f p line bytes body → tally.taken ≡ counted (start + length (bytes ++ added))
+    → PartAnswer result start f p line' (bytes ++ added) body' source tally
 
 -- How many bytes more of a body its head or its chunk line announces.
 abbrev pub announced : Part → ℕ

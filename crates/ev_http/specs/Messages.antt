@@ -64,7 +64,8 @@ JudgesResponse (Err fault.Memory) h head = ⊥
 abbrev pub JudgesRequest : Result (Route × ℕ) HttpFault → RequestHead → List ℕ → Type 0
 JudgesRequest (Ok r) h head = (is_post h.method ≡ true) × (h.target ≡ path_of r.0) × (framing_of kind.Request h.fields ≡ Ok (framing.Counted r.1))
 JudgesRequest (Err fault.Route) h head = (is_post h.method ≡ false) ⊎ ((r : Route) → h.target ≢ path_of r)
-JudgesRequest (Err (fault.Body place)) h head = (is_post h.method ≡ true) × (r : Route) × (h.target ≡ path_of r) × (number : ℕ) × (framing_of kind.Request h.fields ≡ Err number) × StandsAt h.fields number place head
+JudgesRequest (Err (fault.Body place)) h head = (is_post h.method ≡ true) × (r : Route) × (h.target ≡ path_of r) × (number : ℕ)
+    × (framing_of kind.Request h.fields ≡ Err number) × StandsAt h.fields number place head
 JudgesRequest (Err fault.Head) h head = ⊥
 JudgesRequest (Err (fault.Status n)) h head = ⊥
 JudgesRequest (Err (fault.TooLong n)) h head = ⊥

@@ -78,7 +78,8 @@ AnswersLine (Err fault.ReadFault) state line kept scanned tally source taken giv
 AnswersLine (Err (fault.Ended n)) state line kept scanned tally source taken given = AtLine state line kept scanned tally.taken source taken given × IsOver state line kept source × (n ≡ tally.taken)
 AnswersLine (Err fault.Head) state line kept scanned tally source taken given = (given ≡ []) × NeverFits kind.Response taken
 AnswersLine (Err (fault.Status n)) state line kept scanned tally source taken given = (given ≡ []) × RefusesResponse (Err (fault.Status n)) taken
-AnswersLine (Err (fault.Body place)) state line kept scanned tally source taken given = ((given ≡ []) × RefusesResponse (Err (fault.Body place)) taken) ⊎ GoesOn (Err (fault.Body place)) taken source tally
+AnswersLine (Err (fault.Body place)) state line kept scanned tally source taken given =
+    ((given ≡ []) × RefusesResponse (Err (fault.Body place)) taken) ⊎ GoesOn (Err (fault.Body place)) taken source tally
 AnswersLine (Err (fault.TooLong n)) state line kept scanned tally source taken given = (n ≡ 8388608) × IsLongLine source taken given
 AnswersLine (Err fault.Memory) state line kept scanned tally source taken given = ⊤
 AnswersLine (Err fault.Route) state line kept scanned tally source taken given = ⊥

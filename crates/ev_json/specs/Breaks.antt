@@ -48,7 +48,9 @@ abbrev pub KeyBreaks : Field → Data → Type 0
 KeyBreaks f d = Lacks (λ v. some_byte (bytes_of v)) field.Key f d
 
 unfoldable pub GuardBreaks : Field → Data → Type 0
-GuardBreaks f d = KeyBreaks f d ⊎ (Wrong count_of field.ModRevision f d ⊎ (Excess field.RangeEnd f d ⊎ (Wrong (word_of (codes "EQUAL")) field.Result f d ⊎ Lacks (word_of (codes "MOD")) field.Target f d)))
+GuardBreaks f d = KeyBreaks f d
+    ⊎ (Wrong count_of field.ModRevision f d
+    ⊎ (Excess field.RangeEnd f d ⊎ (Wrong (word_of (codes "EQUAL")) field.Result f d ⊎ Lacks (word_of (codes "MOD")) field.Target f d)))
 
 unfoldable pub RangeBreaks : Field → Data → Type 0
 RangeBreaks f d = KeyBreaks f d ⊎ (Wrong as_bool field.KeysOnly f d ⊎ (Wrong count_of field.Limit f d ⊎ (Wrong bytes_of field.RangeEnd f d ⊎ Wrong count_of field.Revision f d)))
@@ -107,7 +109,10 @@ HeaderBreaks f d = InMessage (Lacks count_of field.Revision) field.Header f d
 
 unfoldable pub KvBreaks : Field → Data → Type 0
 KvBreaks f d =
-    Wrong count_of field.CreateRevision f d ⊎ (Lacks bytes_of field.Key f d ⊎ (Wrong lease_of field.Lease f d ⊎ (Wrong count_of field.ModRevision f d ⊎ (Wrong bytes_of field.Value f d ⊎ Wrong count_of field.Version f d))))
+    Wrong count_of field.CreateRevision f d
+    ⊎ (Lacks bytes_of field.Key f d
+    ⊎ (Wrong lease_of field.Lease f d
+    ⊎ (Wrong count_of field.ModRevision f d ⊎ (Wrong bytes_of field.Value f d ⊎ Wrong count_of field.Version f d))))
 
 unfoldable pub FoundBreaks : Field → Data → Type 0
 FoundBreaks f d = Wrong count_of field.Count f d ⊎ (InList KvBreaks field.Kvs f d ⊎ Wrong as_bool field.More f d)
@@ -127,7 +132,9 @@ PartsBreak (a ∷ acts) f (item d ds) = PartBreaks a f d ⊎ PartsBreak acts f d
 
 -- the responses are no list, or their items do not answer the list that was applied; an absent list has no items
 abbrev pub ResponsesBreak : TxnReq → Field → Data → Type 0
-ResponsesBreak t f d = Wrong as_array field.Responses f d ⊎ ((succeeded : Bool) × (ds : Items) × (flag_in field.Succeeded d ≡ Ok succeeded) × (items_in field.Responses d ≡ Ok ds) × PartsBreak (if succeeded then t.success else t.failure) f ds)
+ResponsesBreak t f d = Wrong as_array field.Responses f d
+    ⊎ ((succeeded : Bool) × (ds : Items) × (flag_in field.Succeeded d ≡ Ok succeeded) × (items_in field.Responses d ≡ Ok ds)
+    × PartsBreak (if succeeded then t.success else t.failure) f ds)
 
 -- there are no guards, and yet they are said to have failed
 abbrev pub FailedUnguarded : List Guard → Field → Data → Type 0
@@ -153,7 +160,9 @@ AnswerBreaks (ask.Alive id) f d = InResult LeaseAnswerBreaks f d
 
 -- a type that is neither of the two, or the deletion of the tree's head
 abbrev pub KindBreaks : Field → Data → Type 0
-KindBreaks f d = (f ≡ field.Kind) × (deletion_in d ≡ Err field.Kind ⊎ ((v : Data) × (kv : Kv) × (deletion_in d ≡ Ok true) × (get (codes "kv") d ≡ Some v) × (kv_in v ≡ Ok kv) × (bytes_eq kv.key (codes "zk/head") ≡ true)))
+KindBreaks f d = (f ≡ field.Kind) × (deletion_in d ≡ Err field.Kind
+    ⊎ ((v : Data) × (kv : Kv) × (deletion_in d ≡ Ok true) × (get (codes "kv") d ≡ Some v) × (kv_in v ≡ Ok kv)
+    × (bytes_eq kv.key (codes "zk/head") ≡ true)))
 
 -- the type breaks its rules; or `kv` is missing, for which the key is named; or `kv` breaks its rules
 unfoldable pub EventBreaks : Field → Data → Type 0

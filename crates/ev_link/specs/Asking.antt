@@ -51,7 +51,8 @@ pub record Receives (result : Result (Vec ℕ) HttpFault) (source source' : Told
 -- read; or reading the response failed; or its body is no answer to this ask.
 abbrev pub Exchanges : Result Answer LinkFailure → List ℕ → Ask → Told → Told → SinkTold → SinkTold → Type 0
 Exchanges (Ok a) host q source source' sink sink' = SendsAsk (Ok tt) host q sink sink' × (body : Vec ℕ) × Receives (Ok body) source source' × reads q body.items a
-Exchanges (Err (failure.Json e)) host q source source' sink sink' = SendsAsk (Ok tt) host q sink sink' × (body : Vec ℕ) × Receives (Ok body) source source' × FaultOf (answer_in q) (message_body q body.items) e
+Exchanges (Err (failure.Json e)) host q source source' sink sink' = SendsAsk (Ok tt) host q sink sink' × (body : Vec ℕ)
+    × Receives (Ok body) source source' × FaultOf (answer_in q) (message_body q body.items) e
 Exchanges (Err (failure.Http e)) host q source source' sink sink' =
     (SendsAsk (Err e) host q sink sink' × (source' ≡ source)) ⊎ (SendsAsk (Ok tt) host q sink sink' × Receives (Err e) source source')
 

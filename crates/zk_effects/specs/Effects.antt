@@ -25,7 +25,8 @@ IsEffect o triggers response = option_map kept_of o ≡ Some (triggers, response
 
 -- what the updates among the first n lines did is kept
 abbrev pub AreEffects : List TranscriptLine → ℕ → Table → Type 0
-AreEffects all n t = (k : ℕ) (u : UpdateRec) → k < n → slice_get all k ≡ Some (Update u) → IsEffect (effect_at t k) (state_at all (k + 1)).triggers (response_to (take k all) (state_at all k) (Update u))
+AreEffects all n t = (k : ℕ) (u : UpdateRec) → k < n → slice_get all k ≡ Some (Update u)
+    → IsEffect (effect_at t k) (state_at all (k + 1)).triggers (response_to (take k all) (state_at all k) (Update u))
 
 -- n is at place k or later, and no update stands from place k on before n
 abbrev pub IsNext : List TranscriptLine → ℕ → ℕ → Type 0

@@ -26,7 +26,17 @@ abbrev pub coded_node : Coded Node
 coded_node = code_by (List ℕ × (ℤ × (ℤ × (ℤ × (ℤ × (ℤ × (ℤ × (ℤ × ℤ))))))))
     (coded× (coded_list coded_ℕ) (coded× coded_ℤ (coded× coded_ℤ (coded× coded_ℤ (coded× coded_ℤ (coded× coded_ℤ (coded× coded_ℤ (coded× coded_ℤ coded_ℤ))))))))
     (λ n. (n.content, (n.czxid, (n.mzxid, (n.pzxid, (n.ctime, (n.mtime, (n.version, (n.creates, n.owner)))))))))
-    (λ t. record { content = t.0; czxid = t.1.0; mzxid = t.1.1.0; pzxid = t.1.1.1.0; ctime = t.1.1.1.1.0; mtime = t.1.1.1.1.1.0; version = t.1.1.1.1.1.1.0; creates = t.1.1.1.1.1.1.1.0; owner = t.1.1.1.1.1.1.1.1 })
+    (λ t. record {
+      content = t.0;
+      czxid = t.1.0;
+      mzxid = t.1.1.0;
+      pzxid = t.1.1.1.0;
+      ctime = t.1.1.1.1.0;
+      mtime = t.1.1.1.1.1.0;
+      version = t.1.1.1.1.1.1.0;
+      creates = t.1.1.1.1.1.1.1.0;
+      owner = t.1.1.1.1.1.1.1.1;
+    })
     (λ n i. n)
 
 abbrev pub coded_tree : Coded Tree

@@ -205,4 +205,6 @@ frame_place c i lines = option_map (λ (x : ℕ × List ℕ). x.0) (first_place 
 
 -- the time of each create, create2, delete, setData or multi that was carried out is the clock's between its frame's line and its own
 abbrev pub IsPunctual : List Tick → List TranscriptLine → Type 0
-IsPunctual ticks lines = (place first c i now : ℕ) (zxid : ℤ) → slice_get lines place ≡ Some (Update (record { zxid = zxid; kind = Asked c i now })) → frame_place c i lines ≡ Some first → IsClockBetween ticks first place now
+IsPunctual ticks lines = (place first c i now : ℕ) (zxid : ℤ)
+    → slice_get lines place ≡ Some (Update (record { zxid = zxid; kind = Asked c i now })) → frame_place c i lines ≡ Some first
+    → IsClockBetween ticks first place now
