@@ -147,7 +147,9 @@ abbrev pub IsCreateBelow : View → Bytes → Bytes → ℕ → Bool → Bool �
 IsCreateBelow v path content now sequential ephemeral session q d =
     (x : Option SeenData) × (c : Option SeenCounts) × (paths : Option (List Bytes))
     × IsDataSeen (sees v (DataKey q)) x × IsCountsSeen (sees v (CountsKey q)) c × IsOwnPaths v ephemeral session paths
-    × (d ≡ decision_of (on_keys v (create_keys sequential ephemeral path (Some q) session (creates_seen c))) (create_choice (path_for sequential path c) q content now ephemeral session x c (has_found (sees v (DataKey (path_for sequential path c)))) paths))
+    × (d ≡ decision_of (on_keys v (create_keys sequential ephemeral path (Some q) session (creates_seen c)))
+    (create_choice (path_for sequential path c) q content now ephemeral session x c
+    (has_found (sees v (DataKey (path_for sequential path c)))) paths))
 
 -- the decision of a create: below a parent, or of the root, which is there
 abbrev pub IsCreate : View → Bytes → Bytes → ℕ → Bool → Bool → ℤ → Option Bytes → Decision → Type 0

@@ -50,9 +50,11 @@ set_data_writes p = puts (DataKey p) ∷ []
 -- These are the keys that the update writes. What a delete deletes, the view saw there.
 abbrev pub AreWrites : Request → Who → View → List Write → Type 0
 AreWrites (req.Create path d a f) who v ws =
-    (q : Bytes) × (c : Option SeenCounts) × (parent (named f path) ≡ Some q) × IsCountsSeen (sees v (CountsKey q)) c × (ws ≡ create_writes (path_for (is_sequential f) path c) q (is_ephemeral f) who.session)
+    (q : Bytes) × (c : Option SeenCounts) × (parent (named f path) ≡ Some q) × IsCountsSeen (sees v (CountsKey q)) c
+    × (ws ≡ create_writes (path_for (is_sequential f) path c) q (is_ephemeral f) who.session)
 AreWrites (req.Create2 path d a f) who v ws =
-    (q : Bytes) × (c : Option SeenCounts) × (parent (named f path) ≡ Some q) × IsCountsSeen (sees v (CountsKey q)) c × (ws ≡ create_writes (path_for (is_sequential f) path c) q (is_ephemeral f) who.session)
+    (q : Bytes) × (c : Option SeenCounts) × (parent (named f path) ≡ Some q) × IsCountsSeen (sees v (CountsKey q)) c
+    × (ws ≡ create_writes (path_for (is_sequential f) path c) q (is_ephemeral f) who.session)
 AreWrites (req.Delete p x) who v ws =
     (q : Bytes) × (y : SeenData) × (c : SeenCounts) × (parent p ≡ Some q) × IsDataSeen (sees v (DataKey p)) (Some y) × IsCountsSeen (sees v (CountsKey p)) (Some c) × (ws ≡ delete_writes p q y.owner)
 AreWrites (req.SetData p d x) who v ws = ws ≡ set_data_writes p

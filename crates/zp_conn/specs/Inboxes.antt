@@ -50,7 +50,8 @@ Pops (Some f) old new = (old.frames ≡ f ∷ new.frames) × (new.stream ≡ old
 -- this piece is cut, and its frames wait after those that are there
 abbrev pub Cuts : Result (Unit {0}) CutFault → List ℕ → InboxState → InboxState → Type 0
 Cuts (Ok _) piece old new = ((v : Vec (List ℕ)) × CutterTakes old.stream piece (Ok v) new.stream × (new.frames ≡ old.frames ++ v.items)) × (new.count ≡ counted_up (old.count + length piece))
-Cuts (Err (faults.BadLength place n)) piece old new = CutterTakes old.stream piece (Err (faults.BadLength place n)) new.stream × (new.frames ≡ old.frames) × (new.count ≡ counted_up (old.count + length piece))
+Cuts (Err (faults.BadLength place n)) piece old new = CutterTakes old.stream piece (Err (faults.BadLength place n)) new.stream
+    × (new.frames ≡ old.frames) × (new.count ≡ counted_up (old.count + length piece))
 Cuts (Err faults.Memory) piece old new = Unit {0}
 
 abbrev pub came_by : Result (Unit {0}) CutFault → Came

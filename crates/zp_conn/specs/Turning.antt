@@ -120,7 +120,9 @@ pub record Looks (n : Next) (i i' : InboxState) (old new : SourceTold) : Type 0 
 pub data Fetches (core : Core) (asked : Option Ask) (n : Next) (i i' : InboxState) (s s' : SourceTold) (l l' : LinkTold) (f f' : FeedTold) : Type 0 where
   calls : (q : Ask) → asked ≡ Some q → Asks q n l l' → i' ≡ i → s' ≡ s → f' ≡ f → Fetches core asked n i i' s s' l l' f f'
   feeds : (cursor : ℤ) → asked ≡ None → awaits_entry (wants_of core) ≡ true → cursor ≡ core.cursor → Feeds cursor n f f' → i' ≡ i → s' ≡ s → l' ≡ l → Fetches core asked n i i' s s' l l' f f'
-  looks : asked ≡ None → (f' ≡ f) ⊎ ((cursor : ℤ) × (awaits_entry (wants_of core) ≡ true) × (cursor ≡ core.cursor) × Feeds cursor next.Idle f f') → Looks n i i' s s' → IsInTime core n → l' ≡ l → Fetches core asked n i i' s s' l l' f f'
+  looks : asked ≡ None
+      → (f' ≡ f) ⊎ ((cursor : ℤ) × (awaits_entry (wants_of core) ≡ true) × (cursor ≡ core.cursor) × Feeds cursor next.Idle f f')
+      → Looks n i i' s s' → IsInTime core n → l' ≡ l → Fetches core asked n i i' s s' l l' f f'
   closes : asked ≡ None → wants_of core ≡ wants.Frame → Looks next.Idle i i' s s' → Closes n f f' → l' ≡ l → Fetches core asked n i i' s s' l l' f f'
 
 abbrev pub TakesIn : Core → Option Ask → Next → InboxState → InboxState → InputsTold → InputsTold → Type 0
@@ -245,4 +247,5 @@ ended_by (Err _) why = cut_short why
 
 -- once what the outbox holds is written, or the sink fails at it, this is what the call did
 abbrev pub Ends : Fresh → Told → Told → List ℕ → Cause → Type 0
-Ends fresh old new o why = (r : Result (Unit {0}) WriteFault) (k : SinkTold) (o' : List ℕ) → Flushes r o o' (new.sink).taken k.taken (new.sink).counts k.counts → Serves fresh old (record new { sink = k }) (ended_by r why)
+Ends fresh old new o why = (r : Result (Unit {0}) WriteFault) (k : SinkTold) (o' : List ℕ)
+    → Flushes r o o' (new.sink).taken k.taken (new.sink).counts k.counts → Serves fresh old (record new { sink = k }) (ended_by r why)

@@ -19,8 +19,10 @@ pub record Grows (store store' : Store) (lines more : List TranscriptLine) (conn
   pub ahead : c.stage ≡ Ready → is_ahead (lines ++ more) conn c.next ≡ true
 
 abbrev pub StandingLasts : Type 0
-StandingLasts = (store store' : Store) (lines more : List TranscriptLine) (conn : ℕ) (c : Core) (w : Walker) (looked : ℕ) → Grows store store' lines more conn c → Stands store lines conn c w looked → Stands store' (lines ++ more) conn c w looked
+StandingLasts = (store store' : Store) (lines more : List TranscriptLine) (conn : ℕ) (c : Core) (w : Walker) (looked : ℕ)
+    → Grows store store' lines more conn c → Stands store lines conn c w looked → Stands store' (lines ++ more) conn c w looked
 
 -- what was seen after the line of its frame stays so: the frame has its line
 abbrev pub FreshnessLasts : Type 0
-FreshnessLasts = (store : Store) (lines more : List TranscriptLine) (conn : ℕ) (answered : Bool) (c : Core) (w : Walker) (looked : ℕ) → Stands store lines conn c w looked → IsFreshLook lines conn answered c looked → IsFreshLook (lines ++ more) conn answered c looked
+FreshnessLasts = (store : Store) (lines more : List TranscriptLine) (conn : ℕ) (answered : Bool) (c : Core) (w : Walker) (looked : ℕ)
+    → Stands store lines conn c w looked → IsFreshLook lines conn answered c looked → IsFreshLook (lines ++ more) conn answered c looked

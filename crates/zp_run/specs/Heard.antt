@@ -43,7 +43,8 @@ hears k _ = k
 
 pub data IsGathered (answers : List Answer) : View → Type 0 where
   nothing : {v : View} → v ≡ empty_view → IsGathered answers v
-  round : {v : View} (old : View) (ws : List Want) (revision : ℤ) (succeeded : Bool) (parts : List ActAns) → IsGathered answers old → Contains answers (answer.Txn revision succeeded parts) → v ≡ with_parts (at_revision old revision) ws parts → IsGathered answers v
+  round : {v : View} (old : View) (ws : List Want) (revision : ℤ) (succeeded : Bool) (parts : List ActAns) → IsGathered answers old
+      → Contains answers (answer.Txn revision succeeded parts) → v ≡ with_parts (at_revision old revision) ws parts → IsGathered answers v
 
 -- ---- what a reply rests on after which the connection ends
 

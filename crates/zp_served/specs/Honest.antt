@@ -23,7 +23,8 @@ pub record IsHonestOver (s : Store) (old new : LinkTold) : Type 0 where
 
 -- each entry that was handed in is of an update that the store had by then, once it carried out what was answered before
 abbrev pub IsInTime : Store → List Step → Type 0
-IsInTime s steps = (before more : List Step) (step : Step) (e : Entry) (now : Store) → steps ≡ before ++ step ∷ more → entry_in step.input ≡ Some e → AreAnswered s (asks_of steps) (answers_of before) now → IsEntryIn now e
+IsInTime s steps = (before more : List Step) (step : Step) (e : Entry) (now : Store) → steps ≡ before ++ step ∷ more
+    → entry_in step.input ≡ Some e → AreAnswered s (asks_of steps) (answers_of before) now → IsEntryIn now e
 
 -- each entry of the list is of an update that the store has
 abbrev pub AreEntriesOf : Store → Published → Type 0

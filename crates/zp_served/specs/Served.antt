@@ -20,11 +20,13 @@ ServedAreFed = (s : Store) (fresh : Fresh) (old new : Told) (why : Cause) (h : S
 
 -- whichever proxy it opened at, under a number that was never used
 abbrev pub ServedAreAlone : Type 0
-ServedAreAlone = (w : World) (c p : ℕ) (fresh : Fresh) (old new : Told) (why : Cause) (h : Serves fresh old new why) → IsAccounted w → conn_at c w ≡ None → IsServedOver w.store fresh old new h.steps → IsAlone (opened w c p fresh.id fresh.passwd) c h.steps
+ServedAreAlone = (w : World) (c p : ℕ) (fresh : Fresh) (old new : Told) (why : Cause) (h : Serves fresh old new why) → IsAccounted w
+    → conn_at c w ≡ None → IsServedOver w.store fresh old new h.steps → IsAlone (opened w c p fresh.id fresh.passwd) c h.steps
 
 -- over the store that Begin makes of a new one, carried out at time 0
 abbrev pub ServedFromTheFirst : Type 0
-ServedFromTheFirst = (s : Store) (a : Answer) (c p : ℕ) (fresh : Fresh) (old new : Told) (why : Cause) (h : Serves fresh old new why) → carry new_store (begin_ask 0) ≡ Some (s, a) → IsServedOver s fresh old new h.steps
+ServedFromTheFirst = (s : Store) (a : Answer) (c p : ℕ) (fresh : Fresh) (old new : Told) (why : Cause) (h : Serves fresh old new why)
+    → carry new_store (begin_ask 0) ≡ Some (s, a) → IsServedOver s fresh old new h.steps
     → IsAlone (opened (world_over s) c p fresh.id fresh.passwd) c h.steps
 
 -- a list without entries of updates to come is in time

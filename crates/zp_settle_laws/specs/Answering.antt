@@ -43,7 +43,8 @@ pub record IsReplyTo (lines : List TranscriptLine) (c i : ℕ) (packet : List �
 -- one reply to each of n frames of c, from frame i on and in their order, and else notices
 abbrev pub AreReplies : List TranscriptLine → ℕ → ℕ → ℕ → List (List ℕ) → Type 0
 AreReplies lines c i zero ps = All IsNotice ps
-AreReplies lines c i (suc n) ps = (notices : List (List ℕ)) × (packet : List ℕ) × (more : List (List ℕ)) × (ps ≡ notices ++ packet ∷ more) × All IsNotice notices × IsReplyTo lines c i packet × AreReplies lines c (i + 1) n more
+AreReplies lines c i (suc n) ps = (notices : List (List ℕ)) × (packet : List ℕ) × (more : List (List ℕ)) × (ps ≡ notices ++ packet ∷ more)
+    × All IsNotice notices × IsReplyTo lines c i packet × AreReplies lines c (i + 1) n more
 
 -- ---- all that a connection was sent
 
@@ -64,5 +65,6 @@ pub record IsAllAnswered (lines : List TranscriptLine) (c : ℕ) : Type 0 where
 
 -- in any run, after a settle of c its close line stands, or each of its frames has its answer
 abbrev pub EverySettleAnswers : Type 0
-EverySettleAnswers = (hs : List Happening) (ticks : List Tick) (w w' : World) (c : ℕ) (x : Conn) → All OffersSession hs → IsWithinCounts w → Runs hs ticks w → IsWithinBound c w → Happens w (line.Settle c) w' → conn_at c w' ≡ Some x
+EverySettleAnswers = (hs : List Happening) (ticks : List Tick) (w w' : World) (c : ℕ) (x : Conn) → All OffersSession hs → IsWithinCounts w
+    → Runs hs ticks w → IsWithinBound c w → Happens w (line.Settle c) w' → conn_at c w' ≡ Some x
     → HasClose w'.lines c ⊎ IsAllAnswered w'.lines c

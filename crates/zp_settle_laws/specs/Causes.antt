@@ -32,4 +32,5 @@ ReplaysNeverEndBy = (hs : List Happening) (ticks : List Tick) (w : World) (c : �
 -- Each value under a key of the service is a record of the key's kind, since the store's keys stand for a state. So nothing ends
 -- in a run by a damaged value.
 abbrev pub ReplaysShowNoDamage : Type 0
-ReplaysShowNoDamage = (hs : List Happening) (ticks : List Tick) (w : World) (c : ℕ) (key value : Bytes) → All OffersSession hs → IsWithinCounts w → Runs hs ticks w → IsEndedBy w.lines c (cause.Damaged key value) → ⊥
+ReplaysShowNoDamage = (hs : List Happening) (ticks : List Tick) (w : World) (c : ℕ) (key value : Bytes) → All OffersSession hs
+    → IsWithinCounts w → Runs hs ticks w → IsEndedBy w.lines c (cause.Damaged key value) → ⊥

@@ -36,4 +36,5 @@ KeepsCounts = (w w' : World) (h : Happening) → Happens w h w' → CountsBytes 
 
 -- in any run, after a settle the connection waits for its client alone, with no frame left to answer, or it has ended
 abbrev pub EverySettleEnds : Type 0
-EverySettleEnds = (hs : List Happening) (ticks : List Tick) (w w' : World) (c : ℕ) (x : Conn) → All OffersSession hs → IsWithinCounts w → Runs hs ticks w → IsWithinBound c w → Happens w (line.Settle c) w' → conn_at c w' ≡ Some x → IsIdle x x.actor
+EverySettleEnds = (hs : List Happening) (ticks : List Tick) (w w' : World) (c : ℕ) (x : Conn) → All OffersSession hs → IsWithinCounts w
+    → Runs hs ticks w → IsWithinBound c w → Happens w (line.Settle c) w' → conn_at c w' ≡ Some x → IsIdle x x.actor

@@ -52,7 +52,8 @@ takes_session id _ = false
 
 -- each frame of c after its connect has a header of 8 bytes, and is no closeSession and no authentication that is refused
 abbrev pub HasMildFrames : ℕ → List TranscriptLine → Type 0
-HasMildFrames c lines = (k i : ℕ) (zxid : ℤ) (bytes : List ℕ) → slice_get lines k ≡ Some (FrameLine c i zxid bytes) → 1 ≤ i → (has_header (read_request bytes) ≡ true) × (closes_after (read_request bytes) ≡ false)
+HasMildFrames c lines = (k i : ℕ) (zxid : ℤ) (bytes : List ℕ) → slice_get lines k ≡ Some (FrameLine c i zxid bytes) → 1 ≤ i
+    → (has_header (read_request bytes) ≡ true) × (closes_after (read_request bytes) ≡ false)
 
 -- the length at the front of what is no whole frame yet, where it is out of range
 abbrev pub bad_at : ℕ → World → Option ℤ
@@ -74,5 +75,7 @@ pub record IsUndisturbed (c : ℕ) (w : World) (a : IsAttachedAt c w) (hs : List
 
 -- in every run, a connection that was attached and is undisturbed since is open still
 abbrev pub UndisturbedStayOpen : Type 0
-UndisturbedStayOpen = (before hs : List Happening) (ticks later : List Tick) (w w' : World) (c : ℕ) → All OffersSession before → All OffersSession hs → IsWithinCounts w' → Runs before ticks w → RunsFrom w hs later w' → (a : IsAttachedAt c w) → IsUndisturbed c w a hs w'
+UndisturbedStayOpen = (before hs : List Happening) (ticks later : List Tick) (w w' : World) (c : ℕ) → All OffersSession before
+    → All OffersSession hs → IsWithinCounts w' → Runs before ticks w → RunsFrom w hs later w' → (a : IsAttachedAt c w)
+    → IsUndisturbed c w a hs w'
     → is_open_conn (conn_at c w') ≡ true

@@ -22,4 +22,5 @@ end_by (input.ClientEnd place) = Some (cause.ClientEnd place)
 end_by _ = None
 
 abbrev pub EndsAreNamed : Type 0
-EndsAreNamed = (c c' : Core) (x : Input) (why : Cause) (now : ℕ) (out : List Action) → is_shut c.stage ≡ false → end_by x ≡ Some why → Steps c x now c' out → (c'.stage ≡ Shut) × (out ≡ action.Close why ∷ [])
+EndsAreNamed = (c c' : Core) (x : Input) (why : Cause) (now : ℕ) (out : List Action) → is_shut c.stage ≡ false → end_by x ≡ Some why
+    → Steps c x now c' out → (c'.stage ≡ Shut) × (out ≡ action.Close why ∷ [])

@@ -77,7 +77,8 @@ found_at parts at = option_and_then found_in (slice_get parts at)
 
 -- Both lists come from one answer, and so from one revision. There is no list where a part is no range's.
 abbrev pub Shows : Answer → Result Listed TurnFault → Type 0
-Shows a (Ok listed) = (opened alive : List Kv) × (found_at (parts_of a) 0 ≡ Some opened) × (found_at (parts_of a) 1 ≡ Some alive) × (listed ≡ record { lapsed = lapsed_of opened alive; next = next_from opened })
+Shows a (Ok listed) = (opened alive : List Kv) × (found_at (parts_of a) 0 ≡ Some opened) × (found_at (parts_of a) 1 ≡ Some alive)
+    × (listed ≡ record { lapsed = lapsed_of opened alive; next = next_from opened })
 Shows a (Err turn.NoList) = (found_at (parts_of a) 0 ≡ None) ⊎ (found_at (parts_of a) 1 ≡ None)
 Shows a (Err turn.Memory) = Unit {0}
 Shows a (Err turn.Failed) = ⊥

@@ -47,7 +47,8 @@ AfterPage (Err fault) result later Others = (result ≡ Err fault) × (later ≡
 unfoldable pub Turns : ℕ → List ℕ → Result Bool TurnFault → List Call → Type 0
 Turns zero from result calls = (result ≡ Ok false) × (calls ≡ [])
 Turns (suc pages) from result calls =
-    (first : Result Page TurnFault) × (own : List Call) × (later : List Call) × (calls ≡ own ++ later) × IsPage from first own × AfterPage first result later (λ next others. Turns pages next others later)
+    (first : Result Page TurnFault) × (own : List Call) × (later : List Call) × (calls ≡ own ++ later) × IsPage from first own
+    × AfterPage first result later (λ next others. Turns pages next others later)
 
 -- at most so many pages are made in one turn
 abbrev pub max_lists : ℕ

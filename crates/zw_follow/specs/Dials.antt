@@ -37,7 +37,8 @@ pub record Telling (In Out : Type 0) : Type 0 where
   pub counts : Out → OutputCounts
   pub name : Out → ℕ
 
-abbrev pub telling : {In Out : Type 0} → (In → Option (List ℕ)) → (In → Option (List ℕ)) → (In → InputCounts) → (In → Bool) → (In → ℕ) → (Out → Option (List ℕ)) → (Out → OutputCounts) → (Out → ℕ) → Telling In Out
+abbrev pub telling : {In Out : Type 0} → (In → Option (List ℕ)) → (In → Option (List ℕ)) → (In → InputCounts) → (In → Bool) → (In → ℕ)
+    → (Out → Option (List ℕ)) → (Out → OutputCounts) → (Out → ℕ) → Telling In Out
 telling given left counts ended name taken faults named = record { source = told given left counts ended name; taken = taken; counts = faults; name = named }
 
 -- ---- one dial
@@ -100,7 +101,9 @@ IsDial tells host d = WasRefused d ⊎ (((why : HttpFault) × WasUnsent tells ho
 
 -- The dial failed, its sink had a fault, or its stream is over; and whether it counts as one that gave no line.
 abbrev pub IsOverDial : {In Out : Type 0} → Telling In Out → List ℕ → Dial → Bool → Type 0
-IsOverDial tells host d barren = (WasRefused d × (barren ≡ true)) ⊎ ((WasUnsent tells host http.WriteFault d × (barren ≡ true)) ⊎ ((r : WasRead tells host d) × IsOver tells.source r.source d.said barren))
+IsOverDial tells host d barren = (WasRefused d × (barren ≡ true))
+    ⊎ ((WasUnsent tells host http.WriteFault d × (barren ≡ true))
+    ⊎ ((r : WasRead tells host d) × IsOver tells.source r.source d.said barren))
 
 -- ---- dials in a row
 

@@ -120,4 +120,5 @@ pub record IsPublishing (all queue : List Entry) (before now : Published) (zxid 
 -- what the publishing of entries comes to: the place is the end of the list, or, where memory was refused, some of them are published
 abbrev pub PublishesAll : Result (Unit {0}) Memory → List Entry → Published → Published → Place → Place → Type 0
 PublishesAll (Ok _) es before after place place' = IsPublishing es [] before after place.revision place'
-PublishesAll (Err _) es before after place place' = (front : List Entry) × (rest : List Entry) × (es ≡ front ++ rest) × (after ≡ with_entries before front) × (place'.revision ≡ zxid_after place.revision front)
+PublishesAll (Err _) es before after place place' = (front : List Entry) × (rest : List Entry) × (es ≡ front ++ rest)
+    × (after ≡ with_entries before front) × (place'.revision ≡ zxid_after place.revision front)
