@@ -4,8 +4,6 @@
 //! the service, which keeps its tree as keys of etcd, does not.
 #![tactic(auto)]
 
-mod listings;
-mod paths;
 mod plain;
 mod reads;
 mod rearm;

@@ -4,7 +4,7 @@ ghost use Rattle.std.specs.Prelude.{◌≡◌, ◌&&◌, not, Some, None, if◌t
 ghost use Rattle.zx_base.specs.Maps.{same};
 ghost use Rattle.zk_model.specs.declared.reply.Body.TheVariants as body;
 ghost use Rattle.zk_model.specs.declared.reply.Reply.TheVariants as reply;
-ghost use Rattle.zk_service.specs.Answers.{names_watches, plain_request, told, told_of_path, told_of_watches, told_refusal};
+ghost use Rattle.zk_service.specs.Answers.{has_valid_form, plain_request, told, told_of_path, told_of_watches, told_refusal};
 ghost use Rattle.zk_model.specs.Codes.{bad_arguments, invalid_acl};
 ghost use Rattle.zk_model.specs.Paths.{is_path, is_sequence_prefix, root};
 ghost use Rattle.zk_model.specs.Single.{or_else, path_refusal, is_create_mode, is_sequential};
@@ -14,11 +14,12 @@ ghost use Rattle.zk_answers.specs.Outcomes.{told_of};
 use crate::told::{Told, good, refused};
 use crate::watches::Watches;
 use std::alloc::Global;
-use zk_machine::{is_create_mode, is_open_acl, is_sequential, read_path};
+use zk_model::access::is_open_acl;
 use zk_model::code::{AUTH_FAILED, BAD_ARGUMENTS, INVALID_ACL, NO_WATCHER};
+use zk_model::flags::{is_create_mode, is_sequential};
 use zk_model::limit::MAX_PARTS;
-use zk_model::watcher::is_watcher_type;
-use zk_model::{Acl, Body, Request};
+use zk_model::{Acl, Body, Request, read_path};
+use zk_service::has_valid_form;
 use zx_base::Memory;
 
 fn path_refusal(alloc: Global, text: &[u8]) -> Result<Option<i32>, Memory>
@@ -82,12 +83,6 @@ fn told_done(alloc: Global, watches: &Watches) -> Result<Option<Told>, Memory>
     Ok(Some(good(alloc, watches.copy()?, Body::Empty)))
 }
 
-fn names_watches(alloc: Global, text: &[u8], kind: i32) -> Result<bool, Memory>
-    ensures { IfOk result (λ b. b ≡ names_watches text.now kind) }
-{
-    Ok(read_path(alloc, text, false)?.is_some() && is_watcher_type(kind))
-}
-
 /// The answer to a checkWatches, or where `removes` to a removeWatches, after which those watches are no longer armed.
 pub fn watcher_answer(
     alloc: Global,
@@ -98,7 +93,7 @@ pub fn watcher_answer(
 ) -> Result<Told, Memory>
     ensures { IfOk result (λ t. told_of t ≡ told_of_watches watches text.now kind removes) }
 {
-    if !names_watches(alloc, text, kind)? {
+    if !has_valid_form(alloc, text, kind)? {
         return Ok(refused(alloc, watches, BAD_ARGUMENTS));
     }
     if !watches.has(text, kind) {

@@ -8,13 +8,13 @@ ghost use Rattle.zk_model.specs.Znodes.{stat_of, child_names};
 ghost use Rattle.zk_machine.specs.Faults.{BeyondUnless, IsWithin};
 ghost use Rattle.zk_answers.specs.Outcomes.{told_of};
 
-use crate::listings::{names_and_stat_fit, names_fit};
 use crate::told::{Told, good, refused};
 use crate::watches::Watches;
 use std::alloc::Global;
 use zk_machine::{Fault, Tree, stat};
 use zk_model::code::{NO_NODE, SYSTEM_ERROR};
 use zk_model::{Body, Node, Stat};
+use zk_service::{names_and_stat_fit, names_fit};
 use zx_base::{Bytes, Memory, Text};
 
 /// The watches, with a data watch on the path where one is asked for.

@@ -7,8 +7,8 @@ ghost use Rattle.zk_answers.specs.Outcomes.{seen_of};
 
 use crate::watches::{CHANGED, CHILDREN, CREATED, DELETED, Seen, Watches};
 use std::alloc::Global;
-use zk_machine::{Tree, read_path};
-use zk_model::{Node, Notice};
+use zk_machine::Tree;
+use zk_model::{Node, Notice, read_path};
 use zx_base::{Memory, Seq, Text};
 
 fn is_path(alloc: Global, text: &[u8]) -> Result<bool, Memory>

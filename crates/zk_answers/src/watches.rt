@@ -5,11 +5,10 @@ ghost use Rattle.std.specs.FinMap.{contains_key};
 ghost use Rattle.zk_model.specs.Watches.{is_unarmed, no_watches, arm_data, arm_children, fired_data, fired_children, fire, fire_all, is_watched, note, unwatched};
 ghost use Rattle.zk_answers.specs.Outcomes.{fired_of};
 
-use crate::paths::PathSet;
 use std::alloc::Global;
 use std::marker::Model;
 use zk_model::watcher::{names_children, names_data};
-use zk_model::{Notice, Path, Trigger};
+use zk_model::{Notice, Path, PathSet, Trigger};
 use zx_base::{Memory, Seq, Text};
 
 /// The kind of a notice that a node was created (`NodeCreated` of `Watcher.Event.EventType`).

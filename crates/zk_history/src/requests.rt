@@ -1,8 +1,8 @@
 //! What a request does to the tree.
 
-ghost use Rattle.std.specs.Prelude.{◌≡◌, ◌≤◌, pos, length, option_map, if◌then◌else◌, IfOk, IfErr};
-ghost use Rattle.zk_service.specs.States.{response_of, body_with_stat, commit_single, commit_several, commit_with_stat, commit, made_stat};
-ghost use Rattle.zk_model.specs.Single.{is_ephemeral as is_ephemeral_by, single};
+ghost use Rattle.std.specs.Prelude.{◌≡◌, ◌≤◌, length, option_map, IfOk, IfErr};
+ghost use Rattle.zk_service.specs.States.{commit_single, commit_several, commit_with_stat, commit, made_stat};
+ghost use Rattle.zk_model.specs.Single.{single};
 ghost use Rattle.zk_model.specs.Multi.{several};
 ghost use Rattle.zk_model.specs.Znodes.{Tree as Nodes};
 ghost use Rattle.zk_machine.specs.Faults.{BeyondUnless, StaysWithin};
@@ -12,42 +12,10 @@ ghost use Rattle.zk_history.specs.Fits.{PartFits, RequestFits};
 
 use crate::outcome::{Change, Commit};
 use std::alloc::Global;
-use zk_machine::{Fault, Outcome, Transaction, Tree, Turn, is_ephemeral, several, single};
-use zk_model::{Body, Part, PartResult, Request, Stat};
-
-fn response_of(outcome: PartResult) -> Body
-    ensures { result ≡ response_of outcome }
-{
-    match outcome {
-        PartResult::Created(path) => Body::Path(path),
-        PartResult::Set(stat) => Body::Stat(stat),
-        PartResult::Deleted => Body::Empty,
-        PartResult::Checked => Body::Empty,
-        PartResult::Code(_) => Body::Empty,
-    }
-}
-
-fn body_with_stat(body: Body, stat: Stat) -> Body
-    ensures { result ≡ body_with_stat stat body }
-{
-    match body {
-        Body::Path(path) => Body::PathStat(path, stat),
-        Body::Empty => Body::Empty,
-        Body::Stat(other) => Body::Stat(other),
-        Body::Content(content, other) => Body::Content(content, other),
-        Body::Names(names) => Body::Names(names),
-        Body::NamesStat(names, other) => Body::NamesStat(names, other),
-        Body::OpenAcl(other) => Body::OpenAcl(other),
-        Body::Parts(results) => Body::Parts(results),
-        Body::PathStat(path, other) => Body::PathStat(path, other),
-    }
-}
-
-fn owner_of(flags: i32, session: i64) -> i64
-    ensures { result ≡ if is_ephemeral_by flags then session else pos 0 }
-{
-    if is_ephemeral(flags) { session } else { 0 }
-}
+use zk_machine::{Fault, Outcome, Transaction, Tree, Turn, several, single};
+use zk_model::flags::owner_of;
+use zk_model::{Body, Part, Request, Stat};
+use zk_service::{body_with_stat, response_of};
 
 /// The Stat of the node that a create makes; `Beyond` where its data are too long for an `int`.
 fn made_stat(content: &[u8], flags: i32, turn: &Turn) -> Result<Stat, Fault>

@@ -39,7 +39,7 @@ use Rattle.zk_jute.specs.Results.{last_result, result_values}
 use Rattle.zk_jute.proofs.Lengths.{length-boolean_bytes, length-int_bytes, length-long_bytes, length-open_acl, length-string_bytes}
 use Rattle.zk_jute.proofs.Lists.{both_of}
 use Rattle.zk_jute.proofs.RequestLaws.{found}
-use Rattle.zk_service.specs.Answers.{Told, about, checked, fits_reply, listing, names_watches, only, plain_reply, plain_request, refusal_of, refusal_of_several, told, told_of_watcher, told_refusal, tree_reply}
+use Rattle.zk_service.specs.Answers.{Told, about, checked, fits_reply, listing, has_valid_form, only, plain_reply, plain_request, refusal_of, refusal_of_several, told, told_of_watcher, told_refusal, tree_reply}
 use Rattle.zk_transcript.specs.Legal.{is_within_parts}
 use Rattle.zk_machine.specs.Faults.{IsWhole}
 use Rattle.zk_legal.specs.Short.{AreShort, IsShortBody, IsShortResult}
@@ -299,8 +299,8 @@ request-told w (req.Sync p) = unless-told w (is_path p) bad_arguments
 request-told w (req.SetWatches r e d c) = tt
 request-told w req.Close = tt
 request-told w (req.Create2 p d a f) = refusal-told w (form_refusal (part.Create p d a f))
-request-told w (req.CheckWatches p k) = watcher-told w w (names_watches p k) (is_watched w p k)
-request-told w (req.RemoveWatches p k) = watcher-told w (unwatched w p k) (names_watches p k) (is_watched w p k)
+request-told w (req.CheckWatches p k) = watcher-told w w (has_valid_form p k) (is_watched w p k)
+request-told w (req.RemoveWatches p k) = watcher-told w (unwatched w p k) (has_valid_form p k) (is_watched w p k)
 
 pub plain-told : (w : Watches) (x : Frame) → IfTold (plain_reply w x)
 plain-told w NoHeader = tt

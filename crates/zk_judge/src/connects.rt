@@ -5,24 +5,16 @@ ghost use Rattle.zk_jute.specs.Packets.{connect_packet};
 ghost use Rattle.zk_transcript.specs.History.{connect as connect_of, state_at};
 ghost use Rattle.zk_service.specs.States.{session_at};
 ghost use Rattle.zk_transcript.specs.Conversations.{IsWelcomed};
-ghost use Rattle.zk_service.specs.Answers.{answered_read_only as answered_read_only_of, is_other_session as is_other_session_of, may_refuse as may_refuse_of, refusal, welcome};
+ghost use Rattle.zk_service.specs.Answers.{is_other_session as is_other_session_of, may_refuse as may_refuse_of, refusal, welcome};
 
 use crate::index::Index;
 use crate::walker::Party;
 use std::alloc::Global;
 use zk_history::{Session, State};
 use zk_model::{ConnectRequest, ConnectResponse};
+use zk_service::answered_read_only;
 use zk_wire::write_connect;
 use zx_base::{Bytes, Memory};
-
-fn answered_read_only(request: &ConnectRequest) -> Option<bool>
-    ensures { result ≡ answered_read_only_of request.now }
-{
-    match request.read_only {
-        Some(_) => Some(false),
-        None => None,
-    }
-}
 
 /// A password of 16 bytes as an array.
 fn password(bytes: &[u8]) -> [u8; 16]

@@ -23,7 +23,7 @@ use Rattle.zk_model.specs.Single.{Outcome, Refused, Done, single, form_refusal, 
 use Rattle.zk_model.specs.Multi.{Parts, Stopped, Passed, several, settled, parts_of}
 use Rattle.zk_model.specs.Watches.{Watches, is_watched, unwatched}
 use Rattle.zk_jute.specs.Requests.{Frame, NoHeader, Unreadable, Unknown, Asks}
-use Rattle.zk_service.specs.Answers.{Told, about, listing, refusal_of, checked, refusal_of_several, armed_data, armed_children, tree_reply, plain_request, plain_reply, told_refusal, told_of_path, told_of_watcher, names_watches}
+use Rattle.zk_service.specs.Answers.{Told, about, listing, refusal_of, checked, refusal_of_several, armed_data, armed_children, tree_reply, plain_request, plain_reply, told_refusal, told_of_path, told_of_watcher, has_valid_form}
 
 -- a code that is no session's, in a short range
 abbrev pub is_fine : ℤ → Bool
@@ -189,8 +189,8 @@ request-fine w (req.Sync p) = path-fine w p
 request-fine w (req.SetWatches r e d c) = refl
 request-fine w req.Close = refl
 request-fine w (req.Create2 p d a f) = refused-fine w (form_refusal (part.Create p d a f)) (form-fine (part.Create p d a f))
-request-fine w (req.CheckWatches p k) = watcher-fine w w (names_watches p k) (is_watched w p k)
-request-fine w (req.RemoveWatches p k) = watcher-fine w (unwatched w p k) (names_watches p k) (is_watched w p k)
+request-fine w (req.CheckWatches p k) = watcher-fine w w (has_valid_form p k) (is_watched w p k)
+request-fine w (req.RemoveWatches p k) = watcher-fine w (unwatched w p k) (has_valid_form p k) (is_watched w p k)
 
 pub plain-fine : (w : Watches) (x : Frame) → fine_told (plain_reply w x) ≡ true
 plain-fine w NoHeader = refl

@@ -1,7 +1,5 @@
 -- What the program answers, as the definitions' data.
-use Rattle.std.specs.Prelude.{◌≡◌, ℕ, ◌<◌, ⊤, Bool, true, false, Option, Some, None}
-use Rattle.zx_base.specs.Maps.{Bytes}
-use Rattle.zk_model.specs.PathFaults.{is_valid, tested}
+use Rattle.std.specs.Prelude.{ℕ, ◌<◌, ⊤}
 use Rattle.zk_machine.specs.declared.outcome.Outcome.{Outcome as Answer}
 use Rattle.zk_machine.specs.declared.outcome.Outcome.TheVariants as answer
 use Rattle.zk_model.specs.Single.{Outcome, Refused, Done}
@@ -18,11 +16,6 @@ use Rattle.zk_machine.specs.Writes.{written_all}
 abbrev pub outcome_of : Tree → Answer → Outcome
 outcome_of t (answer.Refused code) = Refused code
 outcome_of t (answer.Done result edit triggers) = Done result (edited_if t edit) triggers
-
--- a path was read from a text exactly where the text is valid
-abbrev pub IsRead : Option Bytes → Bool → Bytes → Type 0
-IsRead None sequential text = is_valid sequential text ≡ false
-IsRead (Some path) sequential text = (path ≡ tested sequential text) × (is_valid sequential text ≡ true)
 
 -- what came of the parts of a transaction, whose writes are to be made in this tree
 abbrev pub parts_as : Tree → Chain → Parts

@@ -6,13 +6,12 @@ ghost use Rattle.std.specs.FinMap.{get, insert};
 ghost use Rattle.zk_model.specs.declared.reply.PartResult.TheVariants as results;
 ghost use Rattle.zk_model.specs.declared.node.Trigger.TheVariants as trigger;
 ghost use Rattle.zk_model.specs.PathFaults.{is_valid, tested};
-ghost use Rattle.zk_model.specs.Single.{Done, is_create_mode, is_ephemeral, is_sequential, is_full, with_child, made_path, create_node, create_under, create};
+ghost use Rattle.zk_model.specs.Single.{Done, is_ephemeral, is_sequential, is_full, with_child, made_path, create_node, create_under, create};
 ghost use Rattle.zk_model.specs.Znodes.{Tree as Nodes, new_node, owned, root_alone};
 ghost use Rattle.zk_machine.specs.Faults.{BeyondUnless, IsWithin};
 ghost use Rattle.zk_machine.specs.Edits.{counted_create};
 ghost use Rattle.zk_machine.specs.Outcomes.{outcome_of};
 ghost use Rattle.zk_model.specs.Limits.{max_creates};
-ghost use Rattle.zk_model.specs.Access.{is_open_acl};
 
 use crate::draft::Draft;
 use crate::edit::Edit;
@@ -22,40 +21,10 @@ use crate::tree::Tree;
 use crate::turn::Turn;
 use std::alloc::Global;
 use zk_model::code::{NO_CHILDREN_FOR_EPHEMERALS, NO_NODE, NODE_EXISTS, SYSTEM_ERROR};
+use zk_model::flags::{is_ephemeral, is_sequential, owner_of};
 use zk_model::limit::MAX_CREATES;
-use zk_model::{Acl, Node, PartResult, Path, Trigger};
+use zk_model::{Node, PartResult, Path, Trigger};
 use zx_base::{Bytes, Memory, Seq, Text};
-
-/// Whether a create's flags are one of the four modes, 0 to 3 (`CreateMode`).
-pub fn is_create_mode(flags: i32) -> bool
-    ensures { result ≡ is_create_mode flags }
-{
-    matches!(flags, 0..=3)
-}
-
-/// Whether a create's flags are those of an ephemeral node, sequential or not.
-pub fn is_ephemeral(flags: i32) -> bool
-    ensures { result ≡ is_ephemeral flags }
-{
-    flags == 1 || flags == 3
-}
-
-/// Whether a create's flags are those of a sequential node, ephemeral or not.
-pub fn is_sequential(flags: i32) -> bool
-    ensures { result ≡ is_sequential flags }
-{
-    flags == 2 || flags == 3
-}
-
-/// Whether the list is `ZooDefs.Ids.OPEN_ACL_UNSAFE`: everything is allowed to everyone.
-pub fn is_open_acl(entries: &[Acl]) -> bool
-    ensures { result ≡ is_open_acl entries.now }
-{
-    match entries {
-        [entry] => { entry.perms == 31 && entry.scheme.is(b"world") && entry.id.is(b"anyone") }
-        _ => false,
-    }
-}
 
 /// A new node, made at this zxid and time.
 fn new_node(alloc: Global, content: &[u8], owner: i64, turn: &Turn) -> Result<Node, Memory>
@@ -121,12 +90,6 @@ fn is_full(tree: &Draft, turn: &Turn, flags: i32, parent: &Node) -> bool
     )
 }
 
-fn is_owned_by(flags: i32, session: i64) -> i64
-    ensures { result ≡ if is_ephemeral flags then session else pos 0 }
-{
-    if is_ephemeral(flags) { session } else { 0 }
-}
-
 /// The outcome of a create that nothing refuses.
 fn made(
     alloc: Global,
@@ -172,7 +135,7 @@ fn create_allowed(
         (trigger.Created path ∷ trigger.Children parent ∷ [])) }
     ensures beyond { IfErr result (BeyondUnless (up.now.creates ≤ℤ max_creates)) }
 {
-    let node = new_node(alloc, content, is_owned_by(flags, turn.session), turn)?;
+    let node = new_node(alloc, content, owner_of(flags, turn.session), turn)?;
     let creates = counted(up.creates)?;
     Ok(made(alloc, parent, creates, turn.zxid, path, node)?)
 }

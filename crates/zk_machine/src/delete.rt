@@ -2,7 +2,7 @@
 
 ghost use Rattle.std.specs.Prelude.{◌≡◌, IfOk};
 ghost use Rattle.std.specs.FinMap.{get};
-ghost use Rattle.zk_model.specs.Single.{delete, matches, removal};
+ghost use Rattle.zk_model.specs.Single.{delete, removal};
 ghost use Rattle.zk_machine.specs.Outcomes.{outcome_of};
 
 use crate::draft::Draft;
@@ -10,15 +10,9 @@ use crate::edit::Edit;
 use crate::outcome::Outcome;
 use std::alloc::Global;
 use zk_model::code::{BAD_VERSION, NO_NODE, NOT_EMPTY};
+use zk_model::version::matches;
 use zk_model::{PartResult, Path, Trigger};
 use zx_base::{Memory, Seq};
-
-/// Whether a node's version is the one that was asked for; -1 asks for any.
-pub fn matches(asked: i32, version: i32) -> bool
-    ensures { result ≡ matches asked version }
-{
-    asked == -1 || asked == version
-}
 
 /// What watches see of the removal of the node at a path.
 fn removal(alloc: Global, path: &Path) -> Result<Seq<Trigger>, Memory>

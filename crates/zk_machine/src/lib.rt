@@ -25,13 +25,12 @@ mod update;
 mod write;
 
 pub use alone::{single, single_check, single_create, single_delete, single_set_data};
-pub use create::{begin, is_create_mode, is_ephemeral, is_open_acl, is_sequential};
+pub use create::begin;
 pub use edit::Edit;
 pub use fault::Fault;
 pub use laws::{parts_fit, sound_trees_fit};
 pub use multi::{Transaction, several};
 pub use outcome::Outcome;
-pub use requests::read_path;
 pub use stats::stat;
 pub use tree::Tree;
 pub use turn::Turn;

@@ -11,7 +11,6 @@ ghost use Rattle.zk_model.specs.Loads.{within};
 ghost use Rattle.zk_machine.specs.Writes.{AreTold, written_all};
 ghost use Rattle.zk_model.specs.Limits.{max_load};
 
-use crate::create::is_ephemeral;
 use crate::draft::Draft;
 use crate::drafting::carried_out_if;
 use crate::fault::Fault;
@@ -22,6 +21,7 @@ use crate::turn::Turn;
 use crate::write::Write;
 use std::alloc::Global;
 use zk_model::code::BAD_ARGUMENTS;
+use zk_model::flags::is_ephemeral;
 use zk_model::load::{data_load, distinct, joined, listed, path_load, row_of};
 use zk_model::{Part, PartResult, Trigger};
 use zx_base::{Memory, Seq};

@@ -7,10 +7,10 @@ ghost use Rattle.zk_model.specs.declared.request.Part.TheVariants as part;
 ghost use Rattle.zk_model.specs.Single.{single};
 ghost use Rattle.zk_model.specs.Multi.{data_len};
 ghost use Rattle.zk_machine.specs.Faults.{BeyondUnless, IsWithin};
-ghost use Rattle.zk_machine.specs.Outcomes.{outcome_of, IsRead};
+ghost use Rattle.zk_machine.specs.Outcomes.{outcome_of};
 ghost use Rattle.zk_model.specs.Limits.{max_frame};
 
-use crate::create::{create, is_create_mode, is_open_acl, is_sequential};
+use crate::create::create;
 use crate::delete::delete;
 use crate::draft::Draft;
 use crate::fault::Fault;
@@ -18,21 +18,11 @@ use crate::outcome::Outcome;
 use crate::turn::Turn;
 use crate::update::{check, set_data};
 use std::alloc::Global;
+use zk_model::access::is_open_acl;
 use zk_model::code::{BAD_ARGUMENTS, INVALID_ACL};
-use zk_model::{Acl, Part, Path, PathFault};
+use zk_model::flags::{is_create_mode, is_sequential};
+use zk_model::{Acl, Part, read_path};
 use zx_base::Memory;
-
-/// The path that a text is, or `None` where it is no valid one. The text of a sequential create is tested with a `1` after it,
-/// as ZooKeeper tests it, and the path is that.
-pub fn read_path(alloc: Global, text: &[u8], sequential: bool) -> Result<Option<Path>, Memory>
-    ensures { IfOk result (λ o. IsRead o sequential text.now) }
-{
-    match Path::read(alloc, text, sequential) {
-        Ok(path) => Ok(Some(path)),
-        Err(PathFault::Memory) => Err(Memory),
-        Err(_) => Ok(None),
-    }
-}
 
 /// A create (Programmer's Guide, "ZNodes", "Sequence Nodes -- Unique Naming").
 pub fn single_create(

@@ -10,7 +10,6 @@ ghost use Rattle.zk_machine.specs.Faults.{BeyondUnless, IsCounted, IsWithin};
 ghost use Rattle.zk_machine.specs.Outcomes.{outcome_of};
 ghost use Rattle.zk_model.specs.Limits.{max_frame};
 
-use crate::delete::matches;
 use crate::draft::Draft;
 use crate::edit::Edit;
 use crate::fault::Fault;
@@ -19,6 +18,7 @@ use crate::stats::stat;
 use crate::turn::Turn;
 use std::alloc::Global;
 use zk_model::code::{BAD_VERSION, NO_NODE, SYSTEM_ERROR};
+use zk_model::version::matches;
 use zk_model::{Node, PartResult, Path, Trigger};
 use zx_base::{Bytes, Memory, Seq};
 

@@ -1,8 +1,9 @@
-pub mod Paths
+pub mod PartLaws
 pub mod PathDefects
 pub mod PathScans
-pub mod SequencePaths
-pub mod SequenceParents
-pub mod ValidPaths
 pub mod PathSets
-pub mod PartLaws
+pub mod Paths
+pub mod SequenceParents
+pub mod SequencePaths
+pub mod SetLaws
+pub mod ValidPaths

@@ -20,6 +20,11 @@ tested sequential text = if sequential then with_one text else text
 abbrev pub is_valid : Bool → Bytes → Bool
 is_valid sequential text = if sequential then is_sequence_prefix text else is_path text
 
+-- the path that a text is, as it is tested; none where the text is not valid
+abbrev pub IsPathOf : Bool → Bytes → Option Bytes → Type 0
+IsPathOf sequential text (Some p) = (p ≡ tested sequential text) × (is_valid sequential text ≡ true)
+IsPathOf sequential text None = is_valid sequential text ≡ false
+
 -- the most bytes of the text
 abbrev pub max_bytes : Bool → ℕ
 max_bytes sequential = if sequential then max_sequence_prefix else max_path

@@ -8,18 +8,23 @@
 //! `Loads`, `Watches`. They are the machine: what each request does to a tree of znodes, and what watches see of it.
 #![tactic(auto)]
 
+pub mod access;
 pub mod code;
 mod connect;
+pub mod flags;
 pub mod limit;
 pub mod load;
 mod node;
 mod path;
+mod path_set;
 mod reply;
 mod request;
+pub mod version;
 pub mod watcher;
 
 pub use connect::{ConnectRequest, ConnectResponse};
 pub use node::{Node, Stat, Trigger};
-pub use path::{Path, PathFault};
+pub use path::{Path, PathFault, read_path};
+pub use path_set::PathSet;
 pub use reply::{Body, Notice, PartResult, Reply};
 pub use request::{Acl, Part, Request};

@@ -3,7 +3,7 @@
 ghost use Rattle.std.specs.Prelude.{◌≡◌, length, ◌-◌, ◌+◌, ◌++◌, drop, take, Some, ◌<◌, IfOk, OnOk, IfErr, IfSome, IsTrue, option_map, not, nat_lt};
 ghost use Rattle.std.specs.Str.{chars, IsValidUpTo};
 ghost use Rattle.zk_model.specs.Paths.{root, is_path, is_path_char, is_sequence_prefix, sequence_path, fixed_digits, parent, depth, last_name, is_child, names, begins_with_slash, at_last_slash};
-ghost use Rattle.zk_model.specs.PathFaults.{tested, is_valid, max_bytes, ends_with_slash, IsFault, IsFirst, IsRefused, first_of, at, bad_name, bad_char, bad_text, bad_text_from, form_defect, defect_of, name_fault};
+ghost use Rattle.zk_model.specs.PathFaults.{tested, is_valid, IsPathOf, max_bytes, ends_with_slash, IsFault, IsFirst, IsRefused, first_of, at, bad_name, bad_char, bad_text, bad_text_from, form_defect, defect_of, name_fault};
 ghost use Rattle.zk_model.specs.PathFaults.{first_name};
 ghost use Rattle.zk_model.specs.declared.path.PathFault.TheVariants.{NoSlash, EndSlash, BadText, TooLong};
 
@@ -380,4 +380,16 @@ fn last_slash(path: &[u8]) -> usize
         }
     }
     0
+}
+
+/// The path that a text is; `None` where the text is not valid. With `sequential` the text is that of a sequential create, without
+/// its number, and the path is the text with `1` in that place.
+pub fn read_path(alloc: Global, text: &[u8], sequential: bool) -> Result<Option<Path>, Memory>
+    ensures { IfOk result (IsPathOf sequential text.now) }
+{
+    match Path::read(alloc, text, sequential) {
+        Ok(path) => Ok(Some(path)),
+        Err(PathFault::Memory) => Err(Memory),
+        Err(_) => Ok(None),
+    }
 }

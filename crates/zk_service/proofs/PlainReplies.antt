@@ -14,7 +14,7 @@ use Rattle.zk_model.specs.Paths.{is_path}
 use Rattle.zk_model.specs.Single.{form_refusal}
 use Rattle.zk_model.specs.Watches.{Watches, is_watched, unwatched}
 use Rattle.zk_jute.specs.Requests.{Frame, NoHeader, Unreadable, Unknown, Asks}
-use Rattle.zk_service.specs.Answers.{is_auth_refusal, Told, asks_of_watches, names_watches, only, told, plain_request, plain_reply, told_of_watcher, told_refusal, told_of_path}
+use Rattle.zk_service.specs.Answers.{is_auth_refusal, Told, asks_of_watches, has_valid_form, only, told, plain_request, plain_reply, told_of_watcher, told_refusal, told_of_path}
 
 -- the reply of what is told
 abbrev pub reply_in : Option Told → Option Reply
@@ -59,8 +59,8 @@ request-both w v xid (req.Sync p) = path-both w v p
 request-both w v xid (req.SetWatches r e d c) = Untold refl refl
 request-both w v xid req.Close = Untold refl refl
 request-both w v xid (req.Create2 p d a f) = refusal-both w v (form_refusal (part.Create p d a f))
-request-both w v xid (req.CheckWatches p k) = Watched refl w v (is_watched w p k) (is_watched v p k) (names_watches p k) refl refl
-request-both w v xid (req.RemoveWatches p k) = Watched refl (unwatched w p k) (unwatched v p k) (is_watched w p k) (is_watched v p k) (names_watches p k) refl refl
+request-both w v xid (req.CheckWatches p k) = Watched refl w v (is_watched w p k) (is_watched v p k) (has_valid_form p k) refl refl
+request-both w v xid (req.RemoveWatches p k) = Watched refl (unwatched w p k) (unwatched v p k) (is_watched w p k) (is_watched v p k) (has_valid_form p k) refl refl
 
 plain-both : (w v : Watches) (x : Frame) → Plain w v (asks_of_watches x) (plain_reply w x) (plain_reply v x)
 plain-both w v NoHeader = Untold refl refl

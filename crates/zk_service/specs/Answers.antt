@@ -55,13 +55,13 @@ told_of_watcher w rest false armed = only w (reply.Refused bad_arguments)
 told_of_watcher w rest true false = only w (reply.Refused no_watcher)
 told_of_watcher w rest true true = only rest (reply.Good body.Empty)
 
--- a checkWatches or removeWatches with this path and type is not refused for its form
-abbrev pub names_watches : List ℕ → ℤ → Bool
-names_watches p kind = is_path p && is_watcher_type kind
+-- the form of a checkWatches or removeWatches with this path and type is valid
+abbrev pub has_valid_form : List ℕ → ℤ → Bool
+has_valid_form p kind = is_path p && is_watcher_type kind
 
 -- the answer to a checkWatches, or where `removes` to a removeWatches, with this path and type
 abbrev pub told_of_watches : Watches → List ℕ → ℤ → Bool → Told
-told_of_watches w p kind removes = told_of_watcher w (if removes then unwatched w p kind else w) (names_watches p kind) (is_watched w p kind)
+told_of_watches w p kind removes = told_of_watcher w (if removes then unwatched w p kind else w) (has_valid_form p kind) (is_watched w p kind)
 
 -- the answer to a request where the tree does not decide it
 unfoldable pub plain_request : Watches → Request → Option Told

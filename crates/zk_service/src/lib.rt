@@ -5,8 +5,16 @@
 //! to state, stand above (`zk_transcript`).
 #![tactic(auto)]
 
+mod body;
 mod cause;
+mod connect;
+mod fits;
+mod form;
 mod update;
 
+pub use body::{body_with_stat, response_of};
 pub use cause::{Cause, Ended};
+pub use connect::answered_read_only;
+pub use fits::{names_and_stat_fit, names_fit};
+pub use form::has_valid_form;
 pub use update::{UpdateKind, UpdateRec};

@@ -14,8 +14,9 @@ ghost use Rattle.zx_base.specs.Maps.{Bytes as ByteList};
 
 use crate::laying::lay_all;
 use std::alloc::Global;
+use zk_model::flags::is_ephemeral;
 use zk_model::{Part, PartResult, Path, Trigger};
-use zn_updates::{Chosen, Update, choose_part, data_over, inner_path, is_ephemeral};
+use zn_updates::{Chosen, Update, choose_part, data_over, inner_path};
 use zn_view::{View, Who};
 use zx_base::{Memory, Seq};
 

@@ -14,11 +14,12 @@ ghost use Rattle.zn_multi.specs.Reading.{each_new, sequence_data, with_new, AreC
 
 use crate::leaving::{Left, check_leaves, counts_now, create_leaves, delete_leaves, set_leaves};
 use std::alloc::Global;
-use zk_model::{Acl, Part, Path};
+use zk_model::flags::{is_ephemeral, is_sequential};
+use zk_model::{Acl, Part, Path, read_path};
 use zn_layout::{CountRec, counts_key, data_key};
 use zn_updates::{
-    Form, create_form, inner_path, is_ephemeral, is_sequential, owner_seen, push_data, push_node,
-    push_owner, push_session, read_path, start_keys,
+    Form, create_form, inner_path, owner_seen, push_data, push_node, push_owner, push_session,
+    start_keys,
 };
 use zn_view::View;
 use zx_base::{Bytes, Memory, Seq};

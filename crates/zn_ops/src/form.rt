@@ -6,15 +6,15 @@ ghost use Rattle.zk_model.specs.declared.request.Part.TheVariants as part;
 ghost use Rattle.zk_model.specs.Paths.{is_path, root};
 ghost use Rattle.zk_model.specs.Single.{form_refusal, path_refusal};
 ghost use Rattle.zk_model.specs.Watches.{Watches, no_watches};
-ghost use Rattle.zk_service.specs.Answers.{names_watches, only, plain_request, told_of_path, told_of_watcher, told_refusal};
+ghost use Rattle.zk_service.specs.Answers.{has_valid_form, only, plain_request, told_of_path, told_of_watcher, told_refusal};
 ghost use Rattle.zn_ops.specs.Forms.{told_by};
 
 use std::alloc::Global;
 use zk_model::code::{AUTH_FAILED, BAD_ARGUMENTS, NO_WATCHER};
 use zk_model::limit::MAX_PARTS;
-use zk_model::watcher::is_watcher_type;
-use zk_model::{Acl, Body, Reply, Request};
-use zn_updates::{Form, create_form, inner_path, read_path};
+use zk_model::{Acl, Body, Reply, Request, read_path};
+use zk_service::has_valid_form;
+use zn_updates::{Form, create_form, inner_path};
 use zx_base::Memory;
 
 fn path_refusal(alloc: Global, text: &[u8]) -> Result<Option<i32>, Memory>
@@ -65,21 +65,11 @@ fn refusal_of_path(alloc: Global, text: &[u8]) -> Result<Option<Reply>, Memory>
     Ok(refusal(path_refusal(alloc, text)?))
 }
 
-/// Whether a checkWatches or removeWatches is not refused for its path or its type.
-fn names_watches(alloc: Global, text: &[u8], kind: i32) -> Result<bool, Memory>
-    ensures { IfOk result (λ b. b ≡ names_watches text.now kind) }
-{
-    match read_path(alloc, text, false)? {
-        Some(_path) => Ok(is_watcher_type(kind)),
-        None => Ok(false),
-    }
-}
-
 /// The answer to a checkWatches or removeWatches where nothing is armed.
 fn unwatched(alloc: Global, text: &[u8], kind: i32) -> Result<Reply, Memory>
-    ensures { IfOk result (λ r. (rest : Watches) → only no_watches r ≡ told_of_watcher no_watches rest (names_watches text.now kind) false) }
+    ensures { IfOk result (λ r. (rest : Watches) → only no_watches r ≡ told_of_watcher no_watches rest (has_valid_form text.now kind) false) }
 {
-    if names_watches(alloc, text, kind)? {
+    if has_valid_form(alloc, text, kind)? {
         Ok(Reply::Refused(NO_WATCHER))
     } else {
         Ok(Reply::Refused(BAD_ARGUMENTS))

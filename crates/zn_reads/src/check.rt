@@ -2,7 +2,6 @@
 
 ghost use Rattle.std.specs.Prelude.{IsTrue, ◌≡◌, IfOk};
 ghost use Rattle.zk_model.specs.Paths.{is_path};
-ghost use Rattle.zk_model.specs.Single.{matches};
 ghost use Rattle.zk_model.specs.declared.request.Request.TheVariants as req;
 ghost use Rattle.zn_reads.specs.Deciding.{IsAnsweredBy, IsReadDecision};
 ghost use Rattle.zn_reads.specs.Replies.{check_reply};
@@ -12,16 +11,10 @@ use crate::form::read_path;
 use crate::stat::version_at;
 use std::alloc::Global;
 use zk_model::code::{BAD_VERSION, NO_NODE};
+use zk_model::version::matches;
 use zk_model::{Body, Path, Reply};
 use zn_view::{Decision, View};
 use zx_base::Memory;
-
-/// Whether this version is the one that is asked for; -1 asks for any.
-fn matches(asked: i32, version: i32) -> bool
-    ensures { result ≡ matches asked version }
-{
-    asked == -1 || asked == version
-}
 
 fn check_reply(asked: i32, version: Option<i32>) -> Reply
     ensures { result ≡ check_reply asked version }

@@ -1,15 +1,10 @@
 -- The form of a request, as it was tested.
 use Rattle.std.specs.Prelude.{◌≡◌, ℤ, Bool, true, false, not, ◌&&◌, Option, Some, None}
-use Rattle.zk_model.specs.PathFaults.{is_valid, tested}
+use Rattle.zk_model.specs.PathFaults.{tested}
 use Rattle.zk_model.specs.Paths.{is_path, root}
 use Rattle.zx_base.specs.Maps.{Bytes, same}
 use Rattle.zn_updates.specs.declared.form.Form.{Form}
 use Rattle.zn_updates.specs.declared.form.Form.TheVariants.{Valid, Refused}
-
--- the path that is tested for a text, none where the text isn't valid
-abbrev pub IsPathOf : Bool → Bytes → Option Bytes → Type 0
-IsPathOf sequential text (Some p) = (p ≡ tested sequential text) × (is_valid sequential text ≡ true)
-IsPathOf sequential text None = is_valid sequential text ≡ false
 
 -- the path of a text, none where the text isn't valid or is the root
 abbrev pub IsInnerPath : Bytes → Option Bytes → Type 0

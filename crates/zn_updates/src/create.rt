@@ -25,7 +25,7 @@ ghost use Rattle.zx_base.specs.Maps.{Bytes as ByteList};
 
 use crate::changes::{put_data, put_owned};
 use crate::chosen::{Chosen, Update};
-use crate::form::{Form, create_form, is_ephemeral, is_sequential};
+use crate::form::{Form, create_form};
 use crate::keys::{create_keys, create_wants};
 use crate::owned::placed;
 use crate::plan::{decision, refused};
@@ -33,6 +33,7 @@ use crate::seen::{SeenCounts, SeenData, counts_seen, data_seen, is_there, paths_
 use ev_types::Act;
 use std::alloc::Global;
 use zk_model::code::{NO_CHILDREN_FOR_EPHEMERALS, NO_NODE, NODE_EXISTS, SYSTEM_ERROR};
+use zk_model::flags::{is_ephemeral, is_sequential};
 use zk_model::limit::{MAX_CREATES, MAX_OWNED};
 use zk_model::{Acl, PartResult, Path, Trigger};
 use zn_layout::{CountRec, NodeRec, put_counts};

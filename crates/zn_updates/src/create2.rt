@@ -1,39 +1,23 @@
 //! A create that is answered with the new node's Stat (`create2`, release 3.5).
 
-ghost use Rattle.std.specs.Prelude.{◌≡◌, ◌≤◌, ◌<◌, ◌^◌, ◌≤ℤ◌, pos, length, true, if◌then◌else◌, IfOk};
+ghost use Rattle.std.specs.Prelude.{◌≡◌, ◌≤◌, ◌<◌, ◌^◌, ◌≤ℤ◌, pos, length, true, IfOk};
 ghost use Rattle.zx_base.specs.Maps.{Bytes as ByteList};
 ghost use Rattle.zk_model.specs.declared.request.Request.TheVariants as req;
 ghost use Rattle.zk_model.specs.Limits.{max_frame};
-ghost use Rattle.zk_service.specs.States.{body_with_stat, made_stat};
+ghost use Rattle.zk_service.specs.States.{made_stat};
 ghost use Rattle.zn_view.specs.Deciding.{IfPlanned, IsToldByForm, is_by_tree};
 ghost use Rattle.zn_view.specs.Needs.{AreNeeds, IsWhole};
 ghost use Rattle.zn_updates.specs.Deciding.{IsBySound, IsGuarded};
 ghost use Rattle.zn_updates.specs.WithStat.{plan_with_stat, reply_with_stat, with_stat};
 ghost use Rattle.zn_updates.specs.Writing.{WritesAs};
-ghost use Rattle.zk_model.specs.Single.{is_ephemeral as is_ephemeral_by};
 
 use crate::create::{create_needs, decide_create};
-use crate::form::is_ephemeral;
 use std::alloc::Global;
-use zk_model::{Acl, Body, Reply, Stat};
+use zk_model::flags::owner_of;
+use zk_model::{Acl, Reply, Stat};
+use zk_service::body_with_stat;
 use zn_view::{Decision, Plan, View, Want, Who};
 use zx_base::{Memory, Seq};
-
-fn body_with_stat(body: Body, stat: Stat) -> Body
-    ensures { result ≡ body_with_stat stat body }
-{
-    match body {
-        Body::Path(path) => Body::PathStat(path, stat),
-        Body::Empty => Body::Empty,
-        Body::Stat(other) => Body::Stat(other),
-        Body::Content(content, other) => Body::Content(content, other),
-        Body::Names(names) => Body::Names(names),
-        Body::NamesStat(names, other) => Body::NamesStat(names, other),
-        Body::OpenAcl(other) => Body::OpenAcl(other),
-        Body::Parts(results) => Body::Parts(results),
-        Body::PathStat(path, other) => Body::PathStat(path, other),
-    }
-}
 
 fn reply_with_stat(answer: Reply, stat: Stat) -> Reply
     ensures { result ≡ reply_with_stat stat answer }
@@ -72,12 +56,6 @@ fn with_stat(decision: Decision, stat: Stat) -> Decision
         Decision::Expired => Decision::Expired,
         Decision::Moved { found } => Decision::Moved { found },
     }
-}
-
-fn owner_of(flags: i32, session: i64) -> i64
-    ensures { result ≡ if is_ephemeral_by flags then session else pos 0 }
-{
-    if is_ephemeral(flags) { session } else { 0 }
 }
 
 /// The Stat of the node that a create makes, with 0 for the zxid that its update gets.

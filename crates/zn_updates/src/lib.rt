@@ -36,7 +36,7 @@ pub use chosen::{Chosen, Update};
 pub use create::choose_create;
 pub use delete::choose_delete;
 pub use draft::finish;
-pub use form::{Form, create_form, inner_path, is_ephemeral, is_sequential, read_path};
+pub use form::{Form, create_form, inner_path};
 pub use keys::{
     creates_seen, owner_seen, push_data, push_node, push_owner, push_session, start_keys,
 };

@@ -14,13 +14,15 @@ ghost use Rattle.std.specs.Prelude.{true};
 use crate::chosen::{Chosen, Update};
 use crate::create::{choose_create, path_of};
 use crate::delete::choose_delete;
-use crate::form::{Form, create_form, inner_path, is_ephemeral, is_sequential, read_path};
+use crate::form::{Form, create_form, inner_path};
 use crate::layers::{counts_over, data_over, is_there_over, paths_over};
 use crate::seen::SeenData;
-use crate::set_data::{choose_set_data, matches};
+use crate::set_data::choose_set_data;
 use std::alloc::Global;
 use zk_model::code::{BAD_ARGUMENTS, BAD_VERSION, NO_NODE, NODE_EXISTS};
-use zk_model::{Acl, Part, PartResult, Path};
+use zk_model::flags::{is_ephemeral, is_sequential};
+use zk_model::version::matches;
+use zk_model::{Acl, Part, PartResult, Path, read_path};
 use zn_view::{View, Who};
 use zx_base::{Memory, Seq};
 

@@ -14,20 +14,11 @@ ghost use Rattle.zn_updates.specs.Making.{chosen_of};
 use crate::chosen::{Chosen, Update};
 use ev_types::Act;
 use std::alloc::Global;
-use zk_model::{Body, PartResult, Reply, Trigger};
+use zk_model::{Reply, Trigger};
+use zk_service::response_of;
 use zn_layout::{HeadRec, get_head, put_head};
 use zn_view::{Decision, Plan, View};
 use zx_base::{Bytes, Memory, Seq};
-
-fn body_of(draft: PartResult) -> Body
-    ensures { result ≡ response_of draft }
-{
-    match draft {
-        PartResult::Created(path) => Body::Path(path),
-        PartResult::Set(stat) => Body::Stat(stat),
-        PartResult::Deleted | PartResult::Checked | PartResult::Code(_) => Body::Empty,
-    }
-}
 
 /// The operations of an update's transaction: these, then the put of the head, then the read of it.
 pub fn success(alloc: Global, acts: Seq<Act>, head: &HeadRec) -> Result<Seq<Act>, Memory>
@@ -56,7 +47,7 @@ fn plan(alloc: Global, view: &View, keys: &[Bytes], update: Update) -> Result<Pl
         guards: view.guards_on(keys)?,
         success: success(alloc, update.acts, &head)?,
         again: view.again_on(keys)?,
-        draft: Reply::Good(body_of(update.draft)),
+        draft: Reply::Good(response_of(update.draft)),
         triggers: head.triggers,
     })
 }

@@ -4,7 +4,6 @@ ghost use Rattle.std.specs.Prelude.{◌^◌, ◌≡◌, ◌≤◌, ◌<◌, ◌+
 ghost use Rattle.std.specs.Ordering.{int_eq};
 ghost use Rattle.zk_model.specs.Limits.{max_creates, max_frame, max_version};
 ghost use Rattle.zk_model.specs.Paths.{is_path};
-ghost use Rattle.zk_model.specs.Single.{matches as matches_version};
 ghost use Rattle.zk_model.specs.Znodes.{cversion as cversion_of};
 ghost use Rattle.zn_layout.specs.Records.{IsCountRec, IsNodeRec};
 ghost use Rattle.zn_updates.specs.Choices.{Make, set_data_choice, set_changes, set_record as set_record_of, set_stat as set_stat_of};
@@ -25,26 +24,19 @@ ghost use Rattle.zx_base.specs.Maps.{Bytes as ByteList};
 
 use crate::changes::put_data;
 use crate::chosen::{Chosen, Update};
-use crate::form::read_path;
 use crate::keys::{set_data_keys, set_data_wants};
 use crate::plan::{decision, refused};
 use crate::seen::{SeenCounts, SeenData, counts_seen, data_seen};
 use std::alloc::Global;
 use zk_model::code::{BAD_ARGUMENTS, BAD_VERSION, NO_NODE, SYSTEM_ERROR};
-use zk_model::{PartResult, Path, Stat, Trigger};
+use zk_model::version::matches;
+use zk_model::{PartResult, Path, Stat, Trigger, read_path};
 use zn_layout::{CountRec, NodeRec};
 use zn_view::{Decision, View, Want, Who};
 use zx_base::{Memory, Seq};
 
 /// The greatest version of a node's data: a Stat has it as an int.
 const MAX_VERSION: i32 = i32::MAX;
-
-/// Whether a version that was asked for is this one; -1 is any.
-pub(crate) fn matches(asked: i32, version: i32) -> bool
-    ensures { result ≡ matches_version asked version }
-{
-    asked == -1 || asked == version
-}
 
 /// The version after the setData.
 fn next_version(node: &SeenData) -> i32

@@ -10,7 +10,7 @@ use Rattle.zk_model.specs.declared.request.Request.TheVariants as req
 use Rattle.zk_model.specs.Codes.{bad_arguments, no_watcher}
 use Rattle.zk_model.specs.Paths.{is_path}
 use Rattle.zk_model.specs.Watches.{Watches, is_watched, is_watcher_type, no_watches}
-use Rattle.zk_service.specs.Answers.{Told, asks_of_watches, names_watches, only, plain_request, told_of_watcher}
+use Rattle.zk_service.specs.Answers.{Told, asks_of_watches, has_valid_form, only, plain_request, told_of_watcher}
 use Rattle.zk_service.proofs.PlainReplies.{plain-only, reply_in}
 use Rattle.zp_core.specs.Meanings.{told_with}
 
@@ -28,16 +28,16 @@ plain-with w xid r other = plain-only w no_watches (Asks xid r) other ∙ same-t
 
 -- ---- the answer by what was tested
 
-pub no_path : (w rest : Watches) (p : Bytes) (kind : ℤ) (hit : Bool) → is_path p ≡ false → only w (reply.Refused bad_arguments) ≡ told_of_watcher w rest (names_watches p kind) hit
+pub no_path : (w rest : Watches) (p : Bytes) (kind : ℤ) (hit : Bool) → is_path p ≡ false → only w (reply.Refused bad_arguments) ≡ told_of_watcher w rest (has_valid_form p kind) hit
 no_path w rest p kind hit e = sym (ap (λ (b : Bool). told_of_watcher w rest (b && is_watcher_type kind) hit) e)
 
-pub no_type : (w rest : Watches) (p : Bytes) (kind : ℤ) (hit : Bool) → is_path p ≡ true → is_watcher_type kind ≡ false → only w (reply.Refused bad_arguments) ≡ told_of_watcher w rest (names_watches p kind) hit
+pub no_type : (w rest : Watches) (p : Bytes) (kind : ℤ) (hit : Bool) → is_path p ≡ true → is_watcher_type kind ≡ false → only w (reply.Refused bad_arguments) ≡ told_of_watcher w rest (has_valid_form p kind) hit
 no_type w rest p kind hit e f = sym (λ i. told_of_watcher w rest (e i && f i) hit)
 
 pub no_watch : (w rest : Watches) (p : Bytes) (kind : ℤ) → is_path p ≡ true → is_watcher_type kind ≡ true → is_watched w p kind ≡ false
-    → only w (reply.Refused no_watcher) ≡ told_of_watcher w rest (names_watches p kind) (is_watched w p kind)
+    → only w (reply.Refused no_watcher) ≡ told_of_watcher w rest (has_valid_form p kind) (is_watched w p kind)
 no_watch w rest p kind e f g = sym (λ i. told_of_watcher w rest (e i && f i) (g i))
 
 pub some_watch : (w rest : Watches) (p : Bytes) (kind : ℤ) → is_path p ≡ true → is_watcher_type kind ≡ true → is_watched w p kind ≡ true
-    → only rest (reply.Good body.Empty) ≡ told_of_watcher w rest (names_watches p kind) (is_watched w p kind)
+    → only rest (reply.Good body.Empty) ≡ told_of_watcher w rest (has_valid_form p kind) (is_watched w p kind)
 some_watch w rest p kind e f g = sym (λ i. told_of_watcher w rest (e i && f i) (g i))

@@ -16,11 +16,10 @@ use crate::packets::send_reply;
 use std::alloc::Global;
 use zk_model::code::{AUTH_FAILED, BAD_ARGUMENTS, MARSHALLING_ERROR, NO_WATCHER, UNIMPLEMENTED};
 use zk_model::watcher::is_watcher_type;
-use zk_model::{Body, Reply, Request};
+use zk_model::{Body, Reply, Request, read_path};
 use zk_service::Cause;
 use zk_wire::{WireFault, read_request};
 use zn_ops::plain_reply;
-use zn_updates::read_path;
 use zw_watch::Armed;
 use zx_base::Memory;
 

@@ -14,7 +14,7 @@ use crate::stage::Commit;
 use ev_types::{ActAns, Kv};
 use std::alloc::Global;
 use zk_model::Request;
-use zn_updates::is_sequential;
+use zk_model::flags::is_sequential;
 use zn_view::{View, is_head};
 use zp_kept::PathKey;
 use zx_base::Memory;

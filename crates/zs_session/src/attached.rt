@@ -1,7 +1,6 @@
 //! The session that a connection got.
 
 ghost use Rattle.std.specs.Prelude.{◌≡◌, pos};
-ghost use Rattle.zk_service.specs.Answers.{answered_read_only as read_only_by};
 ghost use Rattle.zn_layout.specs.Keys.{HeadKey, key_bytes};
 ghost use Rattle.zn_view.specs.Asks.{found_in as kvs_in, kept_under, last_part};
 ghost use Rattle.zn_view.specs.Seen.{head_number};
@@ -10,6 +9,7 @@ ghost use Rattle.zs_session.specs.Connecting.{number_shown, attached as attached
 use crate::connect::ConnectStep;
 use ev_types::{ActAns, Kv};
 use zk_model::{ConnectRequest, ConnectResponse};
+use zk_service::answered_read_only;
 use zn_view::Who;
 
 fn found_in(part: &ActAns) -> &[Kv]
@@ -50,16 +50,6 @@ pub fn number_in(parts: &[ActAns]) -> i64
     ensures { result ≡ number_shown parts.now }
 {
     number_among(last_found(parts))
-}
-
-/// Present exactly where the request had it, and then false.
-fn answered_read_only(request: &ConnectRequest) -> Option<bool>
-    ensures { result ≡ read_only_by request.now }
-{
-    match request.read_only {
-        Some(_) => Some(false),
-        None => None,
-    }
 }
 
 /// The session `id` is attached by the transaction of this zxid, whose answer has these parts. The timeout is in

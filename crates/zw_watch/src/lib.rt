@@ -12,7 +12,6 @@
 mod armed;
 mod noted;
 mod notices;
-mod paths;
 mod rearm;
 mod seen_path;
 mod sets;

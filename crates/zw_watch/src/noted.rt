@@ -5,9 +5,9 @@ ghost use Rattle.std.specs.FinMap.{insert};
 ghost use Rattle.zk_model.specs.Watches.{PathSet as Paths};
 ghost use Rattle.zw_watch.specs.Noted.{IsWithout};
 
-use crate::paths::PathSet;
 use std::alloc::Global;
 use std::marker::Model;
+use zk_model::PathSet;
 use zx_base::Memory;
 
 /// A path, borrowed.
@@ -24,31 +24,29 @@ impl<'a> Model for Noted<'a> {
     ghost view = { λ n. n.path.now };
 }
 
-impl PathSet {
-    /// Puts a path into the set, and notes it where it is new.
-    pub(crate) fn insert_noted<'a>(
-        &mut self,
-        alloc: Global,
-        noted: &mut Vec<Noted<'a>>,
-        path: &'a [u8],
-    ) -> Result<(), Memory>
-        ensures ok { OnOk result (self.new ≡ insert self.old path.now tt) }
-        ensures noted { (before : Paths) → IsWithout self.old noted.old.items before → IsWithout self.new noted.new.items before }
-    {
-        if self.contains(path) {
-            return Ok(());
-        }
-        noted.push(Noted { path })?;
-        self.insert(alloc, path)?;
-        Ok(())
+/// Puts a path into the set, and notes it where it is new.
+pub(crate) fn insert_noted<'a>(
+    paths: &mut PathSet,
+    alloc: Global,
+    noted: &mut Vec<Noted<'a>>,
+    path: &'a [u8],
+) -> Result<(), Memory>
+    ensures ok { OnOk result (paths.new ≡ insert paths.old path.now tt) }
+    ensures noted { (before : Paths) → IsWithout paths.old noted.old.items before → IsWithout paths.new noted.new.items before }
+{
+    if paths.contains(path) {
+        return Ok(());
     }
+    noted.push(Noted { path })?;
+    paths.insert(alloc, path)?;
+    Ok(())
+}
 
-    /// Takes the noted paths out of the set.
-    pub(crate) fn remove_all(&mut self, noted: &[Noted<'_>])
-        ensures { (before : Paths) → IsWithout self.old noted.now before → self.new ≡ before }
-    {
-        for path in noted {
-            self.remove(path.path);
-        }
+/// Takes the noted paths out of the set.
+pub(crate) fn remove_all(paths: &mut PathSet, noted: &[Noted<'_>])
+    ensures { (before : Paths) → IsWithout paths.old noted.now before → paths.new ≡ before }
+{
+    for path in noted {
+        paths.remove(path.path);
     }
 }

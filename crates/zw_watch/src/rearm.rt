@@ -7,7 +7,7 @@ ghost use Rattle.zw_watch.specs.Armed.{watches_of, seen_of};
 ghost use Rattle.zw_watch.specs.Rounds.{told_of, CanUndo};
 ghost use Rattle.zw_watch.specs.SeenPaths.{if_changed, if_absent, rearming_of, with_rearming, see_at, see_paths, unseen};
 
-use crate::noted::Noted;
+use crate::noted::{Noted, insert_noted, remove_all};
 use crate::notices::{CHANGED, CHILDREN, CREATED, DELETED, tell};
 use crate::seen_path::{SeenPath, WatchList};
 use crate::sets::PathSets;
@@ -107,10 +107,9 @@ impl PathSets {
     {
         match rearming {
             Rearming::Tells(kind) => tell(alloc, kind, path, &mut round.notices),
-            Rearming::ArmsData => self.on_data.insert_noted(alloc, &mut round.on_data, path),
+            Rearming::ArmsData => insert_noted(&mut self.on_data, alloc, &mut round.on_data, path),
             Rearming::ArmsChildren => {
-                self.on_children
-                    .insert_noted(alloc, &mut round.on_children, path)
+                insert_noted(&mut self.on_children, alloc, &mut round.on_children, path)
             }
             Rearming::ArmsNothing => Ok(()),
         }
@@ -152,8 +151,8 @@ impl PathSets {
     fn undo(&mut self, round: &Round<'_>)
         ensures { (before : AnyWatches) → CanUndo self.old round.now before → watches_of self.new ≡ before }
     {
-        self.on_data.remove_all(round.on_data.as_slice());
-        self.on_children.remove_all(round.on_children.as_slice());
+        remove_all(&mut self.on_data, round.on_data.as_slice());
+        remove_all(&mut self.on_children, round.on_children.as_slice());
     }
 
     /// Goes through the paths; or changes nothing, where memory runs out.

@@ -6,10 +6,9 @@ ghost use Rattle.zk_model.specs.Watches.{no_watches, is_unarmed, fired_data, fir
 ghost use Rattle.zw_watch.specs.Armed.{armed, fired_of, watches_of};
 
 use crate::notices::{CHANGED, CHILDREN, CREATED, DELETED, note};
-use crate::paths::PathSet;
 use std::alloc::Global;
 use zk_model::watcher::{names_children, names_data};
-use zk_model::{Notice, Trigger};
+use zk_model::{Notice, PathSet, Trigger};
 use zx_base::Memory;
 
 /// The paths that have a watch.

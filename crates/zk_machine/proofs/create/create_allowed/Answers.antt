@@ -11,8 +11,8 @@ use Rattle.zk_machine.proofs.create.create_allowed.Goals as goal
 
 pub returns-clause-ok : goal.returns-clause-ok
 returns-clause-ok c =
-    let owner : c.is_owned_by.result ≡ if is_ephemeral c.args.flags then c.args.turn.now.session else pos 0 = grind (arith, to_z-of_z) in
-    let node : c.in_ok-node.node ≡ new_node c.args.content.now c.is_owned_by.result c.args.turn.now.zxid c.args.turn.now.time = grind (arith, to_z-of_z) in
+    let owner : c.owner_of.result ≡ if is_ephemeral c.args.flags then c.args.turn.now.session else pos 0 = grind (arith, to_z-of_z) in
+    let node : c.in_ok-node.node ≡ new_node c.args.content.now c.owner_of.result c.args.turn.now.zxid c.args.turn.now.time = grind (arith, to_z-of_z) in
     let zxid : to_z w64 (of_z w64 c.args.turn.now.zxid) ≡ c.args.turn.now.zxid = grind (arith, to_z-of_z) in
     let creates : to_z w32 (of_z w32 c.in_ok-creates.creates) ≡ c.in_ok-creates.creates = grind (arith, to_z-of_z) in
     let up : record c.args.up.now { pzxid = c.args.turn.now.zxid; creates = c.in_ok-creates.creates } ≡ with_child c.args.up.now c.args.turn.now.zxid = grind (arith, to_z-of_z) in

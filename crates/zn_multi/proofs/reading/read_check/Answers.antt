@@ -10,7 +10,7 @@ use Rattle.zx_base.specs.Maps.{Bytes}
 use Rattle.zn_layout.specs.Keys.{DataKey, key_bytes}
 use Rattle.zn_layout.proofs.Paths.{path_short}
 use Rattle.zn_view.specs.Leaving.{CheckLeaves}
-use Rattle.zn_updates.specs.Forms.{IsPathOf}
+use Rattle.zk_model.specs.PathFaults.{IsPathOf}
 use Rattle.zn_updates.proofs.PartChoices.{check_refusal}
 use Rattle.zn_multi.specs.Reading.{IfLeft, IsReadBy, Left}
 use Rattle.zn_multi.proofs.ReadKeys.{formed_read, refused_read}

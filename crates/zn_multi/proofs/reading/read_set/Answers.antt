@@ -11,7 +11,7 @@ use Rattle.zn_layout.specs.Keys.{key_bytes}
 use Rattle.zn_layout.proofs.Paths.{path_short}
 use Rattle.zn_view.specs.Views.{about_path}
 use Rattle.zn_view.specs.Leaving.{SetLeaves}
-use Rattle.zn_updates.specs.Forms.{IsPathOf}
+use Rattle.zk_model.specs.PathFaults.{IsPathOf}
 use Rattle.zn_updates.proofs.Forms.{set_refusal}
 use Rattle.zn_multi.specs.Reading.{IfLeft, IsReadBy, Left}
 use Rattle.zn_multi.proofs.ReadKeys.{formed_read, refused_read}

@@ -6,7 +6,7 @@ use mir.Val.{SFits}
 use Rattle.zk_model.specs.Codes.{bad_arguments}
 use Rattle.zk_model.specs.declared.request.Part.TheVariants as parts
 use Rattle.zx_base.specs.Maps.{Bytes}
-use Rattle.zn_updates.specs.Forms.{IsPathOf}
+use Rattle.zk_model.specs.PathFaults.{IsPathOf}
 use Rattle.zn_updates.specs.Layers.{layered}
 use Rattle.zn_updates.specs.Making.{chosen_of}
 use Rattle.zn_updates.specs.Parts.{check_choice, IfData}

@@ -8,7 +8,7 @@ use Rattle.zk_model.specs.Codes.{bad_arguments}
 use Rattle.zk_model.specs.declared.request.Part.TheVariants as parts
 use Rattle.zx_base.specs.Maps.{Bytes}
 use Rattle.zn_updates.specs.Choices.{set_data_choice}
-use Rattle.zn_updates.specs.Forms.{IsPathOf}
+use Rattle.zk_model.specs.PathFaults.{IsPathOf}
 use Rattle.zn_updates.specs.Layers.{layered}
 use Rattle.zn_updates.specs.Making.{chosen_of}
 use Rattle.zn_updates.specs.Parts.{IfCounts, IfData}

@@ -10,7 +10,7 @@ use Rattle.zn_layout.specs.Keys.{DataKey, CountsKey}
 use Rattle.zn_view.specs.Lookups.{HasSeen}
 use Rattle.zx_base.specs.Maps.{Bytes}
 use Rattle.zn_updates.specs.Deciding.{IsSetData}
-use Rattle.zn_updates.specs.Forms.{IsPathOf}
+use Rattle.zk_model.specs.PathFaults.{IsPathOf}
 use Rattle.zn_updates.proofs.Plans.{refused_form, refused_sound}
 use Rattle.zn_updates.proofs.SetDataClauses.{set_seen, set_by_form, set_by_sound, set_planned, set_invalid, set_data-by_tree}
 use Rattle.zn_updates.proofs.Writing.{set_data-written}

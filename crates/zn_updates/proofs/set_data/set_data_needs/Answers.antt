@@ -9,7 +9,7 @@ use Rattle.zk_model.specs.Limits.{max_path}
 use Rattle.zk_model.specs.declared.request.Request.TheVariants as req
 use Rattle.zn_layout.proofs.Paths.{path_short}
 use Rattle.zx_base.specs.Maps.{Bytes}
-use Rattle.zn_updates.specs.Forms.{IsPathOf}
+use Rattle.zk_model.specs.PathFaults.{IsPathOf}
 use Rattle.zn_view.specs.Lacking.{lacking}
 use Rattle.zn_layout.specs.Keys.{key_bytes}
 use Rattle.zn_updates.specs.KeysRead.{set_data_keys}

@@ -7,7 +7,7 @@ use Rattle.zk_model.specs.declared.reply.Body.TheVariants as body
 use Rattle.zk_model.specs.declared.reply.Reply.TheVariants as reply
 use Rattle.zk_model.specs.Watches.{Watches, is_watched, is_watcher_type, unwatched}
 use Rattle.zk_service.specs.Answers.{only, told_of_watches}
-use Rattle.zn_updates.specs.Forms.{IsPathOf}
+use Rattle.zk_model.specs.PathFaults.{IsPathOf}
 use Rattle.zp_core.proofs.Watching.{no_path, no_type, no_watch, some_watch}
 use Rattle.zp_core.proofs.frames.watcher_reply.Goals as goal
 

@@ -1,6 +1,0 @@
-use Rattle.std.proofs.Common.{◌∙◌}
-use Rattle.zk_service.proofs.ReplySizes.{fits-names}
-use Rattle.zn_reads.proofs.fit.names_fit.Goals as goal
-
-pub returns : goal.returns
-returns c = c.fit.ensures ∙ fits-names c.args.names.now

@@ -1,6 +1,0 @@
-use Rattle.std.proofs.Common.{◌∙◌, ℕ, Vec, Global}
-use Rattle.zw_watch.proofs.SetLaws.{contains-keys}
-use Rattle.zw_watch.proofs.paths.PathSet.contains.Goals as goal
-
-pub returns : goal.returns
-returns c = c.contains.ensures ∙ contains-keys {K = Vec ℕ Global} (λ k. k.items) c.args.path.now c.self.inside.paths.keys c.args.self.now c.self.view_is
