@@ -3,3 +3,4 @@ pub mod Formed
 pub mod Faults
 pub mod Passwords
 pub mod Short
+pub mod Laws
