@@ -55,6 +55,10 @@ AreUpTo n (v ∷ vs) = (v.revision ≤ n) × AreUpTo n vs
 abbrev pub versions_of : BTreeMap Bytes (List Version) → Bytes → List Version
 versions_of m q = unwrap_or (get (slice_cmp nat_cmp) m q) []
 
+-- a version shows its key as a change with this number leaves it, over the last of these versions
+abbrev pub ShowsChange : ℤ → Change → BTreeMap Bytes (List Version) → Version → Type 0
+ShowsChange number c m v = state_of (key_of c) v ≡ key_after_change number (key_of c) (last_state (key_of c) (versions_of m (key_of c))) c
+
 -- a change at revision r, which has this number, adds one version to its key, and none to others
 pub record AddsOne (r : ℕ) (number : ℤ) (c : Change) (q : Bytes) (old new : List Version) : Type 0 where
   pub version : Version

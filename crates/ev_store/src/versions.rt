@@ -1,9 +1,7 @@
 //! What each key had, revision by revision.
 
 ghost use Rattle.std.specs.Prelude.{◌≡◌, ◌++◌, ◌∷◌, [], if◌then◌else◌, IfOk, OnOk, OnErr};
-ghost use Rattle.ev_store.specs.Changes.{key_of};
-ghost use Rattle.ev_store.specs.Folds.{key_after_change};
-ghost use Rattle.ev_store.specs.Versions.{state_of, last_state, state_at, versions_of, AreInOrder, AddsChange};
+ghost use Rattle.ev_store.specs.Versions.{state_of, last_state, state_at, versions_of, AreInOrder, AddsChange, ShowsChange};
 ghost use Rattle.zx_base.specs.Maps.{Bytes as ByteList, same};
 
 use crate::change::Change;
@@ -88,7 +86,7 @@ fn next_version(
     change: &Change,
 ) -> Result<Version, Memory>
     ensures revision { IfOk result (λ v. v.revision ≡ revision) }
-    ensures state { IfOk result (λ v. state_of (key_of change.now) v ≡ key_after_change number (key_of change.now) (last_state (key_of change.now) (versions_of versions.now (key_of change.now))) change.now) }
+    ensures state { IfOk result (λ v. ShowsChange number change.now versions.now v) }
 {
     let before = find_last(versions, &change.key);
     let content = match after_change(number, before, change, change.key.as_slice()) {
