@@ -22,7 +22,7 @@ mod zxids;
 pub use cursor::Cursor;
 pub use lines::{Applied, apply, change, planned_commit};
 pub use outcome::{Change, Commit};
-pub use past::Past;
+pub use past::{Past, own_mark};
 pub use requests::commit;
 pub use session::Session;
 pub use state::State;

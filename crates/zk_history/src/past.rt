@@ -59,7 +59,8 @@ fn attach_mark(line: &TranscriptLine) -> Option<Mark>
     }
 }
 
-fn own_mark(line: &TranscriptLine) -> Option<Mark>
+/// The connection and the index of the request that a line carries out, also of a closeSession.
+pub fn own_mark(line: &TranscriptLine) -> Option<Mark>
     ensures { result ≡ own_mark line.now }
 {
     let TranscriptLine::Update(update) = line else {

@@ -1,12 +1,10 @@
 -- What the tables of the program hold.
 use Rattle.std.specs.Prelude.{◌≡◌, ℕ, Bool, true, false, max, List, Option, Some, None}
 use Rattle.std.specs.List.{list_all}
-use Rattle.zk_service.specs.declared.update.UpdateKind.{UpdateKind}
-use Rattle.zk_service.specs.declared.update.UpdateKind.TheVariants.{Asked, Closed}
 use Rattle.std.specs.BTreeMap as tree
 use Rattle.std.specs.Ordering.{nat_cmp}
 use Rattle.zk_transcript.specs.declared.transcript.TranscriptLine.{TranscriptLine}
-use Rattle.zk_transcript.specs.declared.transcript.TranscriptLine.TheVariants.{Frame, Update}
+use Rattle.zk_transcript.specs.declared.transcript.TranscriptLine.TheVariants.{Frame}
 use Rattle.zk_service.specs.States.{or_nothing}
 use Rattle.zk_transcript.specs.Legal.{index_shown, is_below_place}
 use Rattle.zk_legal.specs.Formed.{frames_of}
@@ -25,15 +23,6 @@ abbrev pub AreCounts : List TranscriptLine → Counts → Type 0
 AreCounts lines m = (c : ℕ) → count_in m c ≡ frames_of c lines
 
 -- ---- requests that were carried out
-
-abbrev pub carried_in : UpdateKind → Option (ℕ × ℕ)
-carried_in (Asked c i now) = Some (c, i)
-carried_in (Closed id c i) = Some (c, i)
-carried_in _ = None
-
-abbrev pub carried : TranscriptLine → Option (ℕ × ℕ)
-carried (Update u) = carried_in u.kind
-carried _ = None
 
 abbrev pub last_in : Lasts → ℕ → Option ℕ
 last_in m c = tree.get nat_cmp m.indices c

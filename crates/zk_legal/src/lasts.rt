@@ -2,11 +2,11 @@
 
 ghost use Rattle.std.specs.Prelude.{◌≡◌, ◌==◌, ◌++◌, ◌∷◌, [], ℕ, List, IfOk};
 ghost use Rattle.zk_transcript.specs.declared.transcript.TranscriptLine.{TranscriptLine as AnyLine};
-ghost use Rattle.zk_legal.specs.Counted.{AreLasts, last_in, later, carried as carried_of};
+ghost use Rattle.zk_legal.specs.Counted.{AreLasts, last_in, later};
 
 use std::alloc::Global;
 use std::collections::BTreeMap;
-use zk_service::UpdateKind;
+use zk_history::own_mark;
 use zk_transcript::TranscriptLine;
 use zx_base::Memory;
 
@@ -14,28 +14,6 @@ use zx_base::Memory;
 #[derive(Drop)]
 pub struct Lasts {
     indices: BTreeMap<u32, u64>,
-}
-
-/// The connection and the index of the request that a line carries out.
-pub fn carried(line: &TranscriptLine) -> Option<(u32, u64)>
-    ensures { result ≡ carried_of line.now }
-{
-    let TranscriptLine::Update(update) = line else {
-        return None;
-    };
-    match update.kind {
-        UpdateKind::Asked {
-            connection,
-            index,
-            ..
-        } => Some((connection, index)),
-        UpdateKind::Closed {
-            connection,
-            index,
-            ..
-        } => Some((connection, index)),
-        _ => None,
-    }
 }
 
 impl Lasts {
@@ -74,7 +52,7 @@ impl Lasts {
     pub fn noted(self, line: &TranscriptLine) -> Result<Lasts, Memory>
         ensures { IfOk result (λ m. (before : List AnyLine) → AreLasts before self → AreLasts (before ++ line.now ∷ []) m) }
     {
-        match carried(line) {
+        match own_mark(line) {
             None => Ok(self),
             Some((connection, index)) => self.with(connection, index),
         }

@@ -6,8 +6,9 @@ ghost use Rattle.zk_transcript.specs.Legal.{is_below_place as is_below_of, is_in
 ghost use Rattle.zk_legal.specs.Counted.{AreLasts};
 ghost use Rattle.zk_legal.specs.Faults.{order_fault as order_fault_of};
 
-use crate::lasts::{Lasts, carried};
+use crate::lasts::Lasts;
 use std::alloc::Global;
+use zk_history::own_mark;
 use zk_transcript::TranscriptLine;
 use zx_base::Memory;
 
@@ -24,7 +25,7 @@ fn is_below(index: u64, earlier: Option<u64>) -> bool
 fn is_in_order(lasts: &Lasts, line: &TranscriptLine) -> bool
     ensures { (before : List AnyLine) → AreLasts before lasts.now → result ≡ is_in_order_of before line.now }
 {
-    match carried(line) {
+    match own_mark(line) {
         None => true,
         Some((connection, index)) => is_below(index, lasts.last(connection)),
     }

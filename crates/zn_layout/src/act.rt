@@ -80,7 +80,8 @@ pub fn get_head(alloc: Global) -> Result<Act, Memory>
     Ok(get_key(alloc, head_key(alloc)?))
 }
 
-fn put(key: Bytes, value: Vec<u8>) -> Act
+/// Puts a value under a key, with no lease.
+pub fn put(key: Bytes, value: Vec<u8>) -> Act
     ensures { result ≡ Act.Put key value.items (pos 0) }
 {
     Act::Put {

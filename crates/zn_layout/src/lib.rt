@@ -28,7 +28,7 @@ mod test;
 mod write;
 mod writer;
 
-pub use act::{delete_counts, delete_node, get_head, get_key, put_counts, put_head, put_node};
+pub use act::{delete_counts, delete_node, get_head, get_key, put, put_counts, put_head, put_node};
 pub use begin::begin_ask;
 pub use entry::Entry;
 pub use fault::RecordFault;
@@ -40,7 +40,7 @@ pub use laws::{
     reading_stands, session_value_is_injective, stands_after, update_commits, update_is_allowed,
     update_is_sendable, update_looks_again,
 };
-pub use list::{head_in, read_head, read_session, session_in};
+pub use list::{head_in, is_before, read_head, read_session, session_in, valid_path};
 pub use read::{counts_in, lease_in, read_counts, read_lease, read_node};
 pub use record::{CountRec, HeadRec, LeaseRec, NodeRec, SessionRec};
 pub use test::{

@@ -163,7 +163,7 @@ impl<'a> Reader<'a> {
         }
         let (text, rest) = rest.split_at(length);
         self.rest = rest;
-        path_of(alloc, text)
+        valid_path(alloc, text)
     }
 }
 
@@ -188,7 +188,8 @@ fn are_rising(paths: &[Path]) -> bool
     true
 }
 
-fn is_before(path: &Path, other: &Path) -> bool
+/// Whether a path comes before another one, by their bytes.
+pub fn is_before(path: &Path, other: &Path) -> bool
     ensures { result ≡ comes_before path.now other.now }
 {
     path.bytes().cmp(other.bytes()).is_lt()
@@ -218,8 +219,8 @@ fn split_count(bytes: &[u8]) -> Option<(usize, &[u8])>
     }
 }
 
-/// The path that a text is, if it is one.
-fn path_of(alloc: Global, text: &[u8]) -> Result<Option<Path>, Memory>
+/// The path that a text is; `None` where it is not valid.
+pub fn valid_path(alloc: Global, text: &[u8]) -> Result<Option<Path>, Memory>
     ensures { IfOk result (IsPathOf text.now) }
 {
     match Path::read(alloc, text, false) {

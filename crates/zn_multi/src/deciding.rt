@@ -25,18 +25,8 @@ use zk_model::load::row_of;
 use zk_model::{Body, Part, Reply};
 use zn_layout::HeadRec;
 use zn_ops::attached_at;
-use zn_updates::success;
-use zn_view::{Decision, Plan, View, Who};
+use zn_view::{Decision, Plan, View, Who, refused, success};
 use zx_base::{Bytes, Memory, Seq};
-
-fn refused(code: i32) -> Decision
-    ensures { result ≡ Decision.Answered (Reply.Refused code) None }
-{
-    Decision::Answered {
-        reply: Reply::Refused(code),
-        arm: None,
-    }
-}
 
 /// The plan of the update that all parts make together.
 fn plan(alloc: Global, view: &View, keys: &[Bytes], passed: Progress) -> Result<Plan, Memory>

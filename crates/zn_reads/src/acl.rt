@@ -7,11 +7,11 @@ ghost use Rattle.zn_reads.specs.Deciding.{IsAnsweredBy, IsReadDecision};
 ghost use Rattle.zn_reads.specs.Replies.{acl_reply};
 
 use crate::answer::bad_path;
-use crate::form::read_path;
 use crate::stat::stat_at;
 use std::alloc::Global;
 use zk_model::code::NO_NODE;
 use zk_model::{Body, Path, Reply, Stat};
+use zn_layout::valid_path;
 use zn_view::{Decision, View};
 use zx_base::Memory;
 
@@ -37,7 +37,7 @@ fn get_acl_at(alloc: Global, path: &Path, view: &View) -> Result<Decision, Memor
 pub(crate) fn get_acl(alloc: Global, text: &[u8], view: &View) -> Result<Decision, Memory>
     ensures { IfOk result (IsReadDecision (req.GetAcl text.now) view.now) }
 {
-    match read_path(alloc, text)? {
+    match valid_path(alloc, text)? {
         Some(path) => get_acl_at(alloc, &path, view),
         None => Ok(bad_path()),
     }

@@ -7,12 +7,12 @@ ghost use Rattle.zn_reads.specs.Deciding.{IsAnsweredBy, IsReadDecision};
 ghost use Rattle.zn_reads.specs.Replies.{check_reply};
 
 use crate::answer::bad_path;
-use crate::form::read_path;
 use crate::stat::version_at;
 use std::alloc::Global;
 use zk_model::code::{BAD_VERSION, NO_NODE};
 use zk_model::version::matches;
 use zk_model::{Body, Path, Reply};
+use zn_layout::valid_path;
 use zn_view::{Decision, View};
 use zx_base::Memory;
 
@@ -44,7 +44,7 @@ pub(crate) fn check(
 ) -> Result<Decision, Memory>
     ensures { IfOk result (IsReadDecision (req.Check text.now version) view.now) }
 {
-    match read_path(alloc, text)? {
+    match valid_path(alloc, text)? {
         Some(path) => check_at(alloc, &path, version, view),
         None => Ok(bad_path()),
     }

@@ -8,12 +8,12 @@ ghost use Rattle.zn_reads.specs.Replies.{names_reply, names_stat_reply};
 
 use crate::answer::{bad_path, watch_if_good};
 use crate::fit::{names_and_stat_in_frame, names_in_frame};
-use crate::form::read_path;
 use crate::names::names_at;
 use crate::stat::{stat_at, version_at};
 use std::alloc::Global;
 use zk_model::code::NO_NODE;
 use zk_model::{Path, Reply, Stat};
+use zn_layout::valid_path;
 use zn_view::{Decision, View};
 use zx_base::{Memory, Seq, Text};
 
@@ -61,7 +61,7 @@ pub(crate) fn get_children(
 ) -> Result<Decision, Memory>
     ensures { IfOk result (IsReadDecision (req.GetChildren text.now watch) view.now) }
 {
-    match read_path(alloc, text)? {
+    match valid_path(alloc, text)? {
         Some(path) => get_children_at(alloc, &path, watch, view),
         None => Ok(bad_path()),
     }
@@ -91,7 +91,7 @@ pub(crate) fn get_children2(
 ) -> Result<Decision, Memory>
     ensures { IfOk result (IsReadDecision (req.GetChildren2 text.now watch) view.now) }
 {
-    match read_path(alloc, text)? {
+    match valid_path(alloc, text)? {
         Some(path) => get_children2_at(alloc, &path, watch, view),
         None => Ok(bad_path()),
     }

@@ -7,11 +7,11 @@ ghost use Rattle.zn_reads.specs.Deciding.{IsAnsweredBy, IsReadDecision};
 ghost use Rattle.zn_reads.specs.Replies.{data_reply};
 
 use crate::answer::{bad_path, watch_if_good};
-use crate::form::read_path;
 use crate::stat::{content_at, stat_at};
 use std::alloc::Global;
 use zk_model::code::NO_NODE;
 use zk_model::{Body, Path, Reply, Stat};
+use zn_layout::valid_path;
 use zn_view::{Decision, View};
 use zx_base::{Bytes, Memory};
 
@@ -43,7 +43,7 @@ pub(crate) fn get_data(
 ) -> Result<Decision, Memory>
     ensures { IfOk result (IsReadDecision (req.GetData text.now watch) view.now) }
 {
-    match read_path(alloc, text)? {
+    match valid_path(alloc, text)? {
         Some(path) => get_data_at(alloc, &path, watch, view),
         None => Ok(bad_path()),
     }

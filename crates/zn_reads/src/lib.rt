@@ -16,7 +16,6 @@ mod data;
 mod decide;
 mod exists;
 mod fit;
-mod form;
 mod found;
 mod keys;
 mod names;

@@ -12,11 +12,10 @@ ghost use Rattle.zn_view.specs.Needs.{AreNeeds};
 ghost use Rattle.zn_view.specs.Seen.{listed};
 ghost use Rattle.zn_view.specs.Views.{about_path, valid};
 
-use crate::form::read_path;
 use crate::keys::{counts_key_of, data_key_of};
 use std::alloc::Global;
 use zk_model::{Path, Request};
-use zn_layout::{head_key, lease_key};
+use zn_layout::{head_key, lease_key, valid_path};
 use zn_view::{View, Want, Who};
 use zx_base::{Bytes, Memory, Seq, Text};
 
@@ -79,7 +78,7 @@ fn about_needs(alloc: Global, text: &[u8], who: Who, view: &View) -> Result<Vec<
     requires { pos 1 ≤ℤ who.session }
     ensures { IfOk result (λ ws. AreKeyNeeds text.now (about_path text.now) who view.now ws.items) }
 {
-    match read_path(alloc, text)? {
+    match valid_path(alloc, text)? {
         Some(path) => about_wants(alloc, &path, who, view),
         None => Ok(Vec::new(alloc)),
     }
@@ -100,7 +99,7 @@ fn check_needs(alloc: Global, text: &[u8], who: Who, view: &View) -> Result<Vec<
     requires { pos 1 ≤ℤ who.session }
     ensures { IfOk result (λ ws. AreKeyNeeds text.now (DataKey text.now ∷ []) who view.now ws.items) }
 {
-    match read_path(alloc, text)? {
+    match valid_path(alloc, text)? {
         Some(path) => data_wants(alloc, &path, who, view),
         None => Ok(Vec::new(alloc)),
     }
@@ -118,7 +117,7 @@ fn sync_needs(alloc: Global, text: &[u8], who: Who, view: &View) -> Result<Vec<W
     requires { pos 1 ≤ℤ who.session }
     ensures { IfOk result (λ ws. AreKeyNeeds text.now [] who view.now ws.items) }
 {
-    match read_path(alloc, text)? {
+    match valid_path(alloc, text)? {
         Some(_path) => first_wants(alloc, who, view),
         None => Ok(Vec::new(alloc)),
     }
@@ -171,7 +170,7 @@ fn children_needs(alloc: Global, text: &[u8], who: Who, view: &View) -> Result<V
     ensures names { IfOk result (λ ws. (watch : Bool) → AreNeeds (req.GetChildren text.now watch) who view.now ws.items) }
     ensures stat { IfOk result (λ ws. (watch : Bool) → AreNeeds (req.GetChildren2 text.now watch) who view.now ws.items) }
 {
-    match read_path(alloc, text)? {
+    match valid_path(alloc, text)? {
         Some(path) => children_wants(alloc, &path, who, view),
         None => Ok(Vec::new(alloc)),
     }
@@ -182,7 +181,7 @@ fn children_needs(alloc: Global, text: &[u8], who: Who, view: &View) -> Result<V
 fn push_valid_data(alloc: Global, text: &[u8], keys: &mut Vec<Bytes>) -> Result<(), Memory>
     ensures { OnOk result (keys.new.items ≡ keys.old.items ++ map key_bytes (map DataKey (valid (text.now ∷ [])))) }
 {
-    match read_path(alloc, text)? {
+    match valid_path(alloc, text)? {
         Some(path) => push_data(alloc, &path, keys),
         None => Ok(()),
     }
@@ -200,7 +199,7 @@ fn push_datas(alloc: Global, texts: &[Text], keys: &mut Vec<Bytes>) -> Result<()
 fn push_valid_about(alloc: Global, text: &[u8], keys: &mut Vec<Bytes>) -> Result<(), Memory>
     ensures { OnOk result (keys.new.items ≡ keys.old.items ++ map key_bytes (flat_map about_path (valid (text.now ∷ [])))) }
 {
-    match read_path(alloc, text)? {
+    match valid_path(alloc, text)? {
         Some(path) => push_about(alloc, &path, keys),
         None => Ok(()),
     }

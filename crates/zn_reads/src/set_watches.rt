@@ -20,11 +20,11 @@ ghost use Rattle.zn_view.specs.Indexing.{IsIndex};
 ghost use Rattle.zn_view.specs.Seen.{View as AnyView};
 ghost use Rattle.zn_view.specs.Views.{IsOf};
 
-use crate::form::read_path;
 use crate::keys::{counts_key_of, data_key_of};
 use ev_types::Kv;
 use std::alloc::Global;
 use zk_model::{Body, Path, Reply};
+use zn_layout::valid_path;
 use zn_view::{Decision, Index, View, found_by};
 use zw_watch::{SeenPath, WatchList};
 use zx_base::{Bytes, Memory, Seq, Text};
@@ -62,7 +62,7 @@ fn put_at(found: Option<&Kv>) -> Option<i64>
 fn key_at(alloc: Global, list: WatchList, text: &[u8]) -> Result<Option<Bytes>, Memory>
     ensures { IfOk result (λ k. k ≡ key_at list text.now) }
 {
-    match read_path(alloc, text)? {
+    match valid_path(alloc, text)? {
         Some(path) => Ok(Some(changing_key(alloc, list, &path)?)),
         None => Ok(None),
     }

@@ -10,9 +10,9 @@ ghost use Rattle.zn_view.specs.declared.plan.Decision.TheVariants as decisions;
 ghost use Rattle.zn_view.specs.Seen.{View as SomeView};
 
 use crate::answer::bad_path;
-use crate::form::read_path;
 use std::alloc::Global;
 use zk_model::{Body, Path, Reply};
+use zn_layout::valid_path;
 use zn_view::Decision;
 use zx_base::{Memory, Seq};
 
@@ -28,7 +28,7 @@ fn path_back(alloc: Global, path: &Path) -> Result<Decision, Memory>
 pub(crate) fn sync(alloc: Global, text: &[u8]) -> Result<Decision, Memory>
     ensures { IfOk result (λ d. (v : SomeView) → IsReadDecision (req.Sync text.now) v d) }
 {
-    match read_path(alloc, text)? {
+    match valid_path(alloc, text)? {
         Some(path) => path_back(alloc, &path),
         None => Ok(bad_path()),
     }

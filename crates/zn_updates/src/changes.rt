@@ -11,18 +11,8 @@ ghost use Rattle.zn_updates.specs.Choices.{put_owned as owned_put, with_content}
 use ev_types::Act;
 use std::alloc::Global;
 use zk_model::Path;
-use zn_layout::{NodeRec, SessionRec, data_key, session_key, write_node, write_session};
-use zx_base::{Bytes, Memory, Seq};
-
-fn put(key: Bytes, value: Vec<u8>) -> Act
-    ensures { result ≡ Act.Put key value.items (pos 0) }
-{
-    Act::Put {
-        key,
-        value: Bytes::from_vec(value),
-        lease: 0,
-    }
-}
+use zn_layout::{NodeRec, SessionRec, data_key, put, session_key, write_node, write_session};
+use zx_base::{Memory, Seq};
 
 /// Puts a node's record with this content, which is copied once. The record that is given has no content.
 pub(crate) fn put_data(

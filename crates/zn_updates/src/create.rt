@@ -28,7 +28,7 @@ use crate::chosen::{Chosen, Update};
 use crate::form::{Form, create_form};
 use crate::keys::{create_keys, create_wants};
 use crate::owned::placed;
-use crate::plan::{decision, refused};
+use crate::plan::decision;
 use crate::seen::{SeenCounts, SeenData, counts_seen, data_seen, is_there, paths_seen};
 use ev_types::Act;
 use std::alloc::Global;
@@ -37,7 +37,7 @@ use zk_model::flags::{is_ephemeral, is_sequential};
 use zk_model::limit::{MAX_CREATES, MAX_OWNED};
 use zk_model::{Acl, PartResult, Path, Trigger};
 use zn_layout::{CountRec, NodeRec, put_counts};
-use zn_view::{Decision, View, Want, Who};
+use zn_view::{Decision, View, Want, Who, refused};
 use zx_base::{Memory, Seq};
 
 const NO_COUNTS: CountRec = CountRec {

@@ -26,7 +26,7 @@ use crate::chosen::{Chosen, Update};
 use crate::form::inner_path;
 use crate::keys::{delete_keys, delete_wants};
 use crate::owned::without;
-use crate::plan::{decision, refused};
+use crate::plan::decision;
 use crate::seen::{SeenCounts, SeenData, counts_seen, data_seen, paths_seen};
 use ev_types::Act;
 use std::alloc::Global;
@@ -34,7 +34,7 @@ use zk_model::code::{BAD_ARGUMENTS, BAD_VERSION, NO_NODE, NOT_EMPTY, SYSTEM_ERRO
 use zk_model::version::matches;
 use zk_model::{PartResult, Path, Trigger};
 use zn_layout::{CountRec, delete_counts, delete_node, put_counts};
-use zn_view::{Decision, View, Want, Who};
+use zn_view::{Decision, View, Want, Who, refused};
 use zx_base::{Memory, Seq};
 
 /// The parent's counts after the delete.

@@ -42,7 +42,6 @@ pub use keys::{
 };
 pub use layers::{data_over, paths_over};
 pub use part::choose_part;
-pub use plan::success;
 pub use requests::{decide_update, update_needs};
 pub use seen::{SeenCounts, SeenData};
 pub use set_data::choose_set_data;

@@ -1,22 +1,15 @@
 //! The list of a session's nodes after one came or went.
 
 ghost use Rattle.std.specs.Prelude.{◌≡◌, ◌≤◌, ◌<◌, ℕ, ◌&&◌, nat_lt, length, get_or, IfOk, IsTrue, ◌^◌, ◌-◌};
-ghost use Rattle.std.specs.Ordering.{is_lt};
 ghost use Rattle.zx_base.specs.Maps.{same};
 ghost use Rattle.zk_model.specs.Paths.{is_path};
 ghost use Rattle.zn_layout.specs.Records.{IsSessionRec};
-ghost use Rattle.ev_types.specs.Ranges.{comes_before};
 ghost use Rattle.zn_updates.specs.OwnedLists.{placed as placed_in, without as without_in, IsPlaceOf};
 
 use std::alloc::Global;
 use zk_model::Path;
+use zn_layout::is_before;
 use zx_base::{Memory, Seq};
-
-fn is_before(path: &Path, other: &Path) -> bool
-    ensures { result ≡ comes_before path.now other.now }
-{
-    path.bytes().cmp(other.bytes()).is_lt()
-}
 
 /// The place of the first path that is not before this one: the end where all are.
 fn place_of(paths: &[Path], path: &Path) -> usize

@@ -12,24 +12,12 @@ ghost use Rattle.zn_updates.specs.Deciding.{IfMade, decision_of};
 ghost use Rattle.zn_updates.specs.Making.{chosen_of};
 
 use crate::chosen::{Chosen, Update};
-use ev_types::Act;
 use std::alloc::Global;
 use zk_model::{Reply, Trigger};
 use zk_service::response_of;
-use zn_layout::{HeadRec, get_head, put_head};
-use zn_view::{Decision, Plan, View};
-use zx_base::{Bytes, Memory, Seq};
-
-/// The operations of an update's transaction: these, then the put of the head, then the read of it.
-pub fn success(alloc: Global, acts: Seq<Act>, head: &HeadRec) -> Result<Seq<Act>, Memory>
-    requires { IsHeadRec head.now.triggers }
-    ensures { IfOk result (λ l. l ≡ (acts ++ act_of (head_put head.now.triggers) ∷ []) ++ read_key (key_bytes HeadKey) ∷ []) }
-{
-    let mut list = acts;
-    list.push(put_head(alloc, head)?)?;
-    list.push(get_head(alloc)?)?;
-    Ok(list)
-}
+use zn_layout::HeadRec;
+use zn_view::{Decision, Plan, View, refused, success};
+use zx_base::{Bytes, Memory};
 
 /// The plan of an update. It guards these keys as the view saw them, but for the head.
 fn plan(alloc: Global, view: &View, keys: &[Bytes], update: Update) -> Result<Plan, Memory>
@@ -50,16 +38,6 @@ fn plan(alloc: Global, view: &View, keys: &[Bytes], update: Update) -> Result<Pl
         draft: Reply::Good(response_of(update.draft)),
         triggers: head.triggers,
     })
-}
-
-/// A refusal, as a decision.
-pub(crate) fn refused(code: i32) -> Decision
-    ensures { result ≡ Decision.Answered (Reply.Refused code) None }
-{
-    Decision::Answered {
-        reply: Reply::Refused(code),
-        arm: None,
-    }
 }
 
 /// The decision of a choice that was made on these keys.

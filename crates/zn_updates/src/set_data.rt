@@ -25,14 +25,14 @@ ghost use Rattle.zx_base.specs.Maps.{Bytes as ByteList};
 use crate::changes::put_data;
 use crate::chosen::{Chosen, Update};
 use crate::keys::{set_data_keys, set_data_wants};
-use crate::plan::{decision, refused};
+use crate::plan::decision;
 use crate::seen::{SeenCounts, SeenData, counts_seen, data_seen};
 use std::alloc::Global;
 use zk_model::code::{BAD_ARGUMENTS, BAD_VERSION, NO_NODE, SYSTEM_ERROR};
 use zk_model::version::matches;
 use zk_model::{PartResult, Path, Stat, Trigger, read_path};
 use zn_layout::{CountRec, NodeRec};
-use zn_view::{Decision, View, Want, Who};
+use zn_view::{Decision, View, Want, Who, refused};
 use zx_base::{Memory, Seq};
 
 /// The greatest version of a node's data: a Stat has it as an int.

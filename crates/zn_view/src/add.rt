@@ -2,13 +2,13 @@
 
 ghost use Rattle.std.specs.Prelude.{◌≡◌, option_copied, All, IfOk, IfErr, IfSome, OnOk, OnErr};
 ghost use Rattle.zn_view.specs.Adding.{at_revision, AreRecords, AreNumbers, AreNumbersIn, IsOtherRevision, IsViewFault, IsRecordPart, IsPartFault, IsPartsFault, IsDamagedFault, IsKeyFault, IsGrown, with_key, with_list};
-ghost use Rattle.zn_view.specs.Asks.{with_part, with_parts, kept_under, found_in, paths_in};
+ghost use Rattle.zn_view.specs.Asks.{with_part, with_parts, kept_under, found_in, last_part, paths_in};
 ghost use Rattle.zn_view.specs.Seen.{IsCountNumber, IsRecord, AreCounts};
 
 use crate::children::paths_among;
 use crate::fault::ViewFault;
 use crate::kind::is_record;
-use crate::snapshot::{SeenChildren, SeenKey, copy};
+use crate::snapshot::{SeenChildren, SeenKey, copy_kv};
 use crate::view::View;
 use crate::want::Want;
 use ev_types::{ActAns, Kv};
@@ -16,13 +16,25 @@ use std::alloc::Global;
 use zk_model::Path;
 use zx_base::{Bytes, Memory};
 
-fn found_in(part: &ActAns) -> &[Kv]
+/// The keys that a part of an answer found.
+pub fn found_in(part: &ActAns) -> &[Kv]
     ensures { result.now ≡ found_in part.now }
 {
     match part {
         ActAns::Range(found) => found.kvs.as_slice(),
         ActAns::Put | ActAns::Deleted(_) => &[],
     }
+}
+
+/// What the last part of an answer found.
+pub fn last_found(parts: &[ActAns]) -> &[Kv]
+    ensures { result.now ≡ last_part parts.now }
+{
+    let mut found: &[Kv] = &[];
+    for part in parts {
+        found = found_in(part);
+    }
+    found
 }
 
 /// The first that is kept under this key.
@@ -41,7 +53,7 @@ fn kept_under<'a>(kvs: &'a [Kv], key: &[u8]) -> Option<&'a Kv>
 fn damaged(alloc: Global, kv: &Kv) -> ViewFault
     ensures { IsDamagedFault kv.now result }
 {
-    match copy(alloc, kv) {
+    match copy_kv(alloc, kv) {
         Ok(kv) => ViewFault::Damaged {
             key: kv.key,
             value: kv.value,
@@ -62,7 +74,7 @@ fn tested(alloc: Global, found: Option<&Kv>) -> Result<Option<Kv>, ViewFault>
     if !is_record(alloc, kv)? {
         return Err(damaged(alloc, kv));
     }
-    Ok(Some(copy(alloc, kv)?))
+    Ok(Some(copy_kv(alloc, kv)?))
 }
 
 impl View {

@@ -11,7 +11,7 @@ use crate::guards::is_head;
 use crate::kind::is_record;
 use crate::lookup::found_among;
 use crate::numbers::is_count;
-use crate::snapshot::{SeenKey, copy};
+use crate::snapshot::{SeenKey, copy_kv};
 use crate::view::{View, lay_in, viewed_at};
 use ev_types::{Act, Guard, Kv};
 use std::alloc::Global;
@@ -26,7 +26,7 @@ fn seen_copy(alloc: Global, key: &[u8], found: Option<&Kv>) -> Result<SeenKey, M
     ensures { IfOk result (λ x. x ≡ seen_as key.now (option_copied found.entry)) }
 {
     let found = match found {
-        Some(kv) => Some(copy(alloc, kv)?),
+        Some(kv) => Some(copy_kv(alloc, kv)?),
         None => None,
     };
     Ok(SeenKey {
@@ -198,7 +198,7 @@ fn head_seen(alloc: Global, head: &Kv) -> Result<SeenKey, Memory>
     ensures { IfOk result (λ x. x ≡ seen_as (key_bytes HeadKey) (Some head.now)) }
 {
     let key = head_key(alloc)?;
-    let found = Some(copy(alloc, head)?);
+    let found = Some(copy_kv(alloc, head)?);
     Ok(SeenKey { key, found })
 }
 

@@ -41,6 +41,7 @@ mod snapshot;
 mod view;
 mod want;
 
+pub use add::{found_in, last_found};
 pub use children::{children_end, children_start};
 pub use fault::ViewFault;
 pub use guards::is_head;
@@ -52,8 +53,8 @@ pub use laws::{
 };
 pub use leaving::{NodeNow, TreeChange};
 pub use numbers::{are_numbers, is_count};
-pub use plan::{Arm, Decision, Plan, Who};
+pub use plan::{Arm, Decision, Plan, Who, refused, success};
 pub use round::{ranges, reading};
-pub use snapshot::{SeenChildren, SeenKey, Snapshot};
+pub use snapshot::{SeenChildren, SeenKey, Snapshot, copy_kv};
 pub use view::View;
-pub use want::Want;
+pub use want::{Want, head_wants};

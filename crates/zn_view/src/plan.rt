@@ -1,9 +1,17 @@
 //! What is decided on a request.
 
+ghost use Rattle.std.specs.Prelude.{◌≡◌, ◌++◌, ◌∷◌, [], IfOk};
+ghost use Rattle.ev_types.specs.Reads.{read_key};
+ghost use Rattle.zn_layout.specs.Changes.{act_of, head_put};
+ghost use Rattle.zn_layout.specs.Keys.{HeadKey, key_bytes};
+ghost use Rattle.zn_layout.specs.Records.{IsHeadRec};
+
 use crate::want::Want;
 use ev_types::{Act, Guard};
+use std::alloc::Global;
 use zk_model::{Path, Reply, Trigger};
-use zx_base::Seq;
+use zn_layout::{HeadRec, get_head, put_head};
+use zx_base::{Memory, Seq};
 
 /// A session, as one of its connections knows it.
 #[derive(Clone, Copy)]
@@ -48,4 +56,25 @@ pub enum Decision {
     Expired,
     /// The session was attached to another connection, at this revision.
     Moved { found: i64 },
+}
+
+/// The operations of an update's transaction: these, then the put of the head, then the read of it.
+pub fn success(alloc: Global, acts: Seq<Act>, head: &HeadRec) -> Result<Seq<Act>, Memory>
+    requires { IsHeadRec head.now.triggers }
+    ensures { IfOk result (λ l. l ≡ (acts ++ act_of (head_put head.now.triggers) ∷ []) ++ read_key (key_bytes HeadKey) ∷ []) }
+{
+    let mut list = acts;
+    list.push(put_head(alloc, head)?)?;
+    list.push(get_head(alloc)?)?;
+    Ok(list)
+}
+
+/// A refusal, as a decision.
+pub fn refused(code: i32) -> Decision
+    ensures { result ≡ Decision.Answered (Reply.Refused code) None }
+{
+    Decision::Answered {
+        reply: Reply::Refused(code),
+        arm: None,
+    }
 }

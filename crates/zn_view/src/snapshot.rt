@@ -33,7 +33,7 @@ pub struct Snapshot {
 }
 
 /// A copy of a key with its value and numbers.
-pub(crate) fn copy(alloc: Global, kv: &Kv) -> Result<Kv, Memory>
+pub fn copy_kv(alloc: Global, kv: &Kv) -> Result<Kv, Memory>
     ensures { IfOk result (λ k. k ≡ kv.now) }
 {
     Ok(Kv {

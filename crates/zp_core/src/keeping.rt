@@ -1,7 +1,7 @@
 //! Which views are kept, and which updates are planned on them.
 
 ghost use Rattle.std.specs.Prelude.{◌≡◌, true, false, None, Some, IfOk, OnOk, MatchOption, option_copied};
-ghost use Rattle.zn_view.specs.Asks.{found_in as kvs_in, kept_under, last_part};
+ghost use Rattle.zn_view.specs.Asks.{kept_under};
 ghost use Rattle.zn_view.specs.Keeping.{IsAfter, trimmed, update_path as path_of_update};
 ghost use Rattle.zn_view.specs.Seen.{IsCountNumber};
 ghost use Rattle.zn_layout.specs.Keys.{HeadKey, key_bytes};
@@ -15,7 +15,7 @@ use ev_types::{ActAns, Kv};
 use std::alloc::Global;
 use zk_model::Request;
 use zk_model::flags::is_sequential;
-use zn_view::{View, is_head};
+use zn_view::{View, is_head, last_found};
 use zp_kept::PathKey;
 use zx_base::Memory;
 
@@ -83,26 +83,6 @@ pub(crate) fn keep_view(
         Some(path) => keep_under(alloc, client, path, view),
         None => Ok(()),
     }
-}
-
-fn found_in(part: &ActAns) -> &[Kv]
-    ensures { result.now ≡ kvs_in part.now }
-{
-    match part {
-        ActAns::Range(found) => found.kvs.as_slice(),
-        ActAns::Put | ActAns::Deleted(_) => &[],
-    }
-}
-
-/// What the last part of an answer found.
-fn last_found(parts: &[ActAns]) -> &[Kv]
-    ensures { result.now ≡ last_part parts.now }
-{
-    let mut found: &[Kv] = &[];
-    for part in parts {
-        found = found_in(part);
-    }
-    found
 }
 
 /// The head among what was found.

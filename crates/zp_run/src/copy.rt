@@ -9,21 +9,9 @@ use ev_types::{ActAns, Answer, Kv, RangeAns};
 use std::alloc::Global;
 use std::sync::Arc;
 use zn_layout::Entry;
+use zn_view::copy_kv;
 use zp_step::Input;
 use zx_base::{Bytes, Memory, Seq};
-
-fn copy_kv(alloc: Global, kv: &Kv) -> Result<Kv, Memory>
-    ensures { IfOk result (λ copy. copy ≡ kv.now) }
-{
-    Ok(Kv {
-        key: Bytes::copy_of(alloc, kv.key.as_slice())?,
-        value: Bytes::copy_of(alloc, kv.value.as_slice())?,
-        create_revision: kv.create_revision,
-        mod_revision: kv.mod_revision,
-        version: kv.version,
-        lease: kv.lease,
-    })
-}
 
 fn copy_kvs(alloc: Global, kvs: &[Kv]) -> Result<Seq<Kv>, Memory>
     ensures { IfOk result (λ copies. copies ≡ kvs.now) }

@@ -1,35 +1,20 @@
 //! The plan of the end of a session.
 
-ghost use Rattle.std.specs.Prelude.{◌≡◌, ◌≤◌, ◌≤ℤ◌, ◌∷◌, ◌++◌, [], All, pos, length, IfOk, IsTrue};
-ghost use Rattle.ev_types.specs.Reads.{read_key};
+ghost use Rattle.std.specs.Prelude.{◌≤◌, ◌≤ℤ◌, All, pos, length, IfOk, IsTrue};
 ghost use Rattle.zk_model.specs.Limits.{max_owned};
 ghost use Rattle.zk_model.specs.Paths.{is_path};
-ghost use Rattle.zn_layout.specs.Changes.{act_of, head_put};
-ghost use Rattle.zn_layout.specs.Keys.{HeadKey, CountsKey, key_bytes};
-ghost use Rattle.zn_layout.specs.Records.{IsHeadRec};
+ghost use Rattle.zn_layout.specs.Keys.{CountsKey};
 ghost use Rattle.zn_view.specs.Lookups.{HasSeen};
 ghost use Rattle.zs_close.specs.Closing.{IsEndPlan};
 ghost use Rattle.zs_close.specs.Ending.{parents};
 
 use crate::changes::{end_acts, end_triggers};
 use crate::wants::end_keys;
-use ev_types::Act;
 use std::alloc::Global;
 use zk_model::{Body, Path, Reply};
-use zn_layout::{HeadRec, get_head, put_head};
-use zn_view::{Plan, View};
-use zx_base::{Memory, Seq};
-
-/// The operations of an update's transaction: these, then the put of the head, then the read of it.
-fn success(alloc: Global, acts: Seq<Act>, head: &HeadRec) -> Result<Seq<Act>, Memory>
-    requires { IsHeadRec head.now.triggers }
-    ensures { IfOk result (λ l. l ≡ (acts ++ act_of (head_put head.now.triggers) ∷ []) ++ read_key (key_bytes HeadKey) ∷ []) }
-{
-    let mut list = acts;
-    list.push(put_head(alloc, head)?)?;
-    list.push(get_head(alloc)?)?;
-    Ok(list)
-}
+use zn_layout::HeadRec;
+use zn_view::{Plan, View, success};
+use zx_base::Memory;
 
 /// The plan that ends a session with these nodes, at most 40. The counts of the nodes' parents were looked up.
 pub(crate) fn end_plan(

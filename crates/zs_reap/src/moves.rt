@@ -1,7 +1,7 @@
 //! What is asked next.
 
-ghost use Rattle.std.specs.Prelude.{◌≡◌, ◌++◌, ◌∷◌, [], ℤ, pos, ◌≤ℤ◌, IfOk};
-ghost use Rattle.zn_view.specs.Asks.{head_want, transaction};
+ghost use Rattle.std.specs.Prelude.{◌≡◌, ◌++◌, ℤ, pos, ◌≤ℤ◌, IfOk};
+ghost use Rattle.zn_view.specs.Asks.{transaction};
 ghost use Rattle.zn_view.specs.Seen.{IsCountNumber};
 ghost use Rattle.zs_close.specs.Reaping.{IsReadyToReap};
 ghost use Rattle.zs_reap.specs.Steps.{AreFewOwned, Asks, ReaperEnds, IsReaperCounted, ReaperDecides, IsReaperPhase, LacksSome, ReaperLooksFirst, reaper_wants as wants_of_first};
@@ -10,8 +10,7 @@ ghost use Rattle.zs_reap.specs.declared.reap.Phase.TheVariants as phases;
 use crate::reap::{Phase, ReapStep};
 use ev_types::{Ask, TxnReq};
 use std::alloc::Global;
-use zn_layout::head_key;
-use zn_view::{Plan, View, Want, ranges, reading};
+use zn_view::{Plan, View, Want, head_wants, ranges, reading};
 use zs_close::{Reaping, needs_reap, plan_reap};
 use zx_base::{Memory, Seq};
 
@@ -30,15 +29,6 @@ pub(crate) fn end(step: ReapStep) -> Move
         phase: Phase::Over,
         step,
     }
-}
-
-/// The head alone.
-fn head_wants(alloc: Global) -> Result<Seq<Want>, Memory>
-    ensures { IfOk result (λ ws. ws ≡ head_want ∷ []) }
-{
-    let mut wants = Seq::new(alloc);
-    wants.push(Want::Key(head_key(alloc)?))?;
-    Ok(wants)
 }
 
 /// The head, the record of the session's life, and the list of its nodes; of a number below 1 the head alone.

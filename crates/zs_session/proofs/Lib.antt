@@ -1,4 +1,3 @@
-pub mod LastParts
 pub mod Lives
 pub mod Looked
 pub mod SessionKeys

@@ -1,15 +1,14 @@
 //! What is read for a session, and the lease of a new one.
 
-ghost use Rattle.std.specs.Prelude.{◌≡◌, pos, ◌≤ℤ◌, ◌∷◌, [], IfOk};
+ghost use Rattle.std.specs.Prelude.{◌≡◌, pos, ◌≤ℤ◌, IfOk};
 ghost use Rattle.zk_service.specs.States.{granted_timeout as timeout_by};
-ghost use Rattle.zn_view.specs.Asks.{head_want};
 ghost use Rattle.zs_session.specs.Sessions.{lease_seconds as seconds_of, session_wants as wants_of_session, attach_wants as wants_of_attach, first_wants as wants_of_first};
 
 use std::alloc::Global;
 use zk_model::ConnectRequest;
 use zk_model::limit::{MAX_TIMEOUT, MIN_TIMEOUT};
 use zn_layout::{head_key, lease_key, session_key};
-use zn_view::Want;
+use zn_view::{Want, head_wants};
 use zx_base::{Memory, Seq};
 
 /// A requested timeout, brought into the service's range. Both are in milliseconds.
@@ -63,12 +62,4 @@ pub(crate) fn first_wants(alloc: Global, request: &ConnectRequest) -> Result<Seq
         return head_wants(alloc);
     }
     attach_wants(alloc, request.session)
-}
-
-fn head_wants(alloc: Global) -> Result<Seq<Want>, Memory>
-    ensures { IfOk result (λ wants. wants ≡ head_want ∷ []) }
-{
-    let mut wants = Seq::new(alloc);
-    wants.push(Want::Key(head_key(alloc)?))?;
-    Ok(wants)
 }

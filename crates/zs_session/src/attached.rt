@@ -2,7 +2,7 @@
 
 ghost use Rattle.std.specs.Prelude.{◌≡◌, pos};
 ghost use Rattle.zn_layout.specs.Keys.{HeadKey, key_bytes};
-ghost use Rattle.zn_view.specs.Asks.{found_in as kvs_in, kept_under, last_part};
+ghost use Rattle.zn_view.specs.Asks.{kept_under};
 ghost use Rattle.zn_view.specs.Seen.{head_number};
 ghost use Rattle.zs_session.specs.Connecting.{number_shown, attached as attached_by};
 
@@ -10,27 +10,7 @@ use crate::connect::ConnectStep;
 use ev_types::{ActAns, Kv};
 use zk_model::{ConnectRequest, ConnectResponse};
 use zk_service::answered_read_only;
-use zn_view::Who;
-
-fn found_in(part: &ActAns) -> &[Kv]
-    ensures { result.now ≡ kvs_in part.now }
-{
-    match part {
-        ActAns::Range(found) => found.kvs.as_slice(),
-        ActAns::Put | ActAns::Deleted(_) => &[],
-    }
-}
-
-/// What the last part found.
-fn last_found(parts: &[ActAns]) -> &[Kv]
-    ensures { result.now ≡ last_part parts.now }
-{
-    let mut found: &[Kv] = &[];
-    for part in parts {
-        found = found_in(part);
-    }
-    found
-}
+use zn_view::{Who, last_found};
 
 /// The version of the head among what was found, 0 without one.
 #[tactic(auto, unfolding(zn_layout::specs::Keys::key_bytes))]

@@ -20,4 +20,4 @@ returns c =
     ok_along (IsPathOf c.split_at.result.0.now) (TakesItem string_bytes IsValidPath old c.split_at.result.1.now)
     (λ o h. subst (λ (b : Bytes). TakesItem string_bytes IsValidPath old b o) (sym s.back)
     (path-taken old left n o (subst (λ (b : Bytes). IsCounted b n left) c.self.view_is c.in-Some.ensures) c.if-rest-length.false (subst (λ (b : Bytes). IsPathOf b o) s.front h)))
-    c.path_of.result c.path_of.ensures
+    c.valid_path.result c.valid_path.ensures
