@@ -1,18 +1,13 @@
 -- Writes in a row.
-use Rattle.std.proofs.Common.{◌≡◌, ℕ, ◌+◌, ◌≤◌, List, ◌++◌, length, take, drop, Ok, Err, Result, sym, ap, subst, ◌∙◌, length-append, length-drop, arith}
+use Rattle.std.proofs.Common.{◌≡◌, ℕ, ◌+◌, List, ◌++◌, length, take, Ok, Err, Result, sym, ap, subst, ◌∙◌, length-append, arith}
 use Rattle.std.specs.Prelude.{Option}
 use Rattle.std.proofs.Math.Seq.{take-append-add}
 use Rattle.zx_outside.specs.Counts.{OutputCounts, one_more}
-use Rattle.zx_outside.specs.Writing.{Takes, TakesFront}
-use Rattle.zx_outside.proofs.Streams.{Takes-append, Takes-next}
+use Rattle.zx_outside.specs.Writing.{Takes}
+use Rattle.zx_outside.proofs.Streams.{Takes-append}
 use Rattle.ev_http.specs.declared.fault.HttpFault.{HttpFault}
 use Rattle.ev_http.specs.declared.fault.HttpFault.TheVariants as fault
 use Rattle.ev_http.specs.Sending.{Wrote}
-
--- a front of what is left of a piece
-pub front_next : (bytes : List ℕ) (at : ℕ) (taken taken' taken'' : Option (List ℕ)) → at ≤ length bytes → Takes (take at bytes) taken taken' → TakesFront (drop at bytes) taken' taken'' → TakesFront bytes taken taken''
-front_next bytes at taken taken' taken'' within early late =
-    (at + late.0, omega (arith, late.1, length-drop at bytes, within), Takes-next bytes at late.0 taken taken' taken'' early late.2)
 
 -- a head that was written whole, and then a body or a front of it
 pub wrote_both : (r : Result (Unit {0}) HttpFault) (head body : List ℕ) (t t' t'' : Option (List ℕ)) (c c' c'' : OutputCounts) (n n' n'' : ℕ) → Takes head t t' × (c' ≡ c) × (n' ≡ n) → Wrote r body t' t'' c' c'' n' n'' → Wrote r (head ++ body) t t'' c c'' n n''

@@ -10,20 +10,17 @@ use crate::request::path_of;
 use ev_types::Route;
 use http::StatusCode;
 use std::alloc::{AllocError, Global};
-use zx_outside::{Sink, Took};
+use zx_outside::Sink;
 
 /// Writes all of the bytes, or up to the first fault of the sink.
 pub fn write_all<K: Sink>(sink: &mut K, bytes: &[u8]) -> Result<(), HttpFault>
     ensures { Wrote result bytes.now (K.taken sink.old) (K.taken sink.new) (K.counts sink.old) (K.counts sink.new) (K.name sink.old) (K.name sink.new) }
 {
-    let mut at = 0;
-    'pieces: while at < bytes.len() {
-        match sink.write(&bytes[at..]) {
-            Took::Bytes(count) => at += count,
-            Took::Failed => return Err(HttpFault::WriteFault),
-        }
+    if zx_outside::write_all(sink, bytes) {
+        Ok(())
+    } else {
+        Err(HttpFault::WriteFault)
     }
-    Ok(())
 }
 
 /// Up to how many bytes a body is copied after its head, so that both go out in one write. A longer body is not copied.

@@ -3,7 +3,7 @@
 ghost use Rattle.std.specs.Prelude.{◌≡◌};
 ghost use Rattle.zd_etcd.specs.Serving.{EtcdEnds, Faults, EtcdFinishes, EtcdAccepts, EtcdStops, counts_at_end};
 
-use crate::writing::{listening, write_all};
+use crate::writing::listening;
 use ev_gateway::gateway;
 use ev_shared::SharedStore;
 use ev_store::Store;
@@ -12,7 +12,7 @@ use std::sync::{Arc, Wait};
 use std::time::Clock as SystemClock;
 use zx_base::Memory;
 use zx_net::{Clock, Net, Spawner};
-use zx_outside::Sink;
+use zx_outside::{Sink, write_all};
 
 /// How a server ended.
 #[derive(Clone, Copy, PartialEq, Eq)]

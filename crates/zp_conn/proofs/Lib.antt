@@ -1,4 +1,3 @@
-pub mod Fronts
 pub mod Packets
 pub mod Firsts
 pub mod Coming

@@ -3,7 +3,7 @@
 ghost use Rattle.std.specs.Prelude.{◌≡◌};
 ghost use Rattle.zp_conn.specs.Writing.{Wrote};
 
-use zx_outside::{Sink, Took};
+use zx_outside::Sink;
 
 /// The sink failed. It took a front of the bytes, and how much is not known.
 #[derive(Clone, Copy)]
@@ -14,12 +14,9 @@ pub(crate) fn write_all<K: Sink>(sink: &mut K, bytes: &[u8]) -> Result<(), Write
     ensures wrote { Wrote result bytes.now (K.taken sink.old) (K.taken sink.new) (K.counts sink.old) (K.counts sink.new) }
     ensures named { K.name sink.new ≡ K.name sink.old }
 {
-    let mut at = 0;
-    'pieces: while at < bytes.len() {
-        match sink.write(&bytes[at..]) {
-            Took::Bytes(count) => at += count,
-            Took::Failed => return Err(WriteFault),
-        }
+    if zx_outside::write_all(sink, bytes) {
+        Ok(())
+    } else {
+        Err(WriteFault)
     }
-    Ok(())
 }

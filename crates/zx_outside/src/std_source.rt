@@ -89,7 +89,7 @@ fn is_idle(kind: ErrorKind) -> bool
 }
 
 /// What the outcome of a reader's call means: no byte is the end, and an error is an idle turn or a fault.
-fn judge(outcome: io::Result<usize>) -> Got
+pub fn judge(outcome: io::Result<usize>) -> Got
     ensures { result ≡ got_of outcome }
 {
     match outcome {

@@ -1,7 +1,6 @@
 //! What comes from a peer over TCP.
 
 ghost use Rattle.std.specs.Prelude.{◌≡◌, ◌≤◌, ◌<◌, true, false, vec_len, IfOk};
-ghost use Rattle.zx_outside.specs.Adapters.{is_idle, got_of};
 ghost use Rattle.zx_outside.specs.Reading.{EndsForGood, counts_after_read};
 ghost use Rattle.zx_sockets.specs.Refilling.{Refilled};
 ghost use Rattle.zx_sockets.specs.Silence.{IsPatience, IsPatienceOf};
@@ -9,13 +8,13 @@ ghost use Rattle.zx_sockets.specs.Silence.{IsPatience, IsPatienceOf};
 use crate::bell::{Ear, SocketBell};
 use crate::patience::Patience;
 use std::alloc::{AllocError, Global};
-use std::io::{ErrorKind, Read};
+use std::io::Read;
 use std::net::{Net as SystemNet, Shutdown, TcpStream};
 use std::sync::Arc;
+use std::thread;
 use std::time::{Clock as SystemClock, Duration};
-use std::{io, thread};
 use zx_net::Wakes;
-use zx_outside::{Got, Source};
+use zx_outside::{Got, Source, judge};
 use zx_words::HangsUp;
 
 /// How many bytes are asked of the system at once.
@@ -77,25 +76,6 @@ fn patience_after<R: SystemClock>(
     match patience {
         None => None,
         Some(patience) => patience.after(rt, count),
-    }
-}
-
-/// Whether an error of this kind says only that no byte came in time.
-fn is_idle(kind: ErrorKind) -> bool
-    ensures { result ≡ is_idle kind }
-{
-    matches!(kind, ErrorKind::WouldBlock | ErrorKind::Interrupted)
-}
-
-/// What the outcome of a read of the system means: no byte is the end, and an error is an idle turn or a fault.
-fn judge(outcome: io::Result<usize>) -> Got
-    ensures { result ≡ got_of outcome }
-{
-    match outcome {
-        Ok(0) => Got::End,
-        Ok(count) => Got::Bytes(count),
-        Err(error) if is_idle(error.kind()) => Got::Nothing,
-        Err(_) => Got::Failed,
     }
 }
 

@@ -2,8 +2,7 @@ use Rattle.std.proofs.Common.{◌≡◌, ◌∙◌, ◌-◌, ap, length, drop, t
 use Rattle.std.proofs.lemmas.List.{length-drop, take_all}
 use Rattle.zx_outside.specs.Writing.{counts_after_write}
 use Rattle.zx_outside.specs.declared.sink.Took.TheVariants as took
-use Rattle.zx_outside.proofs.Streams.{Takes-next}
-use Rattle.ev_http.proofs.Sending.{front_next}
+use Rattle.zx_outside.proofs.Streams.{Takes-next, front_next}
 use Rattle.zp_server.proofs.lines.write_all.Goals as goal
 
 pub pieces-preserved : goal.pieces-preserved

@@ -1,8 +1,7 @@
 use Rattle.std.proofs.Common.{◌≡◌, ◌∙◌, ◌-◌, length, drop, take, arith}
 use Rattle.std.proofs.lemmas.List.{length-drop, take_all}
-use Rattle.zx_outside.proofs.Streams.{Takes-next}
-use Rattle.ev_http.proofs.Sending.{front_next}
-use Rattle.zd_etcd.proofs.writing.write_all.Goals as goal
+use Rattle.zx_outside.proofs.Streams.{Takes-next, front_next}
+use Rattle.zx_outside.proofs.writing.write_all.Goals as goal
 
 pub pieces-preserved : goal.pieces-preserved
 pieces-preserved g c =
@@ -14,6 +13,7 @@ pieces-preserved g c =
       within = omega (arith, written.size, size);
       taken = Takes-next bytes c.pieces.at c.in-Bytes.count _ _ _ c.pieces.invariant.taken written.bytes;
       unharmed = written.counts ∙ c.pieces.invariant.unharmed;
+      named = written.named ∙ c.pieces.invariant.named;
     }
 
 pub returns-in-Failed-clause-front : goal.returns-in-Failed-clause-front
