@@ -1,6 +1,9 @@
 //! Why a connection ends.
 
-use zx_base::Bytes;
+ghost use Rattle.std.specs.Prelude.{◌≡◌, IfOk};
+
+use std::alloc::Global;
+use zx_base::{Bytes, Memory};
 
 /// Why a connection ended. `place` counts the bytes of the client's stream; `rev` is a revision of etcd.
 #[derive(Drop)]
@@ -54,4 +57,45 @@ pub enum Ended {
     Kept { rev: i64 },
     /// The session was not open at this revision.
     Gone { rev: i64 },
+}
+
+/// A copy of a cause.
+pub fn copy_of_cause(alloc: Global, cause: &Cause) -> Result<Cause, Memory>
+    ensures { IfOk result (λ copy. copy ≡ cause.now) }
+{
+    Ok(match cause {
+        Cause::Closed => Cause::Closed,
+        Cause::ClientEnd { place } => Cause::ClientEnd { place: *place },
+        Cause::ReadFault => Cause::ReadFault,
+        Cause::WriteFault => Cause::WriteFault,
+        Cause::BadLength { place, length } => Cause::BadLength {
+            place: *place,
+            length: *length,
+        },
+        Cause::NoHeader { place } => Cause::NoHeader { place: *place },
+        Cause::AuthRefused => Cause::AuthRefused,
+        Cause::Unknown => Cause::Unknown,
+        Cause::ZxidAhead { client, head } => Cause::ZxidAhead {
+            client: *client,
+            head: *head,
+        },
+        Cause::Taken { rev } => Cause::Taken { rev: *rev },
+        Cause::Expired { rev } => Cause::Expired { rev: *rev },
+        Cause::Moved { mine, found } => Cause::Moved {
+            mine: *mine,
+            found: *found,
+        },
+        Cause::LinkFault => Cause::LinkFault,
+        Cause::Lagged { cursor, floor } => Cause::Lagged {
+            cursor: *cursor,
+            floor: *floor,
+        },
+        Cause::FeedClosed => Cause::FeedClosed,
+        Cause::Damaged { key, value } => Cause::Damaged {
+            key: Bytes::copy_of(alloc, key.as_slice())?,
+            value: Bytes::copy_of(alloc, value.as_slice())?,
+        },
+        Cause::Restart => Cause::Restart,
+        Cause::Memory => Cause::Memory,
+    })
 }

@@ -13,7 +13,7 @@ mod form;
 mod update;
 
 pub use body::{body_with_stat, response_of};
-pub use cause::{Cause, Ended};
+pub use cause::{Cause, Ended, copy_of_cause};
 pub use connect::answered_read_only;
 pub use fits::{names_and_stat_fit, names_fit};
 pub use form::has_valid_form;

@@ -8,7 +8,7 @@ ghost use Rattle.zp_ledger.specs.Grouping.{is_number, placed, places_at};
 
 use std::alloc::Global;
 use std::collections::BTreeMap;
-use zk_service::{Cause, Ended};
+use zk_service::{Cause, Ended, copy_of_cause};
 use zk_transcript::{Conversation, TranscriptLine};
 use zx_base::{Bytes, Memory, Seq};
 
@@ -215,42 +215,3 @@ fn copy_of_end(alloc: Global, end: &Ended) -> Result<Ended, Memory>
     }
 }
 
-fn copy_of_cause(alloc: Global, cause: &Cause) -> Result<Cause, Memory>
-    ensures { IfOk result (λ copy. copy ≡ cause.now) }
-{
-    Ok(match cause {
-        Cause::Closed => Cause::Closed,
-        Cause::ClientEnd { place } => Cause::ClientEnd { place: *place },
-        Cause::ReadFault => Cause::ReadFault,
-        Cause::WriteFault => Cause::WriteFault,
-        Cause::BadLength { place, length } => Cause::BadLength {
-            place: *place,
-            length: *length,
-        },
-        Cause::NoHeader { place } => Cause::NoHeader { place: *place },
-        Cause::AuthRefused => Cause::AuthRefused,
-        Cause::Unknown => Cause::Unknown,
-        Cause::ZxidAhead { client, head } => Cause::ZxidAhead {
-            client: *client,
-            head: *head,
-        },
-        Cause::Taken { rev } => Cause::Taken { rev: *rev },
-        Cause::Expired { rev } => Cause::Expired { rev: *rev },
-        Cause::Moved { mine, found } => Cause::Moved {
-            mine: *mine,
-            found: *found,
-        },
-        Cause::LinkFault => Cause::LinkFault,
-        Cause::Lagged { cursor, floor } => Cause::Lagged {
-            cursor: *cursor,
-            floor: *floor,
-        },
-        Cause::FeedClosed => Cause::FeedClosed,
-        Cause::Damaged { key, value } => Cause::Damaged {
-            key: Bytes::copy_of(alloc, key.as_slice())?,
-            value: Bytes::copy_of(alloc, value.as_slice())?,
-        },
-        Cause::Restart => Cause::Restart,
-        Cause::Memory => Cause::Memory,
-    })
-}

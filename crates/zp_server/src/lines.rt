@@ -10,7 +10,7 @@ ghost use Rattle.zp_server.specs.Telling.{OutputSays, WritesAll};
 
 use crate::ends::Stop;
 use std::alloc::Global;
-use zk_service::{Cause, Ended};
+use zk_service::{Cause, Ended, copy_of_cause};
 use zk_transcript::TranscriptLine;
 use zt_text::{push_hex, push_line, push_number, push_signed};
 use zw_hub::FeedEnd;
@@ -51,7 +51,7 @@ fn close_line(alloc: Global, cause: &Cause) -> Result<Vec<u8>, Memory>
 {
     let line = TranscriptLine::Close {
         connection: 0,
-        end: Ended::Cause(copy_of(alloc, cause)?),
+        end: Ended::Cause(copy_of_cause(alloc, cause)?),
     };
     let mut text = Vec::new(alloc);
     push_line(&mut text, &line)?;
@@ -68,47 +68,6 @@ fn closed(alloc: Global, number: u64, cause: &Cause) -> Result<Vec<u8>, Memory>
     push_number(&mut text, number)?;
     text.extend_from_slice(&line.as_slice()[BEFORE_CAUSE..])?;
     Ok(text)
-}
-
-/// A copy of a cause.
-fn copy_of(alloc: Global, cause: &Cause) -> Result<Cause, Memory>
-    ensures { IfOk result (λ copy. copy ≡ cause.now) }
-{
-    Ok(match cause {
-        Cause::Closed => Cause::Closed,
-        Cause::ClientEnd { place } => Cause::ClientEnd { place: *place },
-        Cause::ReadFault => Cause::ReadFault,
-        Cause::WriteFault => Cause::WriteFault,
-        Cause::BadLength { place, length } => Cause::BadLength {
-            place: *place,
-            length: *length,
-        },
-        Cause::NoHeader { place } => Cause::NoHeader { place: *place },
-        Cause::AuthRefused => Cause::AuthRefused,
-        Cause::Unknown => Cause::Unknown,
-        Cause::ZxidAhead { client, head } => Cause::ZxidAhead {
-            client: *client,
-            head: *head,
-        },
-        Cause::Taken { rev } => Cause::Taken { rev: *rev },
-        Cause::Expired { rev } => Cause::Expired { rev: *rev },
-        Cause::Moved { mine, found } => Cause::Moved {
-            mine: *mine,
-            found: *found,
-        },
-        Cause::LinkFault => Cause::LinkFault,
-        Cause::Lagged { cursor, floor } => Cause::Lagged {
-            cursor: *cursor,
-            floor: *floor,
-        },
-        Cause::FeedClosed => Cause::FeedClosed,
-        Cause::Damaged { key, value } => Cause::Damaged {
-            key: Bytes::copy_of(alloc, key.as_slice())?,
-            value: Bytes::copy_of(alloc, value.as_slice())?,
-        },
-        Cause::Restart => Cause::Restart,
-        Cause::Memory => Cause::Memory,
-    })
 }
 
 /// The line of a compacted watch.
