@@ -1,6 +1,5 @@
 pub mod Carried
 pub mod Replaying
-pub mod Keyed
 pub mod Lapsing
 pub mod Sweeping
 pub mod Shown

@@ -19,7 +19,7 @@ use Rattle.ev_store.specs.declared.fault.Denied.{Denied}
 use Rattle.ev_store.specs.declared.fault.Denied.TheVariants as denied
 use Rattle.ev_store.specs.declared.fault.StoreFault.TheVariants as fault
 use Rattle.ev_call.specs.Fitting.{Fits}
-use Rattle.ev_shared.proofs.Keyed.{key-at}
+use Rattle.ev_types.proofs.Keyed.{store-keyed}
 use Rattle.ev_shared.specs.declared.shared_store.Watched.TheVariants as watched
 use Rattle.ev_shared.specs.declared.watch.Look.TheVariants as look
 use Rattle.ev_shared.specs.Watching.{IsNext, Looks, key_at, listed, found_in, put_by, put_at, NonePut, Unseen}
@@ -111,7 +111,7 @@ looks_next s k from next kv le h =
     let at = is.0 in
     let least = h.1 in
     let most = h.2 in
-    (key-at s h.0 k kv is.1, omega (arith, ints), omega (arith, ints))
+    (store-keyed s h.0 k kv is.1, omega (arith, ints), omega (arith, ints))
 
 pub gone : (s t : Store) (k : Bytes) (from n : ℕ) (asked floor : ℤ) → from ≤ n → t ≡ s → Unseen s n (fault.Denied (denied.Compacted asked floor)) → Looks t k from (look.Compacted floor)
 gone s t k from n asked floor le same h = let below = h.1 in (h.0 ∙ sym (ap (λ (x : Store). x.floor) same), omega (arith, ints))

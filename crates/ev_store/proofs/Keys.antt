@@ -1,10 +1,9 @@
 -- The present keys of a store, one by one.
-use Rattle.std.proofs.Common.{◌≡◌, ℕ, suc, ◌+◌, ◌<◌, ◌^◌, true, ℤ, pos, List, [], ◌∷◌, ◌++◌, length, None, refl, ap, ◌∙◌, take, arith}
+use Rattle.std.proofs.Common.{◌≡◌, ℕ, ◌<◌, ◌^◌, true, ℤ, List, length, None, refl, ap, ◌∙◌, take, arith}
 use Rattle.std.proofs.lemmas.List.{take_all}
 use Rattle.std.specs.List.{list_all}
 use Rattle.std.specs.FinMap.{get, empty}
 use Rattle.zx_base.specs.Maps.{Bytes}
-use Rattle.ev_types.specs.Ranges.{Keys}
 use Rattle.ev_types.specs.Store.{Store, Change, keys_from, after_changes, store_at, present}
 use Rattle.ev_store.specs.Changes.{puts_once}
 use Rattle.ev_store.specs.Folds.{key_after_changes, key_after_revisions}
@@ -24,9 +23,3 @@ get-present s q once short = ap (λ m. get m q) (present-all s) ∙ get-keys_fro
 pub get-next : (s : Store) (r : ℤ) (cs : List Change) (q : Bytes) → list_all puts_once s.revisions ≡ true → length s.revisions < 2 ^ 62 → puts_once cs ≡ true →
     get (after_changes r (present s) cs) q ≡ key_after_changes r q (key_after_revisions 1 q None s.revisions) cs
 get-next s r cs q once short new_once = ap (λ m. get (after_changes r m cs) q) (present-all s) ∙ get-after_changes s.revisions cs r q once short new_once
-
-pub keys_from-append : (r : ℕ) (m : Keys) (xs ys : List (List Change)) → keys_from r m (xs ++ ys) ≡ keys_from (r + length xs) (keys_from r m xs) ys
-keys_from-append r m [] ys = ap (λ n. keys_from n m ys) (let e : r ≡ r + 0 = omega arith in e)
-keys_from-append r m (x ∷ xs) ys =
-    keys_from-append (r + 1) (after_changes (pos r) m x) xs ys
-    ∙ ap (λ n. keys_from n (keys_from (r + 1) (after_changes (pos r) m x) xs) ys) (let e : r + 1 + length xs ≡ r + suc (length xs) = omega arith in e)

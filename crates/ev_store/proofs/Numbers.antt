@@ -27,7 +27,7 @@ use Rattle.ev_store.specs.Changes.{are_distinct, put_keys, puts_once}
 use Rattle.ev_store.specs.Numbers.{HasNumbers, IsPutBy, ShowsPuts}
 use Rattle.ev_store.proofs.Entries.{All-values}
 use Rattle.ev_store.proofs.Folding.{IsBounded, bounded-more, follows_changes, follows_revisions, puts_count-once}
-use Rattle.ev_store.proofs.Revisions.{after_changes-from, put_by}
+use Rattle.ev_types.proofs.Revisions.{after_changes-from, put_by}
 use Rattle.ev_store.proofs.Working.{act_keys, after_changes-append, distinct-acts, distinct-front, keys_step}
 use Rattle.zx_base.proofs.Lists.{all-take}
 

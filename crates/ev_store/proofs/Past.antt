@@ -29,8 +29,9 @@ use Rattle.ev_store.specs.FirstDenial.{compact_denial}
 use Rattle.ev_store.specs.Changes.{key_of, are_distinct, writes_once}
 use Rattle.ev_store.specs.Compaction.{compact}
 use Rattle.ev_store.specs.Events.{puts_in, puts_from, puts_above, is_put, put_of}
-use Rattle.ev_store.proofs.Keys.{store_at-first, keys_from-append}
-use Rattle.ev_store.proofs.Revisions.{put_over-mod}
+use Rattle.ev_store.proofs.Keys.{store_at-first}
+use Rattle.ev_types.proofs.Grown.{keys_from-append}
+use Rattle.ev_types.proofs.Revisions.{put_over-mod}
 use Rattle.zx_base.proofs.Numbers.{pos-nonzero}
 
 -- ---- the keys after each revision

@@ -5,7 +5,7 @@ use Rattle.std.proofs.lemmas.List.{take_all, take-append-le, length-append}
 use Rattle.ev_types.specs.Ranges.{Keys}
 use Rattle.ev_types.specs.Store.{Store, Change, revision, after_changes, keys_from, store_at, present, grown}
 
-keys_from-append : (r : ℕ) (m : Keys) (xs ys : List (List Change)) → keys_from r m (xs ++ ys) ≡ keys_from (r + length xs) (keys_from r m xs) ys
+pub keys_from-append : (r : ℕ) (m : Keys) (xs ys : List (List Change)) → keys_from r m (xs ++ ys) ≡ keys_from (r + length xs) (keys_from r m xs) ys
 keys_from-append r m [] ys = ap (λ n. keys_from n m ys) (let e : r ≡ r + 0 = omega arith in e)
 keys_from-append r m (x ∷ xs) ys =
     keys_from-append (r + 1) (after_changes (pos r) m x) xs ys

@@ -5,3 +5,5 @@ pub mod Found
 pub mod Allowed
 pub mod Bounds
 pub mod Names
+pub mod Keyed
+pub mod Revisions

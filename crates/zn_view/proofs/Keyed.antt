@@ -1,59 +1,27 @@
--- In a store each key names itself, so a range shows what is kept under its keys.
-use Rattle.std.proofs.Common.{◌≡◌, ℕ, ◌+◌, ℤ, pos, Bool, true, false, cond, List, [], ◌∷◌, map, drop, take, Option, Some, None, refl, sym, ap, ◌∙◌, ⊎_elim}
+-- A range shows what is kept under its keys, since in a store each key names itself.
+use Rattle.std.proofs.Common.{◌≡◌, ℤ, Bool, true, false, cond, List, [], ◌∷◌, map, drop, Option, Some, None, refl, sym, ap, ◌∙◌}
 use Rattle.std.specs.Prelude.{T, All, filter, if◌then◌else◌}
 use Rattle.std.specs.Ordering.{nat_cmp, is_lt, is_eq}
 use Rattle.std.specs.declared.cmp.Ordering.{Ordering}
 use Rattle.std.specs.declared.cmp.Ordering.TheVariants.{Less, Equal, Greater}
 use Rattle.std.specs.Cmp.Lexicographic.{slice_cmp, nat_list_cmp_total}
-use Rattle.std.specs.FinMap.{get, entries, retain_keys, empty, get-empty, get-entries, entries_sorted}
+use Rattle.std.specs.FinMap.{get, entries, retain_keys, get-entries, entries_sorted}
 use Rattle.std.specs.FinMap.Entries.{below_all, is_sorted, find}
 use Rattle.std.proofs.lemmas.Cmp.{tied_itself}
 use Rattle.std.proofs.lemmas.List.Elements.{All-nil, All-cons, All-head, All-tail}
 use Rattle.ev_types.specs.declared.answer.Kv.{Kv}
 use Rattle.ev_types.specs.Ranges.{Keys, found, in_range, is_within, shown}
 use Rattle.ev_types.specs.Reads.{key_range, one_found}
-use Rattle.ev_types.specs.Store.{Store, Change, Puts, Removes, after_changes, changed, keys_from, put_over, store_at}
 use Rattle.ev_types.proofs.Found.{found-key}
+use Rattle.ev_types.proofs.Keyed.{AreKeyed}
 use Rattle.ev_types.proofs.Names.{names-tie}
 use Rattle.zx_base.specs.Maps.{Bytes, same}
-use Rattle.zx_base.proofs.MapLaws.{either, same-refl, same-true, get-insert_same, get-insert_other, get-remove_same, get-remove_other, get-retain}
-use Rattle.zx_base.proofs.Options.{none_some, some_is}
+use Rattle.zx_base.proofs.MapLaws.{same-refl, same-true, get-retain}
+use Rattle.zx_base.proofs.Options.{none_some}
 use Rattle.zn_view.specs.declared.want.Want.TheVariants as want
 use Rattle.zn_view.specs.Asks.{children_start, children_until, is_child_of, kept_under, path_in, paths_in, range_of}
 use Rattle.zn_view.specs.Views.{children_kept}
 use Rattle.zx_base.proofs.Booleans.{T-first, T-second}
-
--- ---- each key of a store names itself
-
-abbrev pub AreKeyed : Keys → Type 0
-AreKeyed m = (k : Bytes) (kv : Kv) → get m k ≡ Some kv → kv.key ≡ k
-
-put-key : (r : ℤ) (k v : Bytes) (lease : ℤ) (old : Option Kv) → (put_over r k v lease old).key ≡ k
-put-key r k v lease None = refl
-put-key r k v lease (Some kv) = refl
-
-keyed-change : (r : ℤ) (m : Keys) (c : Change) → AreKeyed m → AreKeyed (changed r m c)
-keyed-change r m (Puts k v lease) keyed q kv e = ⊎_elim
-    (λ same. let is : put_over r k v lease (get m k) ≡ kv = some_is (sym (get-insert_same m k _) ∙ sym (ap (get (changed r m (Puts k v lease))) same) ∙ e) in
-    sym (ap (λ (x : Kv). x.key) is) ∙ put-key r k v lease (get m k) ∙ sym same)
-    (λ apart. keyed q kv (sym (get-insert_other m k q _ apart) ∙ e))
-    (either q k)
-keyed-change r m (Removes k) keyed q kv e = ⊎_elim
-    (λ same. absurd (none_some (sym (get-remove_same m k) ∙ sym (ap (get (changed r m (Removes k))) same) ∙ e)))
-    (λ apart. keyed q kv (sym (get-remove_other m k q apart) ∙ e))
-    (either q k)
-
-pub keyed-changes : (r : ℤ) (m : Keys) (cs : List Change) → AreKeyed m → AreKeyed (after_changes r m cs)
-keyed-changes r m [] keyed = keyed
-keyed-changes r m (c ∷ cs) keyed = keyed-changes r (changed r m c) cs (keyed-change r m c keyed)
-
-keyed-from : (r : ℕ) (m : Keys) (css : List (List Change)) → AreKeyed m → AreKeyed (keys_from r m css)
-keyed-from r m [] keyed = keyed
-keyed-from r m (cs ∷ css) keyed = keyed-from (r + 1) (after_changes (pos r) m cs) css (keyed-changes (pos r) m cs keyed)
-
-pub store-keyed : (s : Store) (n : ℕ) → AreKeyed (store_at s n)
-unfolding store_at
-store-keyed s n = keyed-from 1 empty (take n s.revisions) (λ k kv e. absurd (none_some (sym (get-empty (slice_cmp nat_cmp) k) ∙ e)))
 
 -- ---- one key
 

@@ -28,7 +28,8 @@ use Rattle.zn_view.specs.Asks.{found_in, head_want, kept_under, last_part, paths
 use Rattle.zn_view.specs.Laws.{IsShown, IsCarriedOut}
 use Rattle.zn_view.specs.Seen.{View, empty_view}
 use Rattle.zn_view.specs.Views.{Agrees, children_kept}
-use Rattle.zn_view.proofs.Keyed.{AreKeyed, key-shown, children-shown, keyed-changes, store-keyed}
+use Rattle.ev_types.proofs.Keyed.{AreKeyed, keyed-changes, store-keyed}
+use Rattle.zn_view.proofs.Keyed.{key-shown, children-shown}
 
 -- ---- what a list of ranges answers
 

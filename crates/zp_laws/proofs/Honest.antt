@@ -27,7 +27,8 @@ use Rattle.zn_view.specs.declared.kind.Kind.{Kind}
 use Rattle.zn_view.specs.declared.kind.Kind.TheVariants.{Counts, Data, Head, Life, Nodes}
 use Rattle.zn_view.specs.declared.want.Want.{Want}
 use Rattle.zn_view.specs.declared.want.Want.TheVariants as want
-use Rattle.zn_view.proofs.Keyed.{AreKeyed, key-shown, store-keyed}
+use Rattle.ev_types.proofs.Keyed.{AreKeyed, store-keyed}
+use Rattle.zn_view.proofs.Keyed.{key-shown}
 use Rattle.zn_view.proofs.KeyKinds.{kind_of-key, kind_of_key}
 
 -- ---- each kind of key

@@ -1,113 +1,25 @@
--- A key that has one mod_revision at two revisions of a store has one value there, and guards that hold show what was seen.
-use Rattle.std.proofs.Common.{◌≡◌, ℕ, suc, ◌+◌, ◌≤◌, ◌<◌, List, [], ◌∷◌, ◌++◌, length, take, refl, sym, ap, ◌∙◌, subst, arith, Bool, true, false, ℤ, pos, append_assoc, inl, inr, ⊎_elim}
-use Rattle.std.specs.Prelude.{Option, Some, None, ◌⊎◌, if◌then◌else◌, All, Contains}
-use Rattle.std.specs.Cmp.Lexicographic.{slice_cmp}
-use Rattle.std.specs.FinMap.{empty, get, get-empty}
+-- Guards that hold at a later revision show what was seen.
+use Rattle.std.proofs.Common.{◌≡◌, ℕ, ◌+◌, ◌≤◌, List, [], ◌∷◌, ◌++◌, refl, sym, ap, ◌∙◌, subst, Bool, true, false, append_assoc, inl, inr}
+use Rattle.std.specs.Prelude.{Some, None, ◌⊎◌, if◌then◌else◌, All, Contains}
+use Rattle.std.specs.FinMap.{get}
 use Rattle.std.specs.List.{list_all}
-use Rattle.std.specs.Ordering.{nat_cmp}
 use Rattle.std.proofs.lemmas.Bool.{and_parts}
 use Rattle.std.proofs.lemmas.Bool.Decides.{Decides-int_eq}
 use Rattle.std.proofs.lemmas.List.Elements.{All-cons, All-contains, All-head, All-nil, All-tail, All-weaker}
 use Rattle.ev_types.specs.declared.answer.Kv.{Kv}
 use Rattle.ev_types.specs.declared.ask.Guard.{Guard}
 use Rattle.ev_types.specs.Ranges.{Keys}
-use Rattle.ev_types.specs.Store.{Change, Puts, Removes, Store, after_changes, changed, holds, keys_from, mod_of, put_over, store_at}
+use Rattle.ev_types.specs.Store.{Store, holds, mod_of, store_at}
+use Rattle.ev_types.proofs.Revisions.{later_as_it_was}
 use Rattle.zx_base.specs.Maps.{Bytes, same}
-use Rattle.zx_base.proofs.MapLaws.{either, get-insert_other, get-insert_same, get-remove_other, get-remove_same, same-refl, same-true}
-use Rattle.zx_base.proofs.Options.{none_some, some_is, some_none}
+use Rattle.zx_base.proofs.MapLaws.{same-refl, same-true}
+use Rattle.zx_base.proofs.Options.{some_none}
 use Rattle.zn_layout.specs.Keys.{HeadKey, key_bytes}
 use Rattle.zn_view.specs.Asks.{guards_of}
 use Rattle.zn_view.specs.Seen.{View, seen, seen_in}
 use Rattle.zn_view.specs.Views.{Agrees, MayCommit, WasPut}
 use Rattle.zn_view.specs.declared.plan.Plan.{Plan}
 use Rattle.zn_view.specs.declared.snapshot.SeenKey.{SeenKey}
-use Rattle.zx_base.proofs.Numbers.{pos-same}
-use Rattle.zx_base.proofs.Lists.{take-more}
-
--- ---- when a key was put
-
-put-mod : (r : ℤ) (k v : Bytes) (lease : ℤ) (o : Option Kv) → (put_over r k v lease o).mod_revision ≡ r
-put-mod r k v lease None = refl
-put-mod r k v lease (Some old) = refl
-
--- a change leaves a key as it was, or puts it at its revision
-changed-at : (r : ℤ) (m : Keys) (c : Change) (k : Bytes) (kv : Kv) → get (changed r m c) k ≡ Some kv → (kv.mod_revision ≡ r) ⊎ (get m k ≡ Some kv)
-changed-at r m (Puts q v lease) k kv h = ⊎_elim
-    (λ e. let is : put_over r q v lease (get m q) ≡ kv = some_is (sym (get-insert_same m q (put_over r q v lease (get m q))) ∙ sym (ap (get (changed r m (Puts q v lease))) e) ∙ h) in
-    inl (ap (λ (x : Kv). x.mod_revision) (sym is) ∙ put-mod r q v lease (get m q)))
-    (λ apart. inr (sym (get-insert_other m q k (put_over r q v lease (get m q)) apart) ∙ h))
-    (either k q)
-changed-at r m (Removes q) k kv h = ⊎_elim
-    (λ e. absurd (none_some (sym (get-remove_same m q) ∙ sym (ap (get (changed r m (Removes q))) e) ∙ h)))
-    (λ apart. inr (sym (get-remove_other m q k apart) ∙ h))
-    (either k q)
-
-changes-at : (r : ℤ) (m : Keys) (cs : List Change) (k : Bytes) (kv : Kv) → get (after_changes r m cs) k ≡ Some kv → (kv.mod_revision ≡ r) ⊎ (get m k ≡ Some kv)
-changes-at r m [] k kv h = inr h
-changes-at r m (c ∷ cs) k kv h = elim (changes-at r (changed r m c) cs k kv h) [ inl e ↦ inl e | inr e ↦ changed-at r m c k kv e ]
-
--- what a key has is from a revision among these, or from before
-record IsPutFrom (r n : ℕ) (kv : Kv) : Type 0 where
-  revision : ℕ
-  least : r ≤ revision
-  most : revision < r + n
-  put : kv.mod_revision ≡ pos revision
-
-later : (r n : ℕ) (kv : Kv) → IsPutFrom (r + 1) n kv → IsPutFrom r (suc n) kv
-later r n kv p = record { revision = p.revision; least = omega (arith, p.least); most = omega (arith, p.most); put = p.put }
-
-keys_from-at : (r : ℕ) (m : Keys) (css : List (List Change)) (k : Bytes) (kv : Kv) → get (keys_from r m css) k ≡ Some kv → IsPutFrom r (length css) kv ⊎ (get m k ≡ Some kv)
-keys_from-at r m [] k kv h = inr h
-keys_from-at r m (cs ∷ css) k kv h = elim (keys_from-at (r + 1) (after_changes (pos r) m cs) css k kv h) [
-  | inl p ↦ inl (later r (length css) kv p)
-  | inr e ↦ elim (changes-at (pos r) m cs k kv e) [
-    | inl f ↦ inl (record { revision = r; least = omega arith; most = omega arith; put = f })
-    | inr f ↦ inr f
-  ]
-]
-
-keys_from-append : (r : ℕ) (m : Keys) (xs ys : List (List Change)) → keys_from r m (xs ++ ys) ≡ keys_from (r + length xs) (keys_from r m xs) ys
-keys_from-append r m [] ys = ap (λ n. keys_from n m ys) (omega arith)
-keys_from-append r m (cs ∷ xs) ys =
-    let e : (r + 1) + length xs ≡ r + length (cs ∷ xs) = omega arith in
-    keys_from-append (r + 1) (after_changes (pos r) m cs) xs ys ∙ ap (λ n. keys_from n (keys_from (r + 1) (after_changes (pos r) m cs) xs) ys) e
-
--- each key of a store was put at a revision of it
-put-at : (s : Store) (a : ℕ) (k : Bytes) (kv : Kv) → get (store_at s a) k ≡ Some kv → IsPutFrom 1 (length (take a s.revisions)) kv
-unfolding store_at
-put-at s a k kv h = elim (keys_from-at 1 empty (take a s.revisions) k kv h) [ inl p ↦ p | inr e ↦ absurd (none_some (sym (get-empty (slice_cmp nat_cmp) k) ∙ e)) ]
-
--- at a later revision a key is as it was, or was put since
-pub since-at : (s : Store) (a b : ℕ) (k : Bytes) (kv : Kv) → a ≤ b → get (store_at s b) k ≡ Some kv
-    → ((n : ℕ) × (length (take a s.revisions) < n) × (kv.mod_revision ≡ pos n)) ⊎ (get (store_at s a) k ≡ Some kv)
-unfolding store_at
-since-at s a b k kv le h =
-    let t = take-more a b s.revisions le in
-    let e : get (keys_from (1 + length (take a s.revisions)) (keys_from 1 empty (take a s.revisions)) t.0) k ≡ Some kv =
-    ap (λ m. get m k) (sym (ap (keys_from 1 empty) t.1 ∙ keys_from-append 1 empty (take a s.revisions) t.0)) ∙ h in
-    elim (keys_from-at (1 + length (take a s.revisions)) (keys_from 1 empty (take a s.revisions)) t.0 k kv e) [
-      | inl p ↦ inl (p.revision, omega (arith, p.least), p.put)
-      | inr f ↦ inr f
-    ]
-
-one-value : (s : Store) (a b : ℕ) (k : Bytes) (x y : Kv) → a ≤ b → get (store_at s a) k ≡ Some x → get (store_at s b) k ≡ Some y → x.mod_revision ≡ y.mod_revision → get (store_at s a) k ≡ Some y
-one-value s a b k x y le hx hy e = elim (since-at s a b k y le hy) [
-  | inl n ↦ let p = put-at s a k x hx in absurd (omega (arith, n.1, p.most, pos-same p.revision n.0 (sym p.put ∙ e ∙ n.2)))
-  | inr f ↦ f
-]
-
-put-positive : (s : Store) (a : ℕ) (k : Bytes) (kv : Kv) → get (store_at s a) k ≡ Some kv → kv.mod_revision ≡ pos 0 → ⊥
-put-positive s a k kv h none = let p = put-at s a k kv h in omega (arith, p.least, pos-same p.revision 0 (sym p.put ∙ none))
-
--- A key whose mod_revision is at a later revision what it was is as it was: there with the same value, or still absent.
-pub as-it-was : (s : Store) (a b : ℕ) (k : Bytes) → a ≤ b → mod_of (get (store_at s b) k) ≡ mod_of (get (store_at s a) k) → get (store_at s b) k ≡ get (store_at s a) k
-as-it-was s a b k le h = go (get (store_at s a) k) (get (store_at s b) k) refl refl h
-  where
-    go : (x y : Option Kv) → get (store_at s a) k ≡ x → get (store_at s b) k ≡ y → mod_of y ≡ mod_of x → y ≡ x
-    go None None ex ey e = refl
-    go None (Some v) ex ey e = absurd (put-positive s b k v ey e)
-    go (Some u) None ex ey e = absurd (put-positive s a k u ex (sym e))
-    go (Some u) (Some v) ex ey e = sym (one-value s a b k u v le ex ey (sym e)) ∙ ex
 
 -- ---- a plan of which the guards hold at a later revision
 
@@ -154,7 +66,7 @@ AsSeen v m g = (kv : Kv) → get m g.key ≡ Some kv → seen v g.key ≡ Some (
 module _ (s : Store) (a b : ℕ) (v : View) (le : a ≤ b) (whole : All (FoundIn (store_at s a)) v.keys) where
   one-guard : (x : SeenKey) → FoundIn (store_at s a) x → WasLookedUp v.keys x → mod_of (get (store_at s b) x.key) ≡ mod_of x.found → AsSeen v (store_at s b) (record { key = x.key; mod_revision = mod_of x.found })
   one-guard x found was e kv there =
-      let same_value : get (store_at s b) x.key ≡ get (store_at s a) x.key = as-it-was s a b x.key le (e ∙ ap mod_of (sym found)) in
+      let same_value : get (store_at s b) x.key ≡ get (store_at s a) x.key = later_as_it_was s a b x.key le (e ∙ ap mod_of (sym found)) in
       elim (seen-any (store_at s a) v.keys x.key whole) [
         | inl none ↦ absurd (was none)
         | inr saw ↦ saw ∙ ap Some (sym same_value ∙ there)

@@ -24,7 +24,8 @@ use Rattle.zn_layout.specs.StandsFor.{StandsFor, at}
 use Rattle.zn_layout.specs.declared.record.LeaseRec.{LeaseRec}
 use Rattle.zn_view.specs.Asks.{picked}
 use Rattle.zn_view.proofs.Narrowing.{picked-among}
-use Rattle.zp_laws.proofs.Revisions.{as-it-was, may-commit}
+use Rattle.zp_laws.proofs.Revisions.{may-commit}
+use Rattle.ev_types.proofs.Revisions.{later_as_it_was}
 use Rattle.zp_laws.proofs.Attachments.{session-attached}
 use Rattle.zp_laws.proofs.NewSessions.{new_session-commits}
 use Rattle.zs_session.specs.Sessions.{attach_guards, life_key, new_session_txn}
@@ -77,7 +78,7 @@ pub was-seen : (s : Store) (id seen : ℤ) (life : LeaseRec) → WasLifeOf s id 
 was-seen s id seen life w kv there e =
     let k = key_bytes (life_key id) in
     let mods : mod_of (get (present s) k) ≡ mod_of (get (store_at s w.number) k) = ap mod_of there ∙ e ∙ sym w.put ∙ sym (ap mod_of w.there) in
-    let same : get (present s) k ≡ get (store_at s w.number) k = as-it-was s w.number (length s.revisions) k w.known mods in
+    let same : get (present s) k ≡ get (store_at s w.number) k = later_as_it_was s w.number (length s.revisions) k w.known mods in
     ap (λ (x : Kv). x.value) (some_is (sym there ∙ same ∙ w.there)) ∙ w.value
 
 resumed : (r : ConnectRequest) (id : ℤ) (x : Session) (p : List ℕ) → r.session ≡ id → x.lapsed ≡ false → x.passwd ≡ p → p ≡ r.passwd → is_resumed_by id (Some r) (Some x) ≡ true
