@@ -9,4 +9,4 @@ mod lists;
 mod visible;
 
 pub use lists::{address_at, count_of, next_of};
-pub use visible::is_address;
+pub use visible::{are_visible, is_address};

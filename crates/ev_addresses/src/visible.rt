@@ -6,7 +6,7 @@ ghost use Rattle.ev_call.specs.Addresses.{IsAddress};
 ghost use Rattle.ev_addresses.specs.Visible.{is_visible};
 
 /// Whether all of these are visible characters of ASCII.
-fn are_visible(text: &[u8]) -> bool
+pub fn are_visible(text: &[u8]) -> bool
     ensures { result ≡ list_all is_visible text.now }
 {
     text.iter().all(|byte| *byte >= 33 && *byte <= 126)

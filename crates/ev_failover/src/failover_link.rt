@@ -12,6 +12,7 @@ use crate::dial_endpoints::{DialEndpoints, name_all};
 use crate::endpoints::{EndFault, Endpoints};
 use crate::reading::is_reading;
 use ev_call::{CallFault, Cluster, Etcd};
+use ev_link::counted;
 use ev_types::{Answer, Ask};
 use zx_base::Memory;
 use zx_history::GhostHistory;
@@ -154,16 +155,6 @@ fn try_in_turn<E: Endpoints>(
         tried += 1;
     }
     came
-}
-
-/// The count of failures after a call.
-fn counted(failures: u64, came: &Result<Answer, CallFault>) -> u64
-    ensures { result ≡ failures_after came.now failures }
-{
-    match came {
-        Err(CallFault::Failed) => failures.saturating_add(1),
-        _ => failures,
-    }
 }
 
 impl<E: Endpoints + Drop> Etcd for FailoverLink<E> {

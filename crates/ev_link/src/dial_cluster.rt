@@ -132,8 +132,8 @@ fn asked_first<S: Source + Drop, K: Sink + Drop>(
     }
 }
 
-/// The count of failures after a call.
-fn counted(failures: u64, came: &Result<Answer, CallFault>) -> u64
+/// The count of failed calls after this one. It stops at 2^64 - 1.
+pub fn counted(failures: u64, came: &Result<Answer, CallFault>) -> u64
     ensures { result ≡ failures_after came.now failures }
 {
     match came {

@@ -11,7 +11,7 @@ mod failure;
 mod http_link;
 mod reaching;
 
-pub use dial_cluster::DialCluster;
+pub use dial_cluster::{DialCluster, counted};
 pub use ev_call::{CallFault, Cluster, Etcd};
 pub use failure::LinkFailure;
 pub use http_link::HttpLink;

@@ -1,5 +1,5 @@
 -- Writes that took some front of what there was to write.
-use Rattle.std.proofs.Common.{ℕ, List, ◌++◌, take, drop, sym, ap, ◌∙◌, subst, append_assoc}
+use Rattle.std.proofs.Common.{ℕ, List, ◌++◌, take, drop, sym, ap, ◌∙◌, append_assoc}
 use Rattle.std.specs.Prelude.{Option}
 use Rattle.std.proofs.lemmas.List.{take-append-drop}
 use Rattle.zx_outside.specs.Writing.{Takes, TakesFront}
@@ -21,9 +21,3 @@ TakesSome-after first second taken taken' taken'' takes some = (
 -- with more to come
 pub TakesSome-more : (whole more : List ℕ) (taken taken' : Option (List ℕ)) → TakesSome whole taken taken' → TakesSome (whole ++ more) taken taken'
 TakesSome-more whole more taken taken' some = (some.0, some.1 ++ more, ap (λ t. t ++ more) some.2 ∙ append_assoc some.0 some.1 more, some.3)
-
--- the rest of a piece from a place on
-pub TakesSome-rest : (piece : List ℕ) (at : ℕ) (taken taken' taken'' : Option (List ℕ)) → Takes (take at piece) taken taken' → TakesFront (drop at piece) taken' taken'' → TakesSome piece taken taken''
-TakesSome-rest piece at taken taken' taken'' takes front =
-    subst (λ (t : List ℕ). TakesSome t taken taken'') (take-append-drop at piece)
-    (TakesSome-after (take at piece) (drop at piece) taken taken' taken'' takes (TakesSome-front (drop at piece) taken' taken'' front))

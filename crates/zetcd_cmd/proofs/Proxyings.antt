@@ -1,8 +1,7 @@
 -- The words of `serve`, and what a proxy came to.
-use Rattle.std.proofs.Common.{◌≡◌, ℕ, ◌≤◌, List, [], ◌∷◌, length, refl, sym, ap, ◌∙◌, subst, inl, inr, arith}
-use Rattle.std.proofs.lemmas.Bool.{and_parts, leb-true}
-use Rattle.std.proofs.lemmas.List.Sums.{AllPass-from_list_all}
-use Rattle.std.specs.Prelude.{◌⊎◌, Bool, true, false, All, Some, nat_le, ◌==◌, if◌then◌else◌, codes, slice_index_or}
+use Rattle.std.proofs.Common.{◌≡◌, ℕ, List, [], ◌∷◌, length, refl, sym, ap, ◌∙◌, subst, inl, inr, arith}
+use Rattle.std.proofs.lemmas.Bool.{and_parts}
+use Rattle.std.specs.Prelude.{◌⊎◌, Bool, true, false, Some, ◌==◌, if◌then◌else◌, codes, slice_index_or}
 use Rattle.std.specs.List.{list_all}
 use denote.Ref.{Bor}
 use Rattle.ev_call.specs.Addresses.{IsAddress}
@@ -16,7 +15,9 @@ use Rattle.zp_server.specs.declared.ends.ServeEnd.{ServeEnd}
 use Rattle.zp_server.specs.declared.ends.ServeEnd.TheVariants as ends
 use Rattle.zetcd_cmd.specs.Outcomes.{IsWord}
 use Rattle.ev_addresses.specs.Lists.{addresses_in}
-use Rattle.zetcd_cmd.specs.Serving.{NamesEtcd, are_addresses, are_plain, is_address, is_visible, limit_in}
+use Rattle.ev_addresses.specs.Visible.{is_visible}
+use Rattle.ev_addresses.proofs.Characters.{all_within}
+use Rattle.zetcd_cmd.specs.Serving.{NamesEtcd, are_addresses, are_plain, is_address, limit_in}
 use Rattle.zetcd_cmd.specs.Proxying.{HasNetCause, IsServe, NamesServe, Proxies, serve_status}
 use Rattle.zetcd_cmd.specs.declared.status.Status.{Status}
 use Rattle.zetcd_cmd.specs.declared.status.Status.TheVariants as status
@@ -61,19 +62,13 @@ of_four (w ∷ v ∷ u ∷ t ∷ s ∷ words) d limit long first second third fo
 
 -- ---- addresses
 
-visible : (b : ℕ) → is_visible b ≡ true → (33 ≤ b) × (b ≤ 126)
-visible b is = let both = and_parts (nat_le 33 b) (nat_le b 126) is in (leb-true 33 b both.0, leb-true b 126 both.1)
-
-all_visible : (bytes : List ℕ) → list_all is_visible bytes ≡ true → All (λ b. (33 ≤ b) × (b ≤ 126)) bytes
-all_visible bytes is = λ k d within. visible _ (AllPass-from_list_all is_visible bytes is k d within)
-
 no_option : (option all : Bool) → (if option then false else all) ≡ true → all ≡ true
 no_option true all is = absurd cc
 no_option false all is = is
 
 address : (bytes : List ℕ) → is_address bytes ≡ true → IsAddress bytes
 address [] is = absurd cc
-address (b ∷ bytes) is = (omega arith, all_visible (b ∷ bytes) (no_option (b == 45) (list_all is_visible (b ∷ bytes)) is))
+address (b ∷ bytes) is = (omega arith, all_within (b ∷ bytes) (no_option (b == 45) (list_all is_visible (b ∷ bytes)) is))
 
 pub address_of : (words : List (Bor (List ℕ))) (listen endpoint : List ℕ) (limit : ℕ) → IsServe words listen endpoint limit → IsAddress endpoint
 address_of [] listen endpoint limit is = absurd is

@@ -2,6 +2,7 @@
 use Rattle.std.specs.Prelude.{◌≡◌, ℕ, ◌&&◌, ◌==◌, Bool, true, false, List, [], ◌∷◌, length, codes, if◌then◌else◌, nat_le, Option, Some, None}
 use Rattle.std.specs.List.{list_all, slice_split}
 use Rattle.ev_addresses.specs.Lists.{is_part}
+use Rattle.ev_addresses.specs.Visible.{is_visible}
 use denote.Ref.{Bor}
 use Rattle.zt_text.specs.Scripts.{◌>>=◌, decimal_digit, digits_value, max_number, not_above}
 use Rattle.zx_net.specs.Nets.{NetCounts}
@@ -13,11 +14,7 @@ use Rattle.zetcd_cmd.specs.declared.status.Status.TheVariants as status
 
 -- ---- the words
 
--- `!` to `~`
-abbrev pub is_visible : ℕ → Bool
-is_visible b = nat_le 33 b && nat_le b 126
-
--- one or more of these, of which the first is no `-`
+-- one or more visible characters of ASCII, of which the first is no `-`
 abbrev pub is_address : List ℕ → Bool
 is_address [] = false
 is_address (b ∷ bs) = if b == 45 then false else list_all is_visible (b ∷ bs)

@@ -7,7 +7,7 @@ ghost use Rattle.zx_outside.specs.declared.sink.Took.TheVariants.{Failed as Took
 ghost use Rattle.zetcd_cmd.specs.Outcomes.{Failed, TakesSome};
 ghost use Rattle.zetcd_cmd.specs.Streams.{PieceComes, PieceFits, Waited, MayWait};
 
-use zx_outside::{Got, Sink, Source, Took};
+use zx_outside::{Got, Sink, Source};
 
 /// This many idle turns in one command are a fault of its input.
 pub const PATIENCE: u32 = 1000;
@@ -51,12 +51,5 @@ pub fn write_all<O: Sink>(out: &mut O, bytes: &[u8]) -> bool
     ensures count { result ≡ false → O.counts out.new ≡ counts_after_write TookFailed (O.counts out.old) }
     ensures unharmed { IsTrue result → O.counts out.new ≡ O.counts out.old }
 {
-    let mut at = 0;
-    'pieces: while at < bytes.len() {
-        match out.write(&bytes[at..]) {
-            Took::Bytes(count) => at += count,
-            Took::Failed => return false,
-        }
-    }
-    true
+    zx_outside::write_all(out, bytes)
 }

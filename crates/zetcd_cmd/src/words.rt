@@ -5,9 +5,10 @@ ghost use Rattle.std.specs.Prelude.{◌≡◌, ◌==◌, ◌≤◌, IfSome, IsNo
 ghost use Rattle.std.specs.List.{list_all, slice_split};
 ghost use Rattle.ev_addresses.specs.Lists.{is_part};
 ghost use Rattle.zetcd_cmd.specs.Proxying.{IsServe, NamesServe};
-ghost use Rattle.zetcd_cmd.specs.Serving.{are_addresses as are_addresses_of, are_plain as are_plain_of, IsEtcd, NamesEtcd, digits_number, is_address as is_address_of, is_visible, limit_in};
+ghost use Rattle.zetcd_cmd.specs.Serving.{are_addresses as are_addresses_of, are_plain as are_plain_of, IsEtcd, NamesEtcd, digits_number, is_address as is_address_of, limit_in};
 ghost use Rattle.zetcd_cmd.specs.Stressing.{IsStress, NamesStress, count_in, number_in};
 
+use ev_addresses::are_visible;
 use zt_text::decimal_digit;
 
 /// How many endpoints `serve` takes.
@@ -15,13 +16,6 @@ const MAX_ADDRESSES: usize = 5;
 
 /// The longest number has this many digits.
 const MAX_DIGITS: usize = 10;
-
-/// Whether all of these are visible characters of ASCII.
-fn are_visible(text: &[u8]) -> bool
-    ensures { result ≡ list_all is_visible text.now }
-{
-    text.iter().all(|byte| *byte >= 33 && *byte <= 126)
-}
 
 /// Whether this is the text of an address: one or more visible characters of ASCII, of which the first is no `-`.
 fn is_address(text: &[u8]) -> bool

@@ -11,3 +11,4 @@ pub mod Placing
 pub mod Stopping
 pub mod Striking
 pub mod Texts
+pub mod Written

@@ -15,7 +15,7 @@ use zk_transcript::TranscriptLine;
 use zt_text::{push_hex, push_line, push_number, push_signed};
 use zw_hub::FeedEnd;
 use zx_base::{Bytes, Memory};
-use zx_outside::{Sink, Took};
+use zx_outside::Sink;
 
 /// What is written where the net has a fault.
 pub const NET_FAULT: &[u8] = b"net fault\n";
@@ -133,14 +133,7 @@ pub fn feed(alloc: Global, end: &FeedEnd) -> Result<Vec<u8>, Memory>
 pub fn write_all<O: Sink>(out: &mut O, bytes: &[u8]) -> bool
     ensures { WritesAll result bytes.now (record { taken = O.taken out.old; counts = O.counts out.old }) (record { taken = O.taken out.new; counts = O.counts out.new }) }
 {
-    let mut at = 0;
-    'pieces: while at < bytes.len() {
-        match out.write(&bytes[at..]) {
-            Took::Bytes(count) => at += count,
-            Took::Failed => return false,
-        }
-    }
-    true
+    zx_outside::write_all(out, bytes)
 }
 
 /// Writes a line.

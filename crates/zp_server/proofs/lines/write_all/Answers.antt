@@ -1,27 +1,5 @@
-use Rattle.std.proofs.Common.{◌≡◌, ◌∙◌, ◌-◌, ap, length, drop, take, arith}
-use Rattle.std.proofs.lemmas.List.{length-drop, take_all}
-use Rattle.zx_outside.specs.Writing.{counts_after_write}
-use Rattle.zx_outside.specs.declared.sink.Took.TheVariants as took
-use Rattle.zx_outside.proofs.Streams.{Takes-next, front_next}
+use Rattle.zp_server.proofs.Written.{writes_all}
 use Rattle.zp_server.proofs.lines.write_all.Goals as goal
 
-pub pieces-preserved : goal.pieces-preserved
-pieces-preserved g c =
-    let bytes = c.args.bytes.now in
-    let size : length (drop c.pieces.at bytes) ≡ length bytes - c.pieces.at = length-drop c.pieces.at bytes in
-    let rest : take (length bytes - c.pieces.at) (drop c.pieces.at bytes) ≡ drop c.pieces.at bytes = take_all _ _ (omega arith) in
-    let written = rw rest at c.in-Bytes.ensures in
-    record {
-      within = omega (arith, written.size, size);
-      taken = Takes-next bytes c.pieces.at c.in-Bytes.count _ _ _ c.pieces.invariant.taken written.bytes;
-      unharmed = written.counts ∙ c.pieces.invariant.unharmed;
-    }
-
-pub returns-in-Failed : goal.returns-in-Failed
-returns-in-Failed g c =
-    let bytes = c.args.bytes.now in
-    let rest : take (length bytes - c.pieces.at) (drop c.pieces.at bytes) ≡ drop c.pieces.at bytes = take_all _ _ (omega (arith, length-drop c.pieces.at bytes)) in
-    record {
-      taken = front_next bytes c.pieces.at _ _ _ c.pieces.invariant.within c.pieces.invariant.taken (rw rest at c.in-Failed.ensures.bytes);
-      harmed = c.in-Failed.ensures.counts ∙ ap (counts_after_write took.Failed) c.pieces.invariant.unharmed;
-    }
+pub returns : goal.returns
+returns g c = writes_all c.write_all.result c.args.bytes.now _ _ c.write_all.ensures.taken c.write_all.ensures.front c.write_all.ensures.count c.write_all.ensures.unharmed
