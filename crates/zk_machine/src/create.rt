@@ -6,10 +6,12 @@ ghost use Rattle.std.specs.FinMap.{get, insert};
 ghost use Rattle.zk_model.specs.declared.reply.PartResult.TheVariants as results;
 ghost use Rattle.zk_model.specs.declared.node.Trigger.TheVariants as trigger;
 ghost use Rattle.zk_model.specs.PathFaults.{is_valid, tested};
-ghost use Rattle.zk_model.specs.Single.{Done, is_ephemeral, is_sequential, is_full, with_child, made_path, create_node, create_under, create};
+ghost use Rattle.zk_model.specs.Single.{Done, is_ephemeral, is_sequential, is_full, with_child, made_path, create};
 ghost use Rattle.zk_model.specs.Znodes.{Tree as Nodes, new_node, owned, root_alone};
 ghost use Rattle.zk_machine.specs.Faults.{BeyondUnless, IsWithin};
-ghost use Rattle.zk_machine.specs.Edits.{counted_create};
+ghost use Rattle.zk_machine.specs.Creates.{wished_node, create_node_by, create_under_by};
+ghost use Rattle.zk_machine.specs.declared.edit.Edit.TheVariants as edits;
+ghost use Rattle.zk_machine.specs.Edits.{edited};
 ghost use Rattle.zk_machine.specs.Outcomes.{outcome_of};
 ghost use Rattle.zk_model.specs.Limits.{max_creates};
 
@@ -99,7 +101,7 @@ fn made(
     path: Path,
     node: Node,
 ) -> Result<Outcome, Memory>
-    ensures { IfOk result (λ o. (t : Nodes) → outcome_of t o ≡ Done (results.Created path) (insert (counted_create t parent creates zxid (get t parent)) path node) (trigger.Created path ∷ trigger.Children parent ∷ [])) }
+    ensures { IfOk result (λ o. (t : Nodes) → outcome_of t o ≡ Done (results.Created path) (edited t (edits.Made parent creates zxid path node)) (trigger.Created path ∷ trigger.Children parent ∷ [])) }
 {
     let name = Text::copy_of(alloc, path.bytes())?;
     let mut triggers = Seq::new(alloc);
@@ -118,24 +120,39 @@ fn made(
     })
 }
 
+/// What a create asks for.
+#[derive(Drop)]
+struct Wish<'a> {
+    /// The text of the path, which a sequential create's number is put after.
+    text: &'a [u8],
+    /// The data of the new node.
+    content: &'a [u8],
+    /// The mode, 0 to 3 (`CreateMode`).
+    flags: i32,
+}
+
 /// A create that nothing refuses.
 fn create_allowed(
     alloc: Global,
     tree: &Draft,
     turn: &Turn,
-    flags: i32,
-    content: &[u8],
+    wish: &Wish<'_>,
     parent: Path,
     up: &Node,
     path: Path,
 ) -> Result<Outcome, Fault>
     requires { get tree.now parent ≡ Some up.now }
     ensures ok { IfOk result (λ o. outcome_of tree.now o ≡ Done (results.Created path)
-        (insert (insert tree.now parent (with_child up.now turn.now.zxid)) path (new_node content.now (if is_ephemeral flags then turn.now.session else pos 0) turn.now.zxid turn.now.time))
+        (insert (insert tree.now parent (with_child up.now turn.now.zxid)) path (wished_node turn.now wish.now))
         (trigger.Created path ∷ trigger.Children parent ∷ [])) }
     ensures beyond { IfErr result (BeyondUnless (up.now.creates ≤ℤ max_creates)) }
 {
-    let node = new_node(alloc, content, owner_of(flags, turn.session), turn)?;
+    let node = new_node(
+        alloc,
+        wish.content,
+        owner_of(wish.flags, turn.session),
+        turn,
+    )?;
     let creates = counted(up.creates)?;
     Ok(made(alloc, parent, creates, turn.zxid, path, node)?)
 }
@@ -145,23 +162,22 @@ fn create_absent(
     alloc: Global,
     tree: &Draft,
     turn: &Turn,
-    flags: i32,
-    content: &[u8],
+    wish: &Wish<'_>,
     parent: Path,
     up: &Node,
     path: Path,
 ) -> Result<Outcome, Fault>
     requires { get tree.now parent ≡ Some up.now }
-    ensures ok { IfOk result (λ o. outcome_of tree.now o ≡ create_node tree.now turn.now.limit turn.now.session flags content.now turn.now.zxid turn.now.time parent up.now path None) }
+    ensures ok { IfOk result (λ o. outcome_of tree.now o ≡ create_node_by tree.now turn.now wish.now parent up.now path None) }
     ensures beyond { IfErr result (BeyondUnless (up.now.creates ≤ℤ max_creates)) }
 {
     if up.owner != 0 {
         return Ok(Outcome::Refused(NO_CHILDREN_FOR_EPHEMERALS));
     }
-    if is_full(tree, turn, flags, up) {
+    if is_full(tree, turn, wish.flags, up) {
         return Ok(Outcome::Refused(SYSTEM_ERROR));
     }
-    Ok(create_allowed(alloc, tree, turn, flags, content, parent, up, path)?)
+    Ok(create_allowed(alloc, tree, turn, wish, parent, up, path)?)
 }
 
 /// A create below a parent that is there.
@@ -169,19 +185,18 @@ fn create_node(
     alloc: Global,
     tree: &Draft,
     turn: &Turn,
-    flags: i32,
-    content: &[u8],
+    wish: &Wish<'_>,
     parent: Path,
     up: &Node,
     path: Path,
 ) -> Result<Outcome, Fault>
     requires { get tree.now parent ≡ Some up.now }
-    ensures ok { IfOk result (λ o. outcome_of tree.now o ≡ create_node tree.now turn.now.limit turn.now.session flags content.now turn.now.zxid turn.now.time parent up.now path (get tree.now path)) }
+    ensures ok { IfOk result (λ o. outcome_of tree.now o ≡ create_node_by tree.now turn.now wish.now parent up.now path (get tree.now path)) }
     ensures beyond { IfErr result (BeyondUnless (up.now.creates ≤ℤ max_creates)) }
 {
     match tree.get(path.bytes()) {
         Some(_) => Ok(Outcome::Refused(NODE_EXISTS)),
-        None => create_absent(alloc, tree, turn, flags, content, parent, up, path),
+        None => create_absent(alloc, tree, turn, wish, parent, up, path),
     }
 }
 
@@ -202,22 +217,20 @@ fn create_under(
     alloc: Global,
     tree: &Draft,
     turn: &Turn,
-    flags: i32,
-    content: &[u8],
-    text: &[u8],
+    wish: &Wish<'_>,
     named: Path,
     parent: Path,
 ) -> Result<Outcome, Fault>
-    requires valid { IsTrue (is_valid (is_sequential flags) text.now) }
-    requires named { named ≡ tested (is_sequential flags) text.now }
-    ensures ok { IfOk result (λ o. outcome_of tree.now o ≡ create_under tree.now turn.now.limit turn.now.session flags content.now turn.now.zxid turn.now.time text.now parent (get tree.now parent)) }
+    requires valid { IsTrue (is_valid (is_sequential wish.now.flags) wish.now.text.now) }
+    requires named { named ≡ tested (is_sequential wish.now.flags) wish.now.text.now }
+    ensures ok { IfOk result (λ o. outcome_of tree.now o ≡ create_under_by tree.now turn.now wish.now parent (get tree.now parent)) }
     ensures beyond { IfErr result (BeyondUnless (IsWithin tree.now)) }
 {
     match tree.get(parent.bytes()) {
         None => Ok(Outcome::Refused(NO_NODE)),
         Some(up) => {
-            let path = made_path(alloc, flags, text, named, up)?;
-            Ok(create_node(alloc, tree, turn, flags, content, parent, up, path)?)
+            let path = made_path(alloc, wish.flags, wish.text, named, up)?;
+            Ok(create_node(alloc, tree, turn, wish, parent, up, path)?)
         }
     }
 }
@@ -239,6 +252,13 @@ pub fn create(
 {
     match named.parent(alloc)? {
         None => Ok(Outcome::Refused(NODE_EXISTS)),
-        Some(parent) => Ok(create_under(alloc, tree, turn, flags, content, text, named, parent)?),
+        Some(parent) => {
+            let wish = Wish {
+                text,
+                content,
+                flags,
+            };
+            Ok(create_under(alloc, tree, turn, &wish, named, parent)?)
+        }
     }
 }

@@ -121,13 +121,10 @@ pub fn single(alloc: Global, tree: &Draft, turn: &Turn, part: &Part) -> Result<O
             acl.as_slice(),
             *flags,
         )?),
-        Part::Delete { path, version } => Ok(single_delete(
-            alloc,
-            tree,
-            turn,
-            path.as_slice(),
-            *version,
-        )?),
+        Part::Delete { path, version } => {
+            let text = path.as_slice();
+            Ok(single_delete(alloc, tree, turn, text, *version)?)
+        }
         Part::SetData {
             path,
             content,
@@ -140,12 +137,9 @@ pub fn single(alloc: Global, tree: &Draft, turn: &Turn, part: &Part) -> Result<O
             content.as_slice(),
             *version,
         )?),
-        Part::Check { path, version } => Ok(single_check(
-            alloc,
-            tree,
-            turn,
-            path.as_slice(),
-            *version,
-        )?),
+        Part::Check { path, version } => {
+            let text = path.as_slice();
+            Ok(single_check(alloc, tree, turn, text, *version)?)
+        }
     }
 }
