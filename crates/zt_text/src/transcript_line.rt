@@ -1,8 +1,9 @@
 //! Lines of a transcript.
 
-ghost use Rattle.std.specs.Prelude.{◌≡◌, ◌++◌, ◌∷◌, OnOk, OnErr, map};
-ghost use Rattle.zt_text.specs.Transcripts.{cause_words, end_words, kind_words, line_text};
-ghost use Rattle.zt_text.specs.Written.{close_text, update_text, word_text};
+ghost use Rattle.std.specs.Fmt.{signed_decimal};
+ghost use Rattle.std.specs.Prelude.{◌≡◌, ◌++◌, ◌∷◌, [], OnOk, OnErr, decimal, map};
+ghost use Rattle.zt_text.specs.Transcripts.{cause_words, end_words, id_text, kind_words, line_text};
+ghost use Rattle.zt_text.specs.Written.{close_text, frame_text, open_text, update_text, word_text};
 
 use crate::word::{Word, push_words};
 use zk_service::{Cause, Ended, UpdateKind};
@@ -22,30 +23,13 @@ pub fn push_line(out: &mut Vec<u8>, line: &TranscriptLine) -> Result<(), Memory>
             proxy,
             id,
             passwd,
-        } => push_words(
-            out,
-            b"open",
-            &[
-                Word::Number(u64::from(*connection)),
-                Word::Number(u64::from(*proxy)),
-            ],
-            &[Word::Session(*id), Word::Hex(passwd)],
-        ),
+        } => push_open(out, *connection, *proxy, *id, passwd),
         TranscriptLine::Frame {
             connection,
             index,
             zxid,
             bytes,
-        } => push_words(
-            out,
-            b"frame",
-            &[
-                Word::Number(u64::from(*connection)),
-                Word::Number(*index),
-                Word::Signed(*zxid),
-            ],
-            &[Word::Hex(bytes.as_slice())],
-        ),
+        } => push_frame(out, *connection, *index, *zxid, bytes.as_slice()),
         TranscriptLine::Send { connection, bytes } => push_words(
             out,
             b"send",
@@ -62,24 +46,63 @@ pub fn push_line(out: &mut Vec<u8>, line: &TranscriptLine) -> Result<(), Memory>
     }
 }
 
+/// Adds the line of a connection that opened.
+fn push_open(
+    out: &mut Vec<u8>,
+    connection: u32,
+    proxy: u32,
+    id: i64,
+    passwd: &[u8],
+) -> Result<(), Memory>
+    ensures ok { OnOk result (out.new.items ≡ out.old.items ++ open_text connection proxy id passwd.now) }
+    ensures err { OnErr result (out.new.items ≡ out.old.items) }
+{
+    push_words(
+        out,
+        b"open",
+        &[
+            Word::Number(u64::from(connection)),
+            Word::Number(u64::from(proxy)),
+        ],
+        &[Word::Session(id), Word::Hex(passwd)],
+    )
+}
+
+/// Adds the line of a frame that came.
+fn push_frame(
+    out: &mut Vec<u8>,
+    connection: u32,
+    index: u64,
+    zxid: i64,
+    bytes: &[u8],
+) -> Result<(), Memory>
+    ensures ok { OnOk result (out.new.items ≡ out.old.items ++ frame_text connection index zxid bytes.now) }
+    ensures err { OnErr result (out.new.items ≡ out.old.items) }
+{
+    push_words(
+        out,
+        b"frame",
+        &[
+            Word::Number(u64::from(connection)),
+            Word::Number(index),
+            Word::Signed(zxid),
+        ],
+        &[Word::Hex(bytes)],
+    )
+}
+
 fn push_update(out: &mut Vec<u8>, zxid: i64, kind: UpdateKind) -> Result<(), Memory>
     ensures ok { OnOk result (out.new.items ≡ out.old.items ++ update_text zxid (kind_words kind)) }
     ensures err { OnErr result (out.new.items ≡ out.old.items) }
 {
     match kind {
         UpdateKind::Begin { now } => push_kind(out, zxid, b"begin", &[Word::Number(now)]),
-        UpdateKind::Session { id, connection } => push_kind(
-            out,
-            zxid,
-            b"session",
-            &[Word::Session(id), Word::Number(u64::from(connection))],
-        ),
-        UpdateKind::Attach { id, connection } => push_kind(
-            out,
-            zxid,
-            b"attach",
-            &[Word::Session(id), Word::Number(u64::from(connection))],
-        ),
+        UpdateKind::Session { id, connection } => {
+            push_session_kind(out, zxid, b"session", id, connection)
+        }
+        UpdateKind::Attach { id, connection } => {
+            push_session_kind(out, zxid, b"attach", id, connection)
+        }
         UpdateKind::Asked {
             connection,
             index,
@@ -125,6 +148,25 @@ fn push_kind(out: &mut Vec<u8>, zxid: i64, kind: &[u8], words: &[Word<'_>]) -> R
     )
 }
 
+/// Adds the line of an update that gave a session to a connection.
+fn push_session_kind(
+    out: &mut Vec<u8>,
+    zxid: i64,
+    kind: &[u8],
+    id: i64,
+    connection: u32,
+) -> Result<(), Memory>
+    ensures ok { OnOk result (out.new.items ≡ out.old.items ++ update_text zxid (kind.now ∷ id_text id ∷ decimal connection ∷ [])) }
+    ensures err { OnErr result (out.new.items ≡ out.old.items) }
+{
+    push_kind(
+        out,
+        zxid,
+        kind,
+        &[Word::Session(id), Word::Number(u64::from(connection))],
+    )
+}
+
 fn push_close(out: &mut Vec<u8>, connection: u32, end: &Ended) -> Result<(), Memory>
     ensures ok { OnOk result (out.new.items ≡ out.old.items ++ close_text connection (end_words end.now)) }
     ensures err { OnErr result (out.new.items ≡ out.old.items) }
@@ -160,27 +202,12 @@ fn push_cause(out: &mut Vec<u8>, connection: u32, cause: &Cause) -> Result<(), M
         ),
         Cause::AuthRefused => push_end(out, connection, b"auth", &[]),
         Cause::Unknown => push_end(out, connection, b"unknown", &[]),
-        Cause::ZxidAhead { client, head } => push_end(
-            out,
-            connection,
-            b"ahead",
-            &[Word::Signed(*client), Word::Signed(*head)],
-        ),
+        Cause::ZxidAhead { client, head } => push_two(out, connection, b"ahead", *client, *head),
         Cause::Taken { rev } => push_end(out, connection, b"taken", &[Word::Signed(*rev)]),
         Cause::Expired { rev } => push_end(out, connection, b"expired", &[Word::Signed(*rev)]),
-        Cause::Moved { mine, found } => push_end(
-            out,
-            connection,
-            b"moved",
-            &[Word::Signed(*mine), Word::Signed(*found)],
-        ),
+        Cause::Moved { mine, found } => push_two(out, connection, b"moved", *mine, *found),
         Cause::LinkFault => push_end(out, connection, b"link", &[]),
-        Cause::Lagged { cursor, floor } => push_end(
-            out,
-            connection,
-            b"lagged",
-            &[Word::Signed(*cursor), Word::Signed(*floor)],
-        ),
+        Cause::Lagged { cursor, floor } => push_two(out, connection, b"lagged", *cursor, *floor),
         Cause::FeedClosed => push_end(out, connection, b"feed", &[]),
         Cause::Damaged { key, value } => push_end(
             out,
@@ -191,6 +218,25 @@ fn push_cause(out: &mut Vec<u8>, connection: u32, cause: &Cause) -> Result<(), M
         Cause::Restart => push_end(out, connection, b"restart", &[]),
         Cause::Memory => push_end(out, connection, b"memory", &[]),
     }
+}
+
+/// Adds the line of an end that two signed numbers tell.
+fn push_two(
+    out: &mut Vec<u8>,
+    connection: u32,
+    end: &[u8],
+    first: i64,
+    second: i64,
+) -> Result<(), Memory>
+    ensures ok { OnOk result (out.new.items ≡ out.old.items ++ close_text connection (end.now ∷ signed_decimal first ∷ signed_decimal second ∷ [])) }
+    ensures err { OnErr result (out.new.items ≡ out.old.items) }
+{
+    push_end(
+        out,
+        connection,
+        end,
+        &[Word::Signed(first), Word::Signed(second)],
+    )
 }
 
 /// Adds the line of an end, by its words.
