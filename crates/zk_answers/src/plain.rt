@@ -1,13 +1,14 @@
 //! Answers that need no tree.
 
-ghost use Rattle.std.specs.Prelude.{◌≡◌, ◌&&◌, not, Some, None, if◌then◌else◌, option_map, IfOk};
-ghost use Rattle.zx_base.specs.Maps.{same};
+ghost use Rattle.std.specs.Prelude.{◌≡◌, ℤ, ◌&&◌, not, Some, None, if◌then◌else◌, option_map, IfOk};
+ghost use Rattle.zx_base.specs.Maps.{Bytes, same};
 ghost use Rattle.zk_model.specs.declared.reply.Body.TheVariants as body;
 ghost use Rattle.zk_model.specs.declared.reply.Reply.TheVariants as reply;
 ghost use Rattle.zk_service.specs.Answers.{has_valid_form, plain_request, told, told_of_path, told_of_watches, told_refusal};
 ghost use Rattle.zk_model.specs.Codes.{bad_arguments, invalid_acl};
 ghost use Rattle.zk_model.specs.Paths.{is_path, is_sequence_prefix, root};
-ghost use Rattle.zk_model.specs.Single.{or_else, path_refusal, is_create_mode, is_sequential};
+ghost use Rattle.zk_model.specs.declared.request.Part.TheVariants as part;
+ghost use Rattle.zk_model.specs.Single.{form_refusal, or_else, path_refusal, is_create_mode, is_sequential};
 ghost use Rattle.zk_model.specs.Access.{is_open_acl};
 ghost use Rattle.zk_answers.specs.Outcomes.{told_of};
 
@@ -77,6 +78,30 @@ fn told_of_path(alloc: Global, watches: &Watches, text: &[u8]) -> Result<Option<
     Ok(told_refusal(alloc, watches, code)?)
 }
 
+/// The answer to a create, with or without Stat, where its form is not valid.
+#[tactic(auto, unfolding(zk_model::specs::Single::form_refusal))]
+fn told_of_create(
+    alloc: Global,
+    watches: &Watches,
+    text: &[u8],
+    acl: &[Acl],
+    flags: i32,
+) -> Result<Option<Told>, Memory>
+    ensures { IfOk result (λ o. (content : Bytes) → option_map told_of o ≡ told_refusal watches.now (form_refusal (part.Create text.now content acl.now flags))) }
+{
+    let code = create_refusal(alloc, text, acl, flags)?;
+    Ok(told_refusal(alloc, watches, code)?)
+}
+
+/// The answer to a delete where its form is not valid.
+#[tactic(auto, unfolding(zk_model::specs::Single::form_refusal))]
+fn told_of_delete(alloc: Global, watches: &Watches, text: &[u8]) -> Result<Option<Told>, Memory>
+    ensures { IfOk result (λ o. (version : ℤ) → option_map told_of o ≡ told_refusal watches.now (form_refusal (part.Delete text.now version))) }
+{
+    let code = delete_refusal(alloc, text)?;
+    Ok(told_refusal(alloc, watches, code)?)
+}
+
 fn told_done(alloc: Global, watches: &Watches) -> Result<Option<Told>, Memory>
     ensures { IfOk result (λ o. option_map told_of o ≡ told watches.now (reply.Good body.Empty)) }
 {
@@ -133,11 +158,9 @@ pub fn plain_request(
         Request::Ping => Ok(told_done(alloc, watches)?),
         Request::Auth { scheme, .. } if scheme.is(b"digest") => Ok(told_done(alloc, watches)?),
         Request::Auth { .. } => Ok(told_refusal(alloc, watches, Some(AUTH_FAILED))?),
-        Request::Multi { parts } if MAX_PARTS < parts.len() => Ok(told_refusal(
-            alloc,
-            watches,
-            Some(BAD_ARGUMENTS),
-        )?),
+        Request::Multi { parts } if MAX_PARTS < parts.len() => {
+            told_refusal(alloc, watches, Some(BAD_ARGUMENTS))
+        }
         Request::Create {
             path,
             acl,
@@ -149,14 +172,8 @@ pub fn plain_request(
             acl,
             flags,
             ..
-        } => {
-            let code = create_refusal(alloc, path.as_slice(), acl.as_slice(), *flags)?;
-            Ok(told_refusal(alloc, watches, code)?)
-        }
-        Request::Delete { path, .. } => {
-            let code = delete_refusal(alloc, path.as_slice())?;
-            Ok(told_refusal(alloc, watches, code)?)
-        }
+        } => told_of_create(alloc, watches, path.as_slice(), acl.as_slice(), *flags),
+        Request::Delete { path, .. } => told_of_delete(alloc, watches, path.as_slice()),
         Request::SetData { path, .. }
         | Request::Check { path, .. }
         | Request::Exists { path, .. }
@@ -165,20 +182,12 @@ pub fn plain_request(
         | Request::GetChildren { path, .. }
         | Request::GetChildren2 { path, .. }
         | Request::Sync { path } => Ok(told_of_path(alloc, watches, path.as_slice())?),
-        Request::CheckWatches { path, kind } => Ok(told_of_watches(
-            alloc,
-            watches,
-            path.as_slice(),
-            *kind,
-            false,
-        )?),
-        Request::RemoveWatches { path, kind } => Ok(told_of_watches(
-            alloc,
-            watches,
-            path.as_slice(),
-            *kind,
-            true,
-        )?),
+        Request::CheckWatches { path, kind } => {
+            told_of_watches(alloc, watches, path.as_slice(), *kind, false)
+        }
+        Request::RemoveWatches { path, kind } => {
+            told_of_watches(alloc, watches, path.as_slice(), *kind, true)
+        }
         Request::Multi { .. } | Request::SetWatches { .. } | Request::Close => Ok(None),
     }
 }

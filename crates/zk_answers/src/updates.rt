@@ -1,13 +1,15 @@
 //! What the tree answers: reads, and refusals of updates.
 
-ghost use Rattle.std.specs.Prelude.{◌≡◌, Some, option_map, pos, IfOk, IfErr};
+ghost use Rattle.std.specs.Prelude.{◌≡◌, Some, option_map, pos, IfOk, IfErr, IsTrue};
 ghost use Rattle.zk_model.specs.declared.reply.Body.TheVariants as body;
 ghost use Rattle.zk_model.specs.declared.reply.Reply.TheVariants as reply;
 ghost use Rattle.zk_service.specs.Answers.{told, checked, refusal_of, refusal_of_several, rearmed, tree_reply};
+ghost use Rattle.zk_model.specs.Watches.{set_watches};
 ghost use Rattle.zk_model.specs.Znodes.{Tree as Nodes};
 ghost use Rattle.zk_machine.specs.Faults.{BeyondUnless};
 ghost use Rattle.zk_machine.specs.Outcomes.{outcome_of, several_as};
 ghost use Rattle.zk_answers.specs.Fits.{FitsRequest};
+ghost use Rattle.zk_answers.specs.Kinds.{is_update};
 ghost use Rattle.zk_answers.specs.Outcomes.{seen_of, told_of};
 
 use crate::reads::{exists, get_acl, get_children, get_children2, get_data};
@@ -20,7 +22,7 @@ use zk_machine::{
     single_set_data,
 };
 use zk_model::{Body, Reply, Request};
-use zx_base::{Memory, Text};
+use zx_base::{Memory, Seq, Text};
 
 /// The refusal of an update; one that succeeds is not answered here, but by what it commits.
 fn refusal_of(alloc: Global, watches: &Watches, outcome: Outcome) -> Result<Option<Told>, Memory>
@@ -74,6 +76,30 @@ fn rearmed(seen: Seen) -> Told
     }
 }
 
+/// The answer to a setWatches: it tells and arms what a client missed since `since`, a zxid.
+fn rearm(
+    alloc: Global,
+    tree: &Tree,
+    watches: &Watches,
+    since: i64,
+    datas: &Seq<Text>,
+    exists: &Seq<Text>,
+    children: &Seq<Text>,
+) -> Result<Told, Memory>
+    ensures { IfOk result (λ t. Some (told_of t) ≡ rearmed (set_watches tree.now since datas.now exists.now children.now watches.now)) }
+{
+    let seen = set_watches(
+        alloc,
+        tree,
+        since,
+        datas.as_slice(),
+        exists.as_slice(),
+        children.as_slice(),
+        watches,
+    )?;
+    Ok(rearmed(seen))
+}
+
 /// The turn of an update of which only a refusal is asked: that depends on neither its zxid nor its time.
 fn looking(limit: usize, session: i64) -> Turn
     ensures { (result.limit ≡ limit) × (result.session ≡ session) × (result.zxid ≡ pos 0) × (result.time ≡ 0) }
@@ -83,6 +109,58 @@ fn looking(limit: usize, session: i64) -> Turn
         session,
         zxid: 0,
         time: 0,
+    }
+}
+
+/// The refusal of a create, with or without Stat, a delete or a setData; one that succeeds has none.
+#[tactic(auto, unfolding(zk_service::specs::Answers::tree_reply))]
+fn update_refusal(
+    alloc: Global,
+    tree: &Tree,
+    limit: usize,
+    session: i64,
+    watches: &Watches,
+    request: &Request,
+) -> Result<Option<Told>, Fault>
+    requires update { IsTrue (is_update request.now) }
+    ensures ok { IfOk result (λ o. option_map told_of o ≡ tree_reply tree.now limit session watches.now request.now) }
+    ensures beyond { IfErr result (BeyondUnless (FitsRequest tree.now limit session request.now (pos 0) 0)) }
+{
+    let turn = looking(limit, session);
+    match request {
+        Request::Create {
+            path,
+            content,
+            acl,
+            flags,
+        }
+        | Request::Create2 {
+            path,
+            content,
+            acl,
+            flags,
+        } => {
+            let path = path.as_slice();
+            let content = content.as_slice();
+            let acl = acl.as_slice();
+            let outcome = single_create(alloc, tree, &turn, path, content, acl, *flags)?;
+            Ok(refusal_of(alloc, watches, outcome)?)
+        }
+        Request::Delete { path, version } => {
+            let outcome = single_delete(alloc, tree, &turn, path.as_slice(), *version)?;
+            Ok(refusal_of(alloc, watches, outcome)?)
+        }
+        Request::SetData {
+            path,
+            content,
+            version,
+        } => {
+            let path = path.as_slice();
+            let content = content.as_slice();
+            let outcome = single_set_data(alloc, tree, &turn, path, content, *version)?;
+            Ok(refusal_of(alloc, watches, outcome)?)
+        }
+        _ => unreachable!(),
     }
 }
 
@@ -117,63 +195,16 @@ pub fn tree_reply(
             exists,
             datas,
             children,
-        } => {
-            let seen = set_watches(
-                alloc,
-                tree,
-                *relative,
-                datas.as_slice(),
-                exists.as_slice(),
-                children.as_slice(),
-                watches,
-            )?;
-            Ok(Some(rearmed(seen)))
-        }
+        } => Ok(Some(rearm(alloc, tree, watches, *relative, datas, exists, children)?)),
         Request::Check { path, version } => {
             let outcome = single_check(alloc, tree, &turn, path.as_slice(), *version)?;
             Ok(Some(checked(alloc, watches, outcome)?))
         }
-        Request::Create {
-            path,
-            content,
-            acl,
-            flags,
-        }
-        | Request::Create2 {
-            path,
-            content,
-            acl,
-            flags,
-        } => {
-            let outcome = single_create(
-                alloc,
-                tree,
-                &turn,
-                path.as_slice(),
-                content.as_slice(),
-                acl.as_slice(),
-                *flags,
-            )?;
-            Ok(refusal_of(alloc, watches, outcome)?)
-        }
-        Request::Delete { path, version } => {
-            let outcome = single_delete(alloc, tree, &turn, path.as_slice(), *version)?;
-            Ok(refusal_of(alloc, watches, outcome)?)
-        }
-        Request::SetData {
-            path,
-            content,
-            version,
-        } => {
-            let outcome = single_set_data(
-                alloc,
-                tree,
-                &turn,
-                path.as_slice(),
-                content.as_slice(),
-                *version,
-            )?;
-            Ok(refusal_of(alloc, watches, outcome)?)
+        Request::Create { .. }
+        | Request::Create2 { .. }
+        | Request::Delete { .. }
+        | Request::SetData { .. } => {
+            update_refusal(alloc, tree, limit, session, watches, request)
         }
         Request::Multi { parts } => {
             let transaction = several(alloc, tree, &turn, parts.as_slice())?;
