@@ -2,6 +2,8 @@
 
 ghost use Rattle.std.specs.Prelude.{◌≡◌, ◌≤◌, length, option_map, IfOk, IfErr};
 ghost use Rattle.zk_service.specs.States.{commit_single, commit_several, commit_with_stat, commit, made_stat};
+ghost use Rattle.zk_model.specs.declared.request.Part.TheVariants as parts;
+ghost use Rattle.zk_model.specs.declared.request.Request.TheVariants as requests;
 ghost use Rattle.zk_model.specs.Single.{single};
 ghost use Rattle.zk_model.specs.Multi.{several};
 ghost use Rattle.zk_model.specs.Znodes.{Tree as Nodes};
@@ -14,8 +16,9 @@ use crate::outcome::{Change, Commit};
 use std::alloc::Global;
 use zk_machine::{Fault, Outcome, Transaction, Tree, Turn, several, single};
 use zk_model::flags::owner_of;
-use zk_model::{Body, Part, Request, Stat};
+use zk_model::{Acl, Body, Part, Request, Stat};
 use zk_service::{body_with_stat, response_of};
+use zx_base::{Bytes, Seq, Text};
 
 /// The Stat of the node that a create makes; `Beyond` where its data are too long for an `int`.
 fn made_stat(content: &[u8], flags: i32, turn: &Turn) -> Result<Stat, Fault>
@@ -101,6 +104,30 @@ fn commit_with_stat(
     Ok(done_with_stat(single(alloc, tree, turn, part)?, stat))
 }
 
+/// What a create2 does, where it is not refused.
+#[tactic(auto, unfolding(zk_service::specs::States::commit))]
+fn commit_create2(
+    alloc: Global,
+    tree: &Tree,
+    turn: &Turn,
+    path: Text,
+    content: Bytes,
+    acl: Seq<Acl>,
+    flags: i32,
+) -> Result<Option<Commit>, Fault>
+    ensures ok { IfOk result (λ o. option_map (commit_of tree.now) o ≡ commit tree.now turn.now.limit turn.now.session (requests.Create2 path content acl flags) turn.now.zxid turn.now.time) }
+    ensures beyond { IfErr result (BeyondUnless (PartFits tree.now (parts.Create path content acl flags))) }
+{
+    let stat = made_stat(content.as_slice(), flags, turn)?;
+    let part = Part::Create {
+        path,
+        content,
+        acl,
+        flags,
+    };
+    Ok(commit_with_stat(alloc, tree, turn, &part, stat)?)
+}
+
 /// What a transaction does, where all its parts succeed.
 fn all_done(transaction: Transaction) -> Option<Commit>
     ensures { (t : Nodes) → option_map (commit_of t) result ≡ commit_several (several_as t transaction) }
@@ -164,16 +191,7 @@ pub fn commit(
             content,
             acl,
             flags,
-        } => {
-            let stat = made_stat(content.as_slice(), flags, turn)?;
-            let part = Part::Create {
-                path,
-                content,
-                acl,
-                flags,
-            };
-            Ok(commit_with_stat(alloc, tree, turn, &part, stat)?)
-        }
+        } => commit_create2(alloc, tree, turn, path, content, acl, flags),
         Request::Delete { path, version } => {
             let part = Part::Delete { path, version };
             Ok(commit_single(alloc, tree, turn, &part)?)
