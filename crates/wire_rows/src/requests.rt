@@ -5,7 +5,7 @@ use row_files::{Piece, bytes_of, hex_of, joined, push, push_word, word_of};
 use std::alloc::Global;
 use zk_model::{Acl, Part, Request};
 use zk_wire::{WireFault, read_request, request_can_be_sent, write_request};
-use zx_base::{Memory, Text};
+use zx_base::{Bytes, Memory, Seq, Text};
 
 /// The fields of a request's packet, or its fault. Fields have their names of zookeeper.jute; bytes are hex, `-` for none.
 pub fn read(alloc: Global, packet: &str) -> Result<Option<String>, Memory> {
@@ -121,27 +121,13 @@ fn said_of(alloc: Global, request: &Request) -> Result<String, Memory> {
             content,
             acl,
             flags,
-        } => made(
-            alloc,
-            "create path ",
-            path,
-            content.as_slice(),
-            acl.as_slice(),
-            *flags,
-        ),
+        } => made(alloc, "create path ", path, content, acl, *flags),
         Request::Create2 {
             path,
             content,
             acl,
             flags,
-        } => made(
-            alloc,
-            "create2 path ",
-            path,
-            content.as_slice(),
-            acl.as_slice(),
-            *flags,
-        ),
+        } => made(alloc, "create2 path ", path, content, acl, *flags),
         Request::CheckWatches { path, kind } => typed(alloc, "checkWatches path ", path, *kind),
         Request::RemoveWatches { path, kind } => typed(alloc, "removeWatches path ", path, *kind),
         Request::Delete { path, version } => versioned(alloc, "delete path ", path, *version),
@@ -159,37 +145,29 @@ fn said_of(alloc: Global, request: &Request) -> Result<String, Memory> {
         Request::Ping => Ok(String::from_str(alloc, "ping")?),
         Request::Check { path, version } => versioned(alloc, "check path ", path, *version),
         Request::Multi { parts } => parts_of(alloc, parts.as_slice()),
-        Request::Auth { kind, scheme, auth } => {
-            authorized(alloc, *kind, scheme, auth.as_slice())
-        }
+        Request::Auth { kind, scheme, auth } => authorized(alloc, *kind, scheme, auth),
         Request::SetWatches {
             relative,
             exists,
             datas,
             children,
-        } => {
-            let mut all = format!(in alloc; "setWatches relativeZxid {relative}")?;
-            push_lists(
-                &mut all,
-                datas.as_slice(),
-                exists.as_slice(),
-                children.as_slice(),
-            )?;
-            Ok(all)
-        }
+        } => listed(alloc, *relative, datas, exists, children),
         Request::Close => Ok(String::from_str(alloc, "closeSession")?),
     }
 }
 
-fn push_lists(
-    all: &mut String,
-    datas: &[Text],
-    exists: &[Text],
-    children: &[Text],
-) -> Result<(), Memory> {
-    push_texts(all, "dataWatches", datas)?;
-    push_texts(all, "existWatches", exists)?;
-    push_texts(all, "childWatches", children)
+fn listed(
+    alloc: Global,
+    relative: i64,
+    datas: &Seq<Text>,
+    exists: &Seq<Text>,
+    children: &Seq<Text>,
+) -> Result<String, Memory> {
+    let mut all = format!(in alloc; "setWatches relativeZxid {relative}")?;
+    push_texts(&mut all, "dataWatches", datas.as_slice())?;
+    push_texts(&mut all, "existWatches", exists.as_slice())?;
+    push_texts(&mut all, "childWatches", children.as_slice())?;
+    Ok(all)
 }
 
 fn named<'a>(alloc: Global, name: &'a str, path: &'a Text) -> Result<String, Memory> {
@@ -241,12 +219,12 @@ fn made(
     alloc: Global,
     name: &str,
     path: &Text,
-    content: &[u8],
-    entries: &[Acl],
+    content: &Bytes,
+    entries: &Seq<Acl>,
     flags: i32,
 ) -> Result<String, Memory> {
-    let digits = hex_of(alloc, content)?;
-    let acl = acls_of(alloc, entries)?;
+    let digits = hex_of(alloc, content.as_slice())?;
+    let acl = acls_of(alloc, entries.as_slice())?;
     made_text(
         alloc,
         name,
@@ -300,8 +278,8 @@ fn filled_text<'a>(
     joined(alloc, &pieces)
 }
 
-fn authorized(alloc: Global, kind: i32, scheme: &Text, auth: &[u8]) -> Result<String, Memory> {
-    let auth = hex_of(alloc, auth)?;
+fn authorized(alloc: Global, kind: i32, scheme: &Text, auth: &Bytes) -> Result<String, Memory> {
+    let auth = hex_of(alloc, auth.as_slice())?;
     let pieces = [
         Piece::Text("auth type "),
         Piece::Number(i64::from(kind)),
@@ -354,14 +332,7 @@ fn part_of(alloc: Global, part: &Part) -> Result<String, Memory> {
             content,
             acl,
             flags,
-        } => made(
-            alloc,
-            "create path ",
-            path,
-            content.as_slice(),
-            acl.as_slice(),
-            *flags,
-        ),
+        } => made(alloc, "create path ", path, content, acl, *flags),
         Part::Delete { path, version } => versioned(alloc, "delete path ", path, *version),
         Part::SetData {
             path,

@@ -9,7 +9,7 @@ use std::alloc::Global;
 use zk_model::{Acl, ConnectRequest, Part, Request};
 use zk_wire::{WireFault, read_connect, read_request};
 use zt_text::push_hex;
-use zx_base::{Memory, Seq, Text};
+use zx_base::{Bytes, Memory, Seq, Text};
 
 /// Adds the words of a connection's first frame, and says whether it has some.
 pub fn push_first(alloc: Global, line: &mut Vec<u8>, frame: &[u8]) -> Result<bool, Memory> {
@@ -67,27 +67,13 @@ fn push_request(line: &mut Vec<u8>, request: &Request) -> Result<(), Memory> {
             content,
             acl,
             flags,
-        } => push_create(
-            line,
-            b"create",
-            path,
-            content.as_slice(),
-            acl.as_slice(),
-            *flags,
-        ),
+        } => push_create(line, b"create", path, content, acl, *flags),
         Request::Create2 {
             path,
             content,
             acl,
             flags,
-        } => push_create(
-            line,
-            b"create2",
-            path,
-            content.as_slice(),
-            acl.as_slice(),
-            *flags,
-        ),
+        } => push_create(line, b"create2", path, content, acl, *flags),
         Request::Delete { path, version } => push_versioned(line, b"delete", path, *version),
         Request::Exists { path, watch } => push_watching(line, b"exists", path, *watch),
         Request::GetData { path, watch } => push_watching(line, b"getData", path, *watch),
@@ -103,11 +89,7 @@ fn push_request(line: &mut Vec<u8>, request: &Request) -> Result<(), Memory> {
         Request::Ping => push_word(line, b"ping"),
         Request::Check { path, version } => push_versioned(line, b"check", path, *version),
         Request::Multi { parts } => push_multi(line, parts.as_slice()),
-        Request::Auth { kind, scheme, auth } => {
-            push_number_after(line, b"auth", i64::from(*kind))?;
-            push_text(line, scheme.as_slice())?;
-            push_text(line, auth.as_slice())
-        }
+        Request::Auth { kind, scheme, auth } => push_auth(line, *kind, scheme, auth),
         Request::SetWatches {
             relative,
             exists,
@@ -138,14 +120,7 @@ fn push_part(line: &mut Vec<u8>, part: &Part) -> Result<(), Memory> {
             content,
             acl,
             flags,
-        } => push_create(
-            line,
-            b"create",
-            path,
-            content.as_slice(),
-            acl.as_slice(),
-            *flags,
-        ),
+        } => push_create(line, b"create", path, content, acl, *flags),
         Part::Delete { path, version } => push_versioned(line, b"delete", path, *version),
         Part::SetData {
             path,
@@ -160,13 +135,18 @@ fn push_create(
     line: &mut Vec<u8>,
     name: &[u8],
     path: &Text,
-    content: &[u8],
-    acl: &[Acl],
+    content: &Bytes,
+    acl: &Seq<Acl>,
     flags: i32,
 ) -> Result<(), Memory> {
     push_text_after(line, name, path.as_slice())?;
-    push_text(line, content)?;
+    push_text(line, content.as_slice())?;
     push_flags(line, flags)?;
+    push_acl(line, acl.as_slice())
+}
+
+/// Adds an access list, and nothing where it is the open one.
+fn push_acl(line: &mut Vec<u8>, acl: &[Acl]) -> Result<(), Memory> {
     if is_open(acl) {
         return Ok(());
     }
@@ -194,6 +174,12 @@ fn is_open(acl: &[Acl]) -> bool {
         [entry] => entry.perms == 31 && entry.scheme.is(b"world") && entry.id.is(b"anyone"),
         _ => false,
     }
+}
+
+fn push_auth(line: &mut Vec<u8>, kind: i32, scheme: &Text, auth: &Bytes) -> Result<(), Memory> {
+    push_number_after(line, b"auth", i64::from(kind))?;
+    push_text(line, scheme.as_slice())?;
+    push_text(line, auth.as_slice())
 }
 
 fn push_set(line: &mut Vec<u8>, path: &Text, content: &[u8], version: i32) -> Result<(), Memory> {
