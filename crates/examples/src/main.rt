@@ -25,7 +25,7 @@ mod stories;
 
 use crate::compare::first_difference;
 use crate::files::{bytes_beside, bytes_of, exists, names_in, number_of};
-use crate::run::Run;
+use crate::run::{Failing, Run};
 use crate::stories::{script_problem, words_problem};
 use anyhow::{Result, bail};
 use ev_shared::StoreLink;
@@ -324,29 +324,64 @@ fn outcome_of<
         input,
         pieces,
         failing,
-        sink_failing,
-        net_failing,
-        start_failing,
-        call_failing,
         status: wanted,
         output,
     } = Run::read(alloc, text.as_slice())?;
+    let words = words_of(alloc, owned.as_slice())?;
+    let (status, out) = carry_out(rt, words.as_slice(), input, pieces, failing)?;
+    if let Some(at) = first_difference(out.bytes(), output.as_slice()) {
+        return Ok(Some(format!(in alloc; "at byte {at}")?));
+    }
+    if status != wanted {
+        return other_status(alloc, status, wanted);
+    }
+    if wanted != 0 || words.first() != Some(&"replay") {
+        return Ok(None);
+    }
+    match verdict_on(alloc, output)? {
+        Some(verdict) => Ok(Some(format!(in alloc; "in its verdict, {verdict}")?)),
+        None => Ok(None),
+    }
+}
+
+fn words_of<'a>(alloc: Global, owned: &'a [String]) -> Result<Vec<&'a str>> {
     let mut words = Vec::new(alloc);
-    for word in &owned {
+    for word in owned {
         words.push(word.as_str())?;
     }
-    let mut source = MemSource::new(input, pieces, failing);
-    let mut out = MemSink::new(alloc, sink_failing);
-    let mut net = MemNet::new(alloc, net_failing, Vec::new(alloc));
+    Ok(words)
+}
+
+/// Runs the top call on these words and this input. Gives its status, and what it wrote.
+fn carry_out<
+    R: Files + Eprint + AllocGlobal + Clock + Threads + Wait + Copy + Send + Drop + 'static,
+>(
+    rt: &R,
+    words: &[&str],
+    input: Vec<u8>,
+    pieces: Vec<u32>,
+    failing: Failing,
+) -> Result<(u64, MemSink)> {
+    let alloc = rt.alloc();
+    let Failing {
+        reads,
+        writes,
+        net: turns,
+        starts,
+        calls,
+    } = failing;
     let Ok(store) = Store::new(alloc) else {
         bail!("no store");
     };
-    let mut cluster = StoreLink::new(store, call_failing);
-    let mut spawner = InlineSpawner::<R>::new(start_failing);
+    let mut source = MemSource::new(input, pieces, reads);
+    let mut out = MemSink::new(alloc, writes);
+    let mut net = MemNet::new(alloc, turns, Vec::new(alloc));
+    let mut cluster = StoreLink::new(store, calls);
+    let mut spawner = InlineSpawner::<R>::new(starts);
     let status = zetcd(
         rt,
         alloc,
-        words.as_slice(),
+        words,
         &mut source,
         &mut out,
         &mut net,
@@ -356,17 +391,5 @@ fn outcome_of<
         &mut MemRandom::new(Vec::new(alloc)),
     )
     .number();
-    if let Some(at) = first_difference(out.bytes(), output.as_slice()) {
-        return Ok(Some(format!(in alloc; "at byte {at}")?));
-    }
-    if u64::from(status) != wanted {
-        return other_status(alloc, u64::from(status), wanted);
-    }
-    if wanted != 0 || words.first() != Some(&"replay") {
-        return Ok(None);
-    }
-    match verdict_on(alloc, output)? {
-        Some(verdict) => Ok(Some(format!(in alloc; "in its verdict, {verdict}")?)),
-        None => Ok(None),
-    }
+    Ok((u64::from(status), out))
 }

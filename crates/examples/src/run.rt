@@ -24,13 +24,35 @@ pub struct Run {
     pub words: Vec<String>,
     pub input: Vec<u8>,
     pub pieces: Vec<u32>,
-    pub failing: Vec<u64>,
-    pub sink_failing: Vec<u64>,
-    pub net_failing: Vec<u64>,
-    pub start_failing: Vec<u64>,
-    pub call_failing: Vec<u64>,
+    pub failing: Failing,
     pub status: u64,
     pub output: Vec<u8>,
+}
+
+/// The calls of each kind that fail, by their numbers from 1.
+#[derive(Drop)]
+pub struct Failing {
+    pub reads: Vec<u64>,
+    pub writes: Vec<u64>,
+    /// Binds and accepts.
+    pub net: Vec<u64>,
+    /// Starts of jobs.
+    pub starts: Vec<u64>,
+    /// Calls of the etcd.
+    pub calls: Vec<u64>,
+}
+
+impl Failing {
+    /// No call fails.
+    fn none(alloc: Global) -> Failing {
+        Failing {
+            reads: Vec::new(alloc),
+            writes: Vec::new(alloc),
+            net: Vec::new(alloc),
+            starts: Vec::new(alloc),
+            calls: Vec::new(alloc),
+        }
+    }
 }
 
 impl Run {
@@ -40,11 +62,7 @@ impl Run {
             words: Vec::new(alloc),
             input: Vec::new(alloc),
             pieces: Vec::new(alloc),
-            failing: Vec::new(alloc),
-            sink_failing: Vec::new(alloc),
-            net_failing: Vec::new(alloc),
-            start_failing: Vec::new(alloc),
-            call_failing: Vec::new(alloc),
+            failing: Failing::none(alloc),
             status: 0,
             output: Vec::new(alloc),
         };
@@ -64,36 +82,16 @@ impl Run {
     fn take(&mut self, alloc: Global, word: &str, rest: &str) -> Result<()> {
         match word {
             "#" => Ok(()),
-            "words" => {
-                for one in rest.split(' ') {
-                    self.words.push(String::from_str(alloc, one)?)?;
-                }
-                Ok(())
-            }
+            "words" => self.take_words(alloc, rest),
             "status" => {
                 self.status = number(rest)?;
                 Ok(())
             }
-            "fails" => {
-                self.failing.push(number(rest)?)?;
-                Ok(())
-            }
-            "sink-fails" => {
-                self.sink_failing.push(number(rest)?)?;
-                Ok(())
-            }
-            "net-fails" => {
-                self.net_failing.push(number(rest)?)?;
-                Ok(())
-            }
-            "start-fails" => {
-                self.start_failing.push(number(rest)?)?;
-                Ok(())
-            }
-            "call-fails" => {
-                self.call_failing.push(number(rest)?)?;
-                Ok(())
-            }
+            "fails" => add_number(&mut self.failing.reads, rest),
+            "sink-fails" => add_number(&mut self.failing.writes, rest),
+            "net-fails" => add_number(&mut self.failing.net, rest),
+            "start-fails" => add_number(&mut self.failing.starts, rest),
+            "call-fails" => add_number(&mut self.failing.calls, rest),
             "pieces" => self.take_pieces(rest),
             "input" => add_line(&mut self.input, rest),
             "input-" => add(&mut self.input, rest),
@@ -112,6 +110,14 @@ impl Run {
         }
     }
 
+    /// Adds words of the command line.
+    fn take_words(&mut self, alloc: Global, words: &str) -> Result<()> {
+        for word in words.split(' ') {
+            self.words.push(String::from_str(alloc, word)?)?;
+        }
+        Ok(())
+    }
+
     /// Adds reads of one size.
     fn take_pieces(&mut self, rest: &str) -> Result<()> {
         let Some((count, size)) = rest.split_once(' ') else {
@@ -123,6 +129,12 @@ impl Run {
         }
         Ok(())
     }
+}
+
+/// Adds the number that a text spells.
+fn add_number(numbers: &mut Vec<u64>, text: &str) -> Result<()> {
+    numbers.push(number(text)?)?;
+    Ok(())
 }
 
 /// The size that a text spells.
