@@ -2,3 +2,4 @@ pub mod Sessions
 pub mod Answering
 pub mod Connecting
 pub mod Alive
+pub mod Laws
