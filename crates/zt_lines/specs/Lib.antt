@@ -3,3 +3,4 @@ pub mod Lines
 pub mod Transcripts
 pub mod Outcomes
 pub mod Readable
+pub mod Laws
