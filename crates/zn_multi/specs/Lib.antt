@@ -3,3 +3,4 @@ pub mod Carrying
 pub mod Leading
 pub mod Reading
 pub mod Deciding
+pub mod Laws
