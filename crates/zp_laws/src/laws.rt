@@ -6,21 +6,7 @@ ghost use Rattle.zp_laws.specs.Honest.{PastIsRecords, PresentIsRecords, RecordsA
 ghost use Rattle.zp_laws.specs.Planning.{PlansAreMadeNow};
 ghost use Rattle.zp_laws.specs.Walking.{PlansAreBound, SendsAreWalks};
 ghost use Rattle.zp_laws.specs.Welcomes.{ConnectsAre};
-ghost use Rattle.std.specs.Prelude.{◌≡◌, ℕ, ℤ, pos, ◌≤ℤ◌, ◌<ℤ◌, true, List, length, Some};
-ghost use Rattle.std.specs.List.{list_all};
-ghost use Rattle.ev_types.specs.declared.answer.Kv.{Kv as KeyValue};
-ghost use Rattle.ev_types.specs.Ranges.{Keys};
-ghost use Rattle.ev_types.specs.Store.{holds, last_revision};
-ghost use Rattle.zk_model.specs.declared.connect.ConnectRequest.{ConnectRequest};
-ghost use Rattle.zk_transcript.specs.declared.transcript.TranscriptLine.{TranscriptLine};
-ghost use Rattle.zk_service.specs.States.{State, IsSound, granted_timeout};
-ghost use Rattle.zk_transcript.specs.History.{connect, opening};
-ghost use Rattle.zn_layout.specs.declared.record.LeaseRec.{LeaseRec};
-ghost use Rattle.zn_layout.specs.Records.{IsLeaseRec, lease_value};
-ghost use Rattle.zn_layout.specs.StandsFor.{StandsFor, at};
-ghost use Rattle.zs_session.specs.declared.connect.Fresh.{Fresh as AnyFresh};
-ghost use Rattle.zp_laws.specs.Opening.{IsOpened, IsAttachedAnew};
-ghost use Rattle.zs_session.specs.Sessions.{attach_guards, attach_txn, life_key, new_session_guards, new_session_txn};
+ghost use Rattle.zp_laws.specs.Opening.{ANewSessionCommits, ASessionIsAttached};
 
 /// What a step of an attached connection asks is what its stage has out, and what the stage rests on is true of the store:
 /// a plan was made on a view of one of its revisions and guards what was seen there. The request that is asked for has no
@@ -80,12 +66,12 @@ pub fn honest_values_are_records()
 /// after the transaction the keys stand for the state after the session's line. The connection was opened with this number and
 /// password, and sent this connect.
 pub fn a_new_session_commits()
-    ensures { (f : AnyFresh) (r : ConnectRequest) (before : List TranscriptLine) (c : ℕ) (m : Keys) (s : State) (z : ℤ) → pos 1 ≤ℤ f.id → length f.passwd ≡ 16 → opening c before ≡ Some (f.id, f.passwd) → connect c before ≡ Some r → IsSound s → StandsFor m s → list_all (holds m) (new_session_guards f.id) ≡ true → s.zxid <ℤ z → z ≤ℤ last_revision → IsOpened before s z f.id c m (new_session_txn f (granted_timeout r.timeout)) }
+    ensures { ANewSessionCommits }
 {}
 
 /// Where the guard of an attachment holds in keys that stand for a state, the session lives there, with the timeout and the
 /// password of the record that was seen, and after the transaction the keys stand for the state after the attachment's line. What
 /// is kept at the revision that was seen has to be the record that was seen.
 pub fn a_session_is_attached()
-    ensures { (id seen : ℤ) (life : LeaseRec) (before : List TranscriptLine) (c : ℕ) (m : Keys) (s : State) (z : ℤ) → pos 1 ≤ℤ id → pos 1 ≤ℤ seen → IsLeaseRec life → StandsFor m s → ((kv : KeyValue) → at m (life_key id) ≡ Some kv → kv.mod_revision ≡ seen → kv.value ≡ lease_value life) → list_all (holds m) (attach_guards id seen) ≡ true → s.zxid <ℤ z → z ≤ℤ last_revision → IsAttachedAnew before s z id c m (attach_txn id seen life) seen life }
+    ensures { ASessionIsAttached }
 {}
