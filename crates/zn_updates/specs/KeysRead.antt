@@ -1,5 +1,5 @@
 -- The keys that each request looks up.
-use Rattle.std.specs.Prelude.{◌≡◌, ℕ, ℤ, pos, nat_abs, Bool, List, [], ◌∷◌, ◌++◌, Option, Some, None, if◌then◌else◌}
+use Rattle.std.specs.Prelude.{◌≡◌, ℕ, ℤ, pos, nat_abs, Bool, List, [], ◌∷◌, ◌++◌, Option, Some, None, map, if◌then◌else◌}
 use Rattle.std.specs.Ordering.{int_eq}
 use Rattle.ev_types.specs.declared.answer.Kv.{Kv}
 use Rattle.zk_model.specs.Paths.{sequence_path}
@@ -8,6 +8,8 @@ use Rattle.zn_layout.specs.declared.record.NodeRec.{NodeRec}
 use Rattle.zn_layout.specs.Keys.{Key, HeadKey, DataKey, CountsKey, SessionKey, LeaseKey, key_bytes}
 use Rattle.zn_layout.specs.Reading.{IsValueOf}
 use Rattle.zn_layout.specs.Records.{node_value, IsNodeRec}
+use Rattle.zn_view.specs.declared.want.Want.{Want}
+use Rattle.zn_view.specs.Lacking.{lacking}
 use Rattle.zn_view.specs.Needs.{IsCreatesSeen}
 use Rattle.zn_view.specs.Seen.{View, seen}
 use Rattle.zn_view.specs.Views.{about_path, about_parent, counts_of_parent}
@@ -54,6 +56,16 @@ plain_data sequential path = if sequential then [] else DataKey path ∷ []
 abbrev pub session_nodes : Bool → ℤ → List Key
 session_nodes ephemeral id = if ephemeral then SessionKey (nat_abs id) ∷ [] else []
 
+-- these keys, with those of a new node and of its session
+abbrev pub with_own : List Bytes → Bool → Bool → Bytes → ℤ → Option ℕ → List Bytes
+with_own ks sequential ephemeral path id creates =
+    ((ks ++ map key_bytes (plain_data sequential path)) ++ map key_bytes (session_nodes ephemeral id)) ++ map key_bytes (numbered sequential path creates)
+
 abbrev pub create_keys : Bool → Bool → Bytes → Option Bytes → ℤ → Option ℕ → List Key
 create_keys sequential ephemeral path q id creates =
     start_keys id ++ (((about_parent q ++ plain_data sequential path) ++ session_nodes ephemeral id) ++ numbered sequential path creates)
+
+-- these are the wants of a create's keys, by the creates that the view saw of its parent
+abbrev pub AreCreateWants : View → Bool → Bool → Bytes → Option Bytes → ℤ → List Want → Type 0
+AreCreateWants v sequential ephemeral path q id ws =
+    (creates : Option ℕ) × IsParentCreates v q creates × (ws ≡ lacking v (map key_bytes (create_keys sequential ephemeral path q id creates)))

@@ -2,13 +2,16 @@
 use Rattle.std.specs.Prelude.{◌≡◌, ℤ, pos, ◌≤ℤ◌, Bool, true, false, List, Option, Some, None}
 use Rattle.ev_types.specs.declared.answer.Kv.{Kv}
 use Rattle.zx_base.specs.Maps.{Bytes}
+use Rattle.zk_model.specs.declared.node.Trigger.{Trigger}
+use Rattle.zk_model.specs.declared.reply.PartResult.{PartResult}
 use Rattle.zn_layout.specs.declared.record.CountRec.{CountRec}
 use Rattle.zn_layout.specs.declared.record.NodeRec.{NodeRec}
-use Rattle.zn_layout.specs.Changes.{acts_of}
+use Rattle.zn_layout.specs.Changes.{KeyChange, acts_of}
 use Rattle.zn_layout.specs.Reading.{IsValueOf}
 use Rattle.zn_layout.specs.Records.{node_value, counts_value, session_value, IsNodeRec, IsCountRec, IsSessionRec}
 use Rattle.zn_layout.specs.StandsFor.{czxid_of}
 use Rattle.zn_updates.specs.declared.chosen.Chosen.{Chosen}
+use Rattle.zn_updates.specs.declared.chosen.Update.{Update}
 use Rattle.zn_updates.specs.declared.chosen.Chosen.TheVariants.{Refused, Made}
 use Rattle.zn_updates.specs.declared.seen.SeenData.{SeenData}
 use Rattle.zn_updates.specs.declared.seen.SeenCounts.{SeenCounts}
@@ -18,6 +21,10 @@ use Rattle.zn_updates.specs.Choices.{Choice, Refuse, Make}
 abbrev pub chosen_of : Choice → Chosen
 chosen_of (Refuse code) = Refused code
 chosen_of (Make cs ts draft) = Made (record { acts = acts_of cs; triggers = ts; draft = draft })
+
+-- this update is the choice's
+abbrev pub IsMade : List KeyChange → List Trigger → PartResult → Update → Type 0
+IsMade cs ts draft u = Made u ≡ chosen_of (Make cs ts draft)
 
 -- ---- the records that a view saw: of a key, `None` where it wasn't looked up, `Some None` where it was absent
 

@@ -9,8 +9,8 @@ ghost use Rattle.zk_model.specs.declared.reply.PartResult.TheVariants as results
 ghost use Rattle.zn_layout.specs.Begin.{new_record as record_of_new, first_counts};
 ghost use Rattle.zn_layout.specs.Changes.{acts_of};
 ghost use Rattle.zn_layout.specs.Records.{IsCountRec, IsLongCount, IsNodeRec, IsSessionRec};
-ghost use Rattle.zn_updates.specs.Choices.{Make, changes_with, with_content, create_choice, create_here as creates_here, create_owned as creates_owned, create_changes as changes_of_create, create_triggers as triggers_of_create, one_more as one_more_of};
-ghost use Rattle.zn_updates.specs.Making.{chosen_of};
+ghost use Rattle.zn_updates.specs.Choices.{changes_with, with_content, create_choice, create_here as creates_here, create_owned as creates_owned, create_changes as changes_of_create, create_triggers as triggers_of_create, one_more as one_more_of};
+ghost use Rattle.zn_updates.specs.Making.{IsMade, chosen_of};
 ghost use Rattle.std.specs.Prelude.{nat_abs, IsFalse};
 ghost use Rattle.zk_model.specs.Paths.{is_sequence_prefix};
 ghost use Rattle.zn_layout.specs.Keys.{CountsKey, DataKey, SessionKey};
@@ -126,7 +126,7 @@ fn create_node(
     requires owned { IsLongCount owner }
     requires counted { IsCountRec above.now }
     requires room { int_eq above.now.creates max_creates ≡ false }
-    ensures { IfOk result (λ u. Chosen.Made u ≡ chosen_of (Make (changes_of_create path.now parent.now content.now now owner above.now) (triggers_of_create path.now parent.now) (results.Created path.now))) }
+    ensures { IfOk result (IsMade (changes_of_create path.now parent.now content.now now owner above.now) (triggers_of_create path.now parent.now) (results.Created path.now)) }
 {
     let node = new_record(alloc, now, owner);
     Ok(Update {

@@ -1,6 +1,6 @@
 //! The keys that each request looks up, and those of them that a view lacks.
 
-ghost use Rattle.std.specs.Prelude.{◌≡◌, ◌≤◌, ◌≤ℤ◌, ◌++◌, ℕ, ℤ, Option, Some, None, pos, nat_abs, length, map, IfSome, IfOk, OnOk, IsTrue, IsFalse};
+ghost use Rattle.std.specs.Prelude.{◌≡◌, ◌≤◌, ◌≤ℤ◌, ◌++◌, ℤ, Some, None, pos, nat_abs, length, map, IfSome, IfOk, OnOk, IsTrue, IsFalse};
 ghost use Rattle.zk_model.specs.Limits.{max_path};
 ghost use Rattle.zk_model.specs.Paths.{is_path, is_sequence_prefix};
 ghost use Rattle.zn_layout.specs.Keys.{CountsKey, DataKey, key_bytes};
@@ -8,7 +8,7 @@ ghost use Rattle.zn_view.specs.Lacking.{lacking};
 ghost use Rattle.zn_view.specs.Lookups.{sees};
 ghost use Rattle.zn_view.specs.Needs.{IsCreatesSeen};
 ghost use Rattle.zn_view.specs.Views.{about_path};
-ghost use Rattle.zn_updates.specs.KeysRead.{create_keys as keys_of_create, numbered, plain_data, session_nodes, IsParentCreates, start_keys as keys_of_each, owner_nodes, set_data_keys as keys_of_set_data, delete_keys as keys_of_delete, IsOwnerSeen};
+ghost use Rattle.zn_updates.specs.KeysRead.{create_keys as keys_of_create, numbered, plain_data, session_nodes, with_own, AreCreateWants, IsParentCreates, start_keys as keys_of_each, owner_nodes, set_data_keys as keys_of_set_data, delete_keys as keys_of_delete, IsOwnerSeen};
 
 use crate::seen::{counts_seen, data_seen};
 use std::alloc::Global;
@@ -250,7 +250,7 @@ fn push_own(
     requires real { pos 1 ≤ℤ session }
     requires short { IsFalse sequential → length path.now ≤ max_path }
     requires prefix { IsTrue sequential → IsTrue (is_sequence_prefix path.now) }
-    ensures { OnOk result (keys.new ≡ ((keys.old ++ map key_bytes (plain_data sequential path.now)) ++ map key_bytes (session_nodes ephemeral session)) ++ map key_bytes (numbered sequential path.now creates)) }
+    ensures { OnOk result (keys.new ≡ with_own keys.old sequential ephemeral path.now session creates) }
 {
     push_data(alloc, keys, path, sequential)?;
     push_session(alloc, keys, session, ephemeral)?;
@@ -338,7 +338,7 @@ pub(crate) fn create_wants(
     requires parent { IfSome parent.now (λ q. length q ≤ max_path) }
     requires valid { IfSome parent.now (λ q. IsTrue (is_path q)) }
     requires prefix { IsTrue sequential → IsTrue (is_sequence_prefix path.now) }
-    ensures { IfOk result (λ ws. (creates : Option ℕ) × IsParentCreates view.now parent.now creates × (ws ≡ lacking view.now (map key_bytes (keys_of_create sequential ephemeral path.now parent.now session creates)))) }
+    ensures { IfOk result (AreCreateWants view.now sequential ephemeral path.now parent.now session) }
 {
     let creates = parent_creates(alloc, view, parent)?;
     view.lacking(create_keys_of(alloc, session, path, parent, sequential, ephemeral, creates)?)

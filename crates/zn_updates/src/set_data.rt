@@ -6,8 +6,8 @@ ghost use Rattle.zk_model.specs.Limits.{max_creates, max_frame, max_version};
 ghost use Rattle.zk_model.specs.Paths.{is_path};
 ghost use Rattle.zk_model.specs.Znodes.{cversion as cversion_of};
 ghost use Rattle.zn_layout.specs.Records.{IsCountRec, IsNodeRec};
-ghost use Rattle.zn_updates.specs.Choices.{Make, set_data_choice, set_changes, set_record as set_record_of, set_stat as set_stat_of};
-ghost use Rattle.zn_updates.specs.Making.{chosen_of};
+ghost use Rattle.zn_updates.specs.Choices.{set_data_choice, set_changes, set_record as set_record_of, set_stat as set_stat_of};
+ghost use Rattle.zn_updates.specs.Making.{IsMade, chosen_of};
 ghost use Rattle.zn_updates.specs.Seen.{IsDataWithin};
 ghost use Rattle.zn_layout.specs.Changes.{acts_of};
 ghost use Rattle.std.specs.Prelude.{[], ◌∷◌, nat_abs, option_copied};
@@ -120,7 +120,7 @@ fn set_update(
     requires within { IsDataWithin node.now }
     requires room { int_eq node.now.version max_version ≡ false }
     requires counted { IsCountRec counts.now.counts }
-    ensures { IfOk result (λ u. Chosen.Made u ≡ chosen_of (Make (set_changes path.now node.now content.now now) (Changed path.now ∷ []) (PartResult.Set (set_stat_of node.now counts.now content.now now)))) }
+    ensures { IfOk result (IsMade (set_changes path.now node.now content.now now) (Changed path.now ∷ []) (PartResult.Set (set_stat_of node.now counts.now content.now now))) }
 {
     let mut acts = Seq::new(alloc);
     acts.push(put_data(alloc, path, &set_record(alloc, node, now), content)?)?;
