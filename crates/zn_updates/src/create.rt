@@ -1,7 +1,7 @@
 //! create (ZooKeeper API, `create`; Programmer's Guide, "Ephemeral Nodes", "Sequence Nodes"), decided on the records of the
 //! parent and of the session, and on whether the node is there.
 
-ghost use Rattle.std.specs.Prelude.{◌≡◌, ◌≤◌, ◌≤ℤ◌, ◌<◌, ◌∷◌, [], ◌++◌, ◌^◌, ◌-◌, pos, true, false, length, option_copied, IfOk, IfSome, IsTrue};
+ghost use Rattle.std.specs.Prelude.{◌≡◌, ◌≤◌, ◌≤ℤ◌, ◌<◌, ◌∷◌, [], ◌++◌, ◌^◌, ◌-◌, pos, true, false, length, IfOk, IfSome, IsTrue};
 ghost use Rattle.std.specs.Ordering.{int_eq};
 ghost use Rattle.zk_model.specs.Limits.{max_creates, max_frame, max_owned, max_path};
 ghost use Rattle.zk_model.specs.Paths.{is_path};
@@ -23,13 +23,14 @@ ghost use Rattle.zk_model.specs.declared.request.Request.TheVariants as req;
 ghost use Rattle.zn_view.specs.Needs.{AreNeeds, IsWhole};
 ghost use Rattle.zx_base.specs.Maps.{Bytes as ByteList};
 
+use crate::asked::{CreateAsked, NewNode};
 use crate::changes::{put_data, put_owned};
 use crate::chosen::{Chosen, Update};
 use crate::form::{Form, create_form};
 use crate::keys::{create_keys, create_wants};
 use crate::owned::placed;
 use crate::plan::decision;
-use crate::seen::{SeenCounts, SeenData, counts_seen, data_seen, is_there, paths_seen};
+use crate::seen::{SeenCounts, SeenNode, counts_seen, data_seen, is_there, paths_seen};
 use ev_types::Act;
 use std::alloc::Global;
 use zk_model::code::{NO_CHILDREN_FOR_EPHEMERALS, NO_NODE, NODE_EXISTS, SYSTEM_ERROR};
@@ -141,22 +142,20 @@ fn create_owned(
     alloc: Global,
     path: &Path,
     parent: &Path,
-    content: &[u8],
-    now: u64,
-    session: i64,
+    new: &NewNode<'_>,
     above: &CountRec,
     paths: Option<Seq<Path>>,
 ) -> Result<Chosen, Memory>
     requires valid { IsTrue (is_path path.now) }
     requires parent { IsTrue (is_path parent.now) }
-    requires time { now < 2 ^ 62 }
-    requires short { length content.now ≤ max_frame }
-    requires real { pos 1 ≤ℤ session }
-    requires owned { IsLongCount session }
+    requires time { new.now.time < 2 ^ 62 }
+    requires short { length new.now.content.now ≤ max_frame }
+    requires real { pos 1 ≤ℤ new.now.session }
+    requires owned { IsLongCount new.now.session }
     requires counted { IsCountRec above.now }
     requires room { int_eq above.now.creates max_creates ≡ false }
     requires listed { IfSome paths IsSessionRec }
-    ensures { IfOk result (λ c. c ≡ chosen_of (creates_owned path.now parent.now content.now now above.now session paths)) }
+    ensures { IfOk result (λ c. c ≡ chosen_of (creates_owned path.now parent.now new.now.content.now new.now.time above.now new.now.session paths)) }
 {
     let Some(paths) = paths else {
         return Ok(Chosen::Refused(SYSTEM_ERROR));
@@ -164,10 +163,16 @@ fn create_owned(
     if paths.len() >= MAX_OWNED {
         return Ok(Chosen::Refused(SYSTEM_ERROR));
     }
-    let mut update = create_node(alloc, path, parent, content, now, session, above)?;
-    update
-        .acts
-        .push(put_owned(alloc, session, placed(alloc, paths, path)?)?)?;
+    let mut update = create_node(
+        alloc,
+        path,
+        parent,
+        new.content,
+        new.time,
+        new.session,
+        above,
+    )?;
+    update.acts.push(put_owned(alloc, new.session, placed(alloc, paths, path)?)?)?;
     Ok(Chosen::Made(update))
 }
 
@@ -175,83 +180,66 @@ fn create_here(
     alloc: Global,
     path: &Path,
     parent: &Path,
-    content: &[u8],
-    now: u64,
-    ephemeral: bool,
-    session: i64,
+    new: &NewNode<'_>,
     above: &CountRec,
     paths: Option<Seq<Path>>,
 ) -> Result<Chosen, Memory>
     requires valid { IsTrue (is_path path.now) }
     requires parent { IsTrue (is_path parent.now) }
-    requires time { now < 2 ^ 62 }
-    requires short { length content.now ≤ max_frame }
-    requires real { pos 1 ≤ℤ session }
-    requires owned { IsLongCount session }
+    requires time { new.now.time < 2 ^ 62 }
+    requires short { length new.now.content.now ≤ max_frame }
+    requires real { pos 1 ≤ℤ new.now.session }
+    requires owned { IsLongCount new.now.session }
     requires counted { IsCountRec above.now }
     requires room { int_eq above.now.creates max_creates ≡ false }
     requires listed { IfSome paths IsSessionRec }
-    ensures { IfOk result (λ c. c ≡ chosen_of (creates_here path.now parent.now content.now now above.now ephemeral session paths)) }
+    ensures { IfOk result (λ c. c ≡ chosen_of (creates_here path.now parent.now new.now.content.now new.now.time above.now new.now.ephemeral new.now.session paths)) }
 {
-    if ephemeral {
-        return create_owned(alloc, path, parent, content, now, session, above, paths);
+    if new.ephemeral {
+        return create_owned(alloc, path, parent, new, above, paths);
     }
-    Ok(Chosen::Made(create_node(alloc, path, parent, content, now, 0, above)?))
+    Ok(Chosen::Made(create_node(alloc, path, parent, new.content, new.time, 0, above)?))
 }
 
-/// Decides a create by the parent's record and counts, by whether the path is `taken`, and for an ephemeral node by the paths of
-/// the session's nodes. Refused with NoNode, NodeExists or NoChildrenForEphemerals, and with SystemError where the parent or the
-/// session can have no more, or the paths are missing. `now` is in milliseconds since 1970; the session's number is at least 1.
+/// Decides a create at `path` by what was seen of the parent, by whether the path is `taken`, and for an ephemeral node by the paths
+/// of the session's nodes. Refused with NoNode, NodeExists or NoChildrenForEphemerals, and with SystemError where the parent or the
+/// session can have no more, or the paths are missing.
 #[tactic(auto, unfolding(crate::specs::Choices::create_choice))]
 pub fn choose_create(
     alloc: Global,
     path: &Path,
     parent: &Path,
-    content: &[u8],
-    now: u64,
-    ephemeral: bool,
-    session: i64,
-    up: Option<&SeenData>,
-    above: Option<&SeenCounts>,
+    new: &NewNode<'_>,
+    up: &SeenNode,
     taken: bool,
     paths: Option<Seq<Path>>,
 ) -> Result<Chosen, Memory>
     requires valid { IsTrue (is_path path.now) }
     requires parent { IsTrue (is_path parent.now) }
-    requires time { now < 2 ^ 62 }
-    requires short { length content.now ≤ max_frame }
-    requires real { pos 1 ≤ℤ session }
-    requires owned { IsLongCount session }
-    requires counted { IfSome (option_copied above) (λ c. IsCountRec c.counts) }
+    requires time { new.now.time < 2 ^ 62 }
+    requires short { length new.now.content.now ≤ max_frame }
+    requires real { pos 1 ≤ℤ new.now.session }
+    requires owned { IsLongCount new.now.session }
+    requires counted { IfSome up.now.counts (λ c. IsCountRec c.counts) }
     requires listed { IfSome paths IsSessionRec }
-    ensures { IfOk result (λ c. c ≡ chosen_of (create_choice path.now parent.now content.now now ephemeral session (option_copied up.entry) (option_copied above.entry) taken paths)) }
+    ensures { IfOk result (λ c. c ≡ chosen_of (create_choice path.now parent.now new.now.content.now new.now.time new.now.ephemeral new.now.session up.now.data up.now.counts taken paths)) }
 {
-    let Some(up) = up else {
+    let Some(data) = &up.data else {
         return Ok(Chosen::Refused(NO_NODE));
     };
-    let Some(above) = above else {
+    let Some(above) = &up.counts else {
         return Ok(Chosen::Refused(NO_NODE));
     };
     if taken {
         return Ok(Chosen::Refused(NODE_EXISTS));
     }
-    if up.owner != 0 {
+    if data.owner != 0 {
         return Ok(Chosen::Refused(NO_CHILDREN_FOR_EPHEMERALS));
     }
     if above.counts.creates == MAX_CREATES {
         return Ok(Chosen::Refused(SYSTEM_ERROR));
     }
-    create_here(
-        alloc,
-        path,
-        parent,
-        content,
-        now,
-        ephemeral,
-        session,
-        &above.counts,
-        paths,
-    )
+    create_here(alloc, path, parent, new, &above.counts, paths)
 }
 
 /// The path of the new node: a sequence node's ends in the parent's count of creates, 0 where the parent is not there.
@@ -303,84 +291,64 @@ fn own_paths(view: &View, session: i64, ephemeral: bool) -> Result<Option<Seq<Pa
 /// Decides a create below a parent.
 fn create_at(
     alloc: Global,
-    path: &[u8],
+    new: &NewNode<'_>,
     named: Path,
     parent: &Path,
-    content: &[u8],
-    sequential: bool,
-    ephemeral: bool,
-    session: i64,
-    now: u64,
     view: &View,
 ) -> Result<Decision, Memory>
     requires parent { IsTrue (is_path parent.now) }
-    requires time { now < 2 ^ 62 }
-    requires short { length content.now ≤ max_frame }
-    requires real { pos 1 ≤ℤ session }
-    requires prefix { IsTrue sequential → IsTrue (is_sequence_prefix path.now) }
-    requires named { IsFalse sequential → named ≡ path.now }
-    requires long { IsFalse sequential → length path.now ≤ max_path }
+    requires time { new.now.time < 2 ^ 62 }
+    requires short { length new.now.content.now ≤ max_frame }
+    requires real { pos 1 ≤ℤ new.now.session }
+    requires prefix { IsTrue new.now.sequential → IsTrue (is_sequence_prefix new.now.path.now) }
+    requires named { IsFalse new.now.sequential → named ≡ new.now.path.now }
+    requires long { IsFalse new.now.sequential → length new.now.path.now ≤ max_path }
     requires up { HasSeen view.now (DataKey parent.now) }
     requires above { HasSeen view.now (CountsKey parent.now) }
-    requires own { IsTrue ephemeral → HasSeen view.now (SessionKey (nat_abs session)) }
-    ensures { IfOk result (IsCreateBelow view.now path.now content.now now sequential ephemeral session parent.now) }
+    requires own { IsTrue new.now.ephemeral → HasSeen view.now (SessionKey (nat_abs new.now.session)) }
+    ensures { IfOk result (IsCreateBelow view.now new.now.path.now new.now.content.now new.now.time new.now.sequential new.now.ephemeral new.now.session parent.now) }
 {
     let up = data_seen(view, parent)?;
     let above = counts_seen(view, parent)?;
     let keys = create_keys(
         alloc,
-        session,
-        path,
+        new.session,
+        new.path,
         parent,
-        sequential,
-        ephemeral,
+        new.sequential,
+        new.ephemeral,
         creates_of(&above),
     )?;
-    let path = path_of(alloc, path, named, sequential, &above)?;
+    let path = path_of(alloc, new.path, named, new.sequential, &above)?;
     let taken = is_there(alloc, view, &path)?;
-    let paths = own_paths(view, session, ephemeral)?;
-    let chosen = choose_create(
-        alloc,
-        &path,
-        parent,
-        content,
-        now,
-        ephemeral,
-        session,
-        up.as_ref(),
-        above.as_ref(),
-        taken,
-        paths,
-    )?;
+    let paths = own_paths(view, new.session, new.ephemeral)?;
+    let seen = SeenNode {
+        data: up,
+        counts: above,
+    };
+    let chosen = choose_create(alloc, &path, parent, new, &seen, taken, paths)?;
     decision(alloc, view, keys.as_slice(), chosen)
 }
 
-/// Decides a create of `path`; `named` is that, with `1` after it for a sequence node. The root has no parent, and is there.
+/// Decides a create; `named` is its path, with `1` after it for a sequence node. The root has no parent, and is there.
 fn create_named(
     alloc: Global,
-    path: &[u8],
+    new: &NewNode<'_>,
     named: Path,
-    content: &[u8],
-    sequential: bool,
-    ephemeral: bool,
-    session: i64,
-    now: u64,
     view: &View,
 ) -> Result<Decision, Memory>
-    requires time { now < 2 ^ 62 }
-    requires short { length content.now ≤ max_frame }
-    requires real { pos 1 ≤ℤ session }
-    requires prefix { IsTrue sequential → IsTrue (is_sequence_prefix path.now) }
-    requires named { IsFalse sequential → named ≡ path.now }
-    requires long { IsFalse sequential → length path.now ≤ max_path }
+    requires time { new.now.time < 2 ^ 62 }
+    requires short { length new.now.content.now ≤ max_frame }
+    requires real { pos 1 ≤ℤ new.now.session }
+    requires prefix { IsTrue new.now.sequential → IsTrue (is_sequence_prefix new.now.path.now) }
+    requires named { IsFalse new.now.sequential → named ≡ new.now.path.now }
+    requires long { IsFalse new.now.sequential → length new.now.path.now ≤ max_path }
     requires up { IsUpLookedUp view.now (parent_of named) }
-    requires own { IsTrue ephemeral → HasSeen view.now (SessionKey (nat_abs session)) }
-    ensures { IfOk result (IsCreate view.now path.now content.now now sequential ephemeral session (parent_of named)) }
+    requires own { IsTrue new.now.ephemeral → HasSeen view.now (SessionKey (nat_abs new.now.session)) }
+    ensures { IfOk result (IsCreate view.now new.now.path.now new.now.content.now new.now.time new.now.sequential new.now.ephemeral new.now.session (parent_of named)) }
 {
     match named.parent(alloc)? {
-        Some(parent) => create_at(
-            alloc, path, named, &parent, content, sequential, ephemeral, session, now, view,
-        ),
+        Some(parent) => create_at(alloc, new, named, &parent, view),
         None => Ok(refused(NODE_EXISTS)),
     }
 }
@@ -388,38 +356,35 @@ fn create_named(
 /// Decides a create.
 pub(crate) fn decide_create(
     alloc: Global,
-    path: &[u8],
-    content: &[u8],
-    acl: &[Acl],
-    flags: i32,
+    asked: &CreateAsked<'_>,
     who: Who,
     now: u64,
     view: &View,
 ) -> Result<Decision, Memory>
     requires real { pos 1 ≤ℤ who.session }
     requires time { now < 2 ^ 62 }
-    requires short { length content.now ≤ max_frame }
-    requires whole { IsWhole (req.Create path.now content.now acl.now flags) who view.now }
-    ensures form { IfOk result (IsToldByForm (req.Create path.now content.now acl.now flags)) }
-    ensures sound { IfOk result (IsBySound (req.Create path.now content.now acl.now flags) who view.now) }
+    requires short { length asked.now.content.now ≤ max_frame }
+    requires whole { IsWhole (req.Create asked.now.path.now asked.now.content.now asked.now.acl.now asked.now.flags) who view.now }
+    ensures form { IfOk result (IsToldByForm (req.Create asked.now.path.now asked.now.content.now asked.now.acl.now asked.now.flags)) }
+    ensures sound { IfOk result (IsBySound (req.Create asked.now.path.now asked.now.content.now asked.now.acl.now asked.now.flags) who view.now) }
     ensures tree { IfOk result (λ d. is_by_tree d ≡ true) }
-    ensures plan { IfOk result (IfPlanned (IsGuarded (req.Create path.now content.now acl.now flags) who now view.now)) }
-    ensures writes { IfOk result (IfPlanned (WritesAs (req.Create path.now content.now acl.now flags) who view.now)) }
+    ensures plan { IfOk result (IfPlanned (IsGuarded (req.Create asked.now.path.now asked.now.content.now asked.now.acl.now asked.now.flags) who now view.now)) }
+    ensures writes { IfOk result (IfPlanned (WritesAs (req.Create asked.now.path.now asked.now.content.now asked.now.acl.now asked.now.flags) who view.now)) }
 {
-    let sequential = is_sequential(flags);
-    let ephemeral = is_ephemeral(flags);
-    match create_form(alloc, path, acl, flags)? {
-        Form::Valid(named) => create_named(
-            alloc,
-            path,
-            named,
-            content,
-            sequential,
-            ephemeral,
-            who.session,
-            now,
-            view,
-        ),
+    let sequential = is_sequential(asked.flags);
+    let ephemeral = is_ephemeral(asked.flags);
+    match create_form(alloc, asked.path, asked.acl, asked.flags)? {
+        Form::Valid(named) => {
+            let new = NewNode {
+                path: asked.path,
+                content: asked.content,
+                sequential,
+                ephemeral,
+                session: who.session,
+                time: now,
+            };
+            create_named(alloc, &new, named, view)
+        }
         Form::Refused(code) => Ok(refused(code)),
     }
 }

@@ -11,6 +11,7 @@ ghost use Rattle.zn_updates.specs.Deciding.{IsBySound, IsGuarded};
 ghost use Rattle.zn_updates.specs.WithStat.{plan_with_stat, reply_with_stat, with_stat};
 ghost use Rattle.zn_updates.specs.Writing.{WritesAs};
 
+use crate::asked::CreateAsked;
 use crate::create::{create_needs, decide_create};
 use std::alloc::Global;
 use zk_model::flags::owner_of;
@@ -82,26 +83,23 @@ fn draft_stat(content: &[u8], flags: i32, session: i64, now: u64) -> Stat
 /// Decides a create2: as a create, but that its reply has the new node's Stat too.
 pub(crate) fn decide_create2(
     alloc: Global,
-    path: &[u8],
-    content: &[u8],
-    acl: &[Acl],
-    flags: i32,
+    asked: &CreateAsked<'_>,
     who: Who,
     now: u64,
     view: &View,
 ) -> Result<Decision, Memory>
     requires real { pos 1 ≤ℤ who.session }
     requires time { now < 2 ^ 62 }
-    requires short { length content.now ≤ max_frame }
-    requires whole { IsWhole (req.Create2 path.now content.now acl.now flags) who view.now }
-    ensures form { IfOk result (IsToldByForm (req.Create2 path.now content.now acl.now flags)) }
-    ensures sound { IfOk result (IsBySound (req.Create2 path.now content.now acl.now flags) who view.now) }
+    requires short { length asked.now.content.now ≤ max_frame }
+    requires whole { IsWhole (req.Create2 asked.now.path.now asked.now.content.now asked.now.acl.now asked.now.flags) who view.now }
+    ensures form { IfOk result (IsToldByForm (req.Create2 asked.now.path.now asked.now.content.now asked.now.acl.now asked.now.flags)) }
+    ensures sound { IfOk result (IsBySound (req.Create2 asked.now.path.now asked.now.content.now asked.now.acl.now asked.now.flags) who view.now) }
     ensures tree { IfOk result (λ d. is_by_tree d ≡ true) }
-    ensures plan { IfOk result (IfPlanned (IsGuarded (req.Create2 path.now content.now acl.now flags) who now view.now)) }
-    ensures writes { IfOk result (IfPlanned (WritesAs (req.Create2 path.now content.now acl.now flags) who view.now)) }
+    ensures plan { IfOk result (IfPlanned (IsGuarded (req.Create2 asked.now.path.now asked.now.content.now asked.now.acl.now asked.now.flags) who now view.now)) }
+    ensures writes { IfOk result (IfPlanned (WritesAs (req.Create2 asked.now.path.now asked.now.content.now asked.now.acl.now asked.now.flags) who view.now)) }
 {
-    let stat = draft_stat(content, flags, who.session, now);
-    let decision = decide_create(alloc, path, content, acl, flags, who, now, view)?;
+    let stat = draft_stat(asked.content, asked.flags, who.session, now);
+    let decision = decide_create(alloc, asked, who, now, view)?;
     Ok(with_stat(decision, stat))
 }
 

@@ -27,7 +27,7 @@ use crate::form::inner_path;
 use crate::keys::{delete_keys, delete_wants};
 use crate::owned::without;
 use crate::plan::decision;
-use crate::seen::{SeenCounts, SeenData, counts_seen, data_seen, paths_seen};
+use crate::seen::{SeenCounts, SeenData, SeenNode, counts_seen, data_seen, paths_seen};
 use ev_types::Act;
 use std::alloc::Global;
 use zk_model::code::{BAD_ARGUMENTS, BAD_VERSION, NO_NODE, NOT_EMPTY, SYSTEM_ERROR};
@@ -156,31 +156,30 @@ pub fn choose_delete(
     path: &Path,
     parent: &Path,
     version: i32,
-    node: Option<&SeenData>,
-    counts: Option<&SeenCounts>,
+    node: &SeenNode,
     above: Option<&SeenCounts>,
     paths: Option<Seq<Path>>,
 ) -> Result<Chosen, Memory>
     requires valid { IsTrue (is_path path.now) }
     requires parent { IsTrue (is_path parent.now) }
-    requires within { IfSome (option_copied node) IsDataWithin }
+    requires within { IfSome node.now.data IsDataWithin }
     requires counted { IfSome (option_copied above) (λ c. IsCountRec c.counts) }
     requires listed { IfSome paths IsSessionRec }
-    ensures { IfOk result (λ c. c ≡ chosen_of (delete_choice path.now parent.now version (option_copied node.entry) (option_copied counts.entry) (option_copied above.entry) paths)) }
+    ensures { IfOk result (λ c. c ≡ chosen_of (delete_choice path.now parent.now version node.now.data node.now.counts (option_copied above.entry) paths)) }
 {
-    let Some(node) = node else {
+    let Some(data) = &node.data else {
         return Ok(Chosen::Refused(NO_NODE));
     };
-    let Some(counts) = counts else {
+    let Some(counts) = &node.counts else {
         return Ok(Chosen::Refused(NO_NODE));
     };
-    if !matches(version, node.version) {
+    if !matches(version, data.version) {
         return Ok(Chosen::Refused(BAD_VERSION));
     }
     if counts.counts.children != 0 {
         return Ok(Chosen::Refused(NOT_EMPTY));
     }
-    delete_here(alloc, path, parent, node, above, paths)
+    delete_here(alloc, path, parent, data, above, paths)
 }
 
 /// The paths of the nodes of a node's owner, none where it has no owner.
@@ -231,16 +230,8 @@ fn delete_at(
     let above = counts_seen(view, parent)?;
     let paths = owner_paths(view, &node)?;
     let keys = delete_keys(alloc, session, path, parent, owner_of(&node))?;
-    let chosen = choose_delete(
-        alloc,
-        path,
-        parent,
-        version,
-        node.as_ref(),
-        counts.as_ref(),
-        above.as_ref(),
-        paths,
-    )?;
+    let here = SeenNode { data: node, counts };
+    let chosen = choose_delete(alloc, path, parent, version, &here, above.as_ref(), paths)?;
     decision(alloc, view, keys.as_slice(), chosen)
 }
 

@@ -16,6 +16,7 @@
 //! The data of a create or a setData is copied once, from the request into the node's value.
 #![tactic(auto)]
 
+mod asked;
 mod changes;
 mod chosen;
 mod create;
@@ -32,6 +33,7 @@ mod requests;
 mod seen;
 mod set_data;
 
+pub use asked::NewNode;
 pub use chosen::{Chosen, Update};
 pub use create::choose_create;
 pub use delete::choose_delete;
@@ -43,5 +45,5 @@ pub use keys::{
 pub use layers::{data_over, paths_over};
 pub use part::choose_part;
 pub use requests::{decide_update, update_needs};
-pub use seen::{SeenCounts, SeenData};
+pub use seen::{SeenCounts, SeenData, SeenNode};
 pub use set_data::choose_set_data;

@@ -9,20 +9,22 @@ ghost use Rattle.zn_updates.specs.Making.{chosen_of};
 ghost use Rattle.zn_updates.specs.Parts.{check_choice, part_content, IsCreatedBelow, IsDeletedBelow, IsPartChoice, IfPaths};
 ghost use Rattle.zn_updates.specs.Seen.{IsDataWithin};
 ghost use Rattle.zn_layout.specs.Records.{IsSessionRec};
+ghost use Rattle.zn_view.specs.declared.plan.Who.{Who as AnyWho};
 ghost use Rattle.std.specs.Prelude.{true};
 
+use crate::asked::{CreateAsked, NewNode, asked};
 use crate::chosen::{Chosen, Update};
 use crate::create::{choose_create, path_of};
 use crate::delete::choose_delete;
 use crate::form::{Form, create_form, inner_path};
 use crate::layers::{counts_over, data_over, is_there_over, paths_over};
-use crate::seen::SeenData;
+use crate::seen::{SeenData, SeenNode};
 use crate::set_data::choose_set_data;
 use std::alloc::Global;
 use zk_model::code::{BAD_ARGUMENTS, BAD_VERSION, NO_NODE, NODE_EXISTS};
 use zk_model::flags::{is_ephemeral, is_sequential};
 use zk_model::version::matches;
-use zk_model::{Acl, Part, PartResult, Path, read_path};
+use zk_model::{Part, PartResult, Path, read_path};
 use zn_view::{View, Who};
 use zx_base::{Memory, Seq};
 
@@ -48,79 +50,61 @@ fn own_paths_over(
 /// Chooses a create below a parent.
 fn created_below(
     alloc: Global,
-    path: &[u8],
+    new: &NewNode<'_>,
     named: Path,
     parent: &Path,
-    content: &[u8],
-    sequential: bool,
-    ephemeral: bool,
-    session: i64,
-    now: u64,
     over: &View,
     view: &View,
 ) -> Result<Chosen, Memory>
     requires parent { IsTrue (is_path parent.now) }
-    requires time { now < 2 ^ 62 }
-    requires short { length content.now ≤ max_frame }
-    requires real { pos 1 ≤ℤ session }
-    requires prefix { IsTrue sequential → IsTrue (is_sequence_prefix path.now) }
-    requires named { IsFalse sequential → named ≡ path.now }
-    ensures { IfOk result (IsCreatedBelow (layered over.now view.now) path.now content.now now sequential ephemeral session parent.now) }
+    requires time { new.now.time < 2 ^ 62 }
+    requires short { length new.now.content.now ≤ max_frame }
+    requires real { pos 1 ≤ℤ new.now.session }
+    requires prefix { IsTrue new.now.sequential → IsTrue (is_sequence_prefix new.now.path.now) }
+    requires named { IsFalse new.now.sequential → named ≡ new.now.path.now }
+    ensures { IfOk result (IsCreatedBelow (layered over.now view.now) new.now.path.now new.now.content.now new.now.time new.now.sequential new.now.ephemeral new.now.session parent.now) }
 {
     let up = data_over(alloc, over, view, parent)?;
     let above = counts_over(alloc, over, view, parent)?;
-    let path = path_of(alloc, path, named, sequential, &above)?;
+    let path = path_of(alloc, new.path, named, new.sequential, &above)?;
     let taken = is_there_over(alloc, over, view, &path)?;
-    let paths = own_paths_over(alloc, over, view, session, ephemeral)?;
-    choose_create(
-        alloc,
-        &path,
-        parent,
-        content,
-        now,
-        ephemeral,
-        session,
-        up.as_ref(),
-        above.as_ref(),
-        taken,
-        paths,
-    )
+    let paths = own_paths_over(alloc, over, view, new.session, new.ephemeral)?;
+    let seen = SeenNode {
+        data: up,
+        counts: above,
+    };
+    choose_create(alloc, &path, parent, new, &seen, taken, paths)
 }
 
 fn created(
     alloc: Global,
-    path: &[u8],
-    content: &[u8],
-    acl: &[Acl],
-    flags: i32,
+    asked: &CreateAsked<'_>,
     who: Who,
     now: u64,
     over: &View,
     view: &View,
 ) -> Result<Chosen, Memory>
     requires time { now < 2 ^ 62 }
-    requires short { length content.now ≤ max_frame }
+    requires short { length asked.now.content.now ≤ max_frame }
     requires real { pos 1 ≤ℤ who.session }
-    ensures { IfOk result (IsPartChoice (parts.Create path.now content.now acl.now flags) who now (layered over.now view.now)) }
+    ensures { IfOk result (IsPartChoice (parts.Create asked.now.path.now asked.now.content.now asked.now.acl.now asked.now.flags) who now (layered over.now view.now)) }
 {
-    let named = match create_form(alloc, path, acl, flags)? {
+    let named = match create_form(alloc, asked.path, asked.acl, asked.flags)? {
         Form::Valid(named) => named,
         Form::Refused(code) => return Ok(Chosen::Refused(code)),
     };
     match named.parent(alloc)? {
-        Some(parent) => created_below(
-            alloc,
-            path,
-            named,
-            &parent,
-            content,
-            is_sequential(flags),
-            is_ephemeral(flags),
-            who.session,
-            now,
-            over,
-            view,
-        ),
+        Some(parent) => {
+            let new = NewNode {
+                path: asked.path,
+                content: asked.content,
+                sequential: is_sequential(asked.flags),
+                ephemeral: is_ephemeral(asked.flags),
+                session: who.session,
+                time: now,
+            };
+            created_below(alloc, &new, named, &parent, over, view)
+        }
         None => Ok(Chosen::Refused(NODE_EXISTS)),
     }
 }
@@ -158,16 +142,8 @@ fn deleted_below(
     let counts = counts_over(alloc, over, view, path)?;
     let above = counts_over(alloc, over, view, parent)?;
     let paths = owner_paths_over(alloc, over, view, &node)?;
-    choose_delete(
-        alloc,
-        path,
-        parent,
-        version,
-        node.as_ref(),
-        counts.as_ref(),
-        above.as_ref(),
-        paths,
-    )
+    let here = SeenNode { data: node, counts };
+    choose_delete(alloc, path, parent, version, &here, above.as_ref(), paths)
 }
 
 fn deleted(
@@ -196,14 +172,13 @@ fn set(
     path: &[u8],
     content: &[u8],
     version: i32,
-    who: Who,
     now: u64,
     over: &View,
     view: &View,
 ) -> Result<Chosen, Memory>
     requires time { now < 2 ^ 62 }
     requires short { length content.now ≤ max_frame }
-    ensures { IfOk result (IsPartChoice (parts.SetData path.now content.now version) who now (layered over.now view.now)) }
+    ensures { (who : AnyWho) → IfOk result (IsPartChoice (parts.SetData path.now content.now version) who now (layered over.now view.now)) }
 {
     match read_path(alloc, path, false)? {
         Some(path) => {
@@ -285,10 +260,7 @@ pub fn choose_part(
             flags,
         } => created(
             alloc,
-            path.as_slice(),
-            content.as_slice(),
-            acl.as_slice(),
-            *flags,
+            &asked(path, content, acl, *flags),
             who,
             now,
             over,
@@ -306,7 +278,6 @@ pub fn choose_part(
             path.as_slice(),
             content.as_slice(),
             *version,
-            who,
             now,
             over,
             view,

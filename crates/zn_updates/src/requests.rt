@@ -7,6 +7,7 @@ ghost use Rattle.zn_view.specs.Deciding.{IfPlanned, IsToldByForm, is_by_tree};
 ghost use Rattle.zn_updates.specs.Deciding.{content_in, is_update, IsBySound, IsGuarded};
 ghost use Rattle.zn_updates.specs.Writing.{WritesAs};
 
+use crate::asked::asked;
 use crate::create::{create_needs, decide_create};
 use crate::create2::{create2_needs, decide_create2};
 use crate::delete::{decide_delete, delete_needs};
@@ -73,31 +74,13 @@ pub fn decide_update(
             content,
             acl,
             flags,
-        } => decide_create(
-            alloc,
-            path.as_slice(),
-            content.as_slice(),
-            acl.as_slice(),
-            *flags,
-            who,
-            now,
-            view,
-        ),
+        } => decide_create(alloc, &asked(path, content, acl, *flags), who, now, view),
         Request::Create2 {
             path,
             content,
             acl,
             flags,
-        } => decide_create2(
-            alloc,
-            path.as_slice(),
-            content.as_slice(),
-            acl.as_slice(),
-            *flags,
-            who,
-            now,
-            view,
-        ),
+        } => decide_create2(alloc, &asked(path, content, acl, *flags), who, now, view),
         Request::Delete { path, version } => {
             decide_delete(alloc, path.as_slice(), *version, who, now, view)
         }

@@ -39,6 +39,13 @@ pub struct SeenCounts {
     pub pzxid: i64,
 }
 
+/// A node's record and its counts, each none where the node is not there.
+#[derive(Drop)]
+pub struct SeenNode {
+    pub data: Option<SeenData>,
+    pub counts: Option<SeenCounts>,
+}
+
 /// The czxid of a record: its revision where 0 is stored. A revision below 0, which no etcd has, counts as 0.
 fn resolved(stored: i64, revision: i64) -> i64
     ensures is { pos 0 ≤ℤ revision → result ≡ czxid_of stored revision }

@@ -26,26 +26,26 @@ create_keys-requires-clause-parent c = path_short c.args.parent.now c.requires.p
 pub decision-requires : goal.decision-requires
 decision-requires c =
     let valid : IsTrue (is_path c.in_ok-path.path) = search rules in
-    if_made IsHeadRec c.in_ok-chosen.chosen _ c.in_ok-chosen.ensures (create_bounds c.in_ok-path.path c.args.parent.now c.args.content.now c.args.now c.args.ephemeral _ _ _ _ _ valid c.requires.parent)
+    if_made IsHeadRec c.in_ok-chosen.chosen _ c.in_ok-chosen.ensures (create_bounds c.in_ok-path.path c.args.parent.now c.args.new.now.content.now c.args.new.now.time c.args.new.now.ephemeral _ _ _ _ _ valid c.requires.parent)
 
 pub returns : goal.returns
 returns c =
-    let fits : SFits w64 c.args.session = search rules in
+    let fits : SFits w64 c.args.new.now.session = search rules in
     let creates : c.creates_of.result ≡ creates_seen c.in_ok-above.above = c.creates_of.ensures in
-    let keys : c.as_slice.result.now ≡ map key_bytes (create_keys c.args.sequential c.args.ephemeral c.args.path.now (Some c.args.parent.now) c.args.session (creates_seen c.in_ok-above.above)) =
+    let keys : c.as_slice.result.now ≡ map key_bytes (create_keys c.args.new.now.sequential c.args.new.now.ephemeral c.args.new.now.path.now (Some c.args.parent.now) c.args.new.now.session (creates_seen c.in_ok-above.above)) =
     first_of (search rules, grind (arith, common_steps, creates, to_z-of_z w64 _ fits)) in
-    let path : c.in_ok-path.path ≡ path_for c.args.sequential c.args.path.now c.in_ok-above.above = c.in_ok-path.ensures in
-    let taken : c.in_ok-taken.taken ≡ has_found (sees c.args.view.now (DataKey (path_for c.args.sequential c.args.path.now c.in_ok-above.above))) = c.in_ok-taken.ensures ∙ ap (λ (q : Bytes). has_found (sees c.args.view.now (DataKey q))) path in
-    let made : c.in_ok-chosen.chosen ≡ chosen_of (create_choice c.in_ok-path.path c.args.parent.now c.args.content.now c.args.now c.args.ephemeral c.args.session c.in_ok-up.up c.in_ok-above.above c.in_ok-taken.taken c.in_ok-paths.paths) =
+    let path : c.in_ok-path.path ≡ path_for c.args.new.now.sequential c.args.new.now.path.now c.in_ok-above.above = c.in_ok-path.ensures in
+    let taken : c.in_ok-taken.taken ≡ has_found (sees c.args.view.now (DataKey (path_for c.args.new.now.sequential c.args.new.now.path.now c.in_ok-above.above))) = c.in_ok-taken.ensures ∙ ap (λ (q : Bytes). has_found (sees c.args.view.now (DataKey q))) path in
+    let made : c.in_ok-chosen.chosen ≡ chosen_of (create_choice c.in_ok-path.path c.args.parent.now c.args.new.now.content.now c.args.new.now.time c.args.new.now.ephemeral c.args.new.now.session c.in_ok-up.up c.in_ok-above.above c.in_ok-taken.taken c.in_ok-paths.paths) =
     first_of (search rules, grind (arith, common_steps)) in
-    let chosen = made ∙ (λ i. chosen_of (create_choice (path i) c.args.parent.now c.args.content.now c.args.now c.args.ephemeral c.args.session c.in_ok-up.up c.in_ok-above.above (taken i) c.in_ok-paths.paths)) in
+    let chosen = made ∙ (λ i. chosen_of (create_choice (path i) c.args.parent.now c.args.new.now.content.now c.args.new.now.time c.args.new.now.ephemeral c.args.new.now.session c.in_ok-up.up c.in_ok-above.above (taken i) c.in_ok-paths.paths)) in
     IfOk-weaker c.decision.result _ _ (λ d is. (
       c.in_ok-up.up,
       c.in_ok-above.above,
       c.in_ok-paths.paths,
       c.in_ok-up.ensures.is,
       c.in_ok-above.ensures.is,
-      subst (λ (z : ℤ). IsOwnPaths c.args.view.now c.args.ephemeral z c.in_ok-paths.paths) (to_z-of_z w64 _ fits) c.in_ok-paths.ensures.is,
-      is _ chosen ∙ ap (λ (ks : List Bytes). decision_of (narrowed c.args.view.now ks) (create_choice (path_for c.args.sequential c.args.path.now c.in_ok-above.above) c.args.parent.now c.args.content.now c.args.now c.args.ephemeral c.args.session c.in_ok-up.up c.in_ok-above.above
-          (has_found (sees c.args.view.now (DataKey (path_for c.args.sequential c.args.path.now c.in_ok-above.above)))) c.in_ok-paths.paths)) keys,
+      subst (λ (z : ℤ). IsOwnPaths c.args.view.now c.args.new.now.ephemeral z c.in_ok-paths.paths) (to_z-of_z w64 _ fits) c.in_ok-paths.ensures.is,
+      is _ chosen ∙ ap (λ (ks : List Bytes). decision_of (narrowed c.args.view.now ks) (create_choice (path_for c.args.new.now.sequential c.args.new.now.path.now c.in_ok-above.above) c.args.parent.now c.args.new.now.content.now c.args.new.now.time c.args.new.now.ephemeral c.args.new.now.session c.in_ok-up.up c.in_ok-above.above
+          (has_found (sees c.args.view.now (DataKey (path_for c.args.new.now.sequential c.args.new.now.path.now c.in_ok-above.above)))) c.in_ok-paths.paths)) keys,
     )) c.decision.ensures

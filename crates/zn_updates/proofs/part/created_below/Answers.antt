@@ -16,11 +16,11 @@ use Rattle.zn_updates.proofs.part.created_below.Goals as goal
 
 pub returns : goal.returns
 returns c =
-    let fits : SFits w64 c.args.session = search rules in
+    let fits : SFits w64 c.args.new.now.session = search rules in
     let v : View = layered c.args.over.now c.args.view.now in
-    let path : c.in_ok-path.path ≡ path_for c.args.sequential c.args.path.now c.in_ok-above.above = c.in_ok-path.ensures in
-    let taken : c.in_ok-taken.taken ≡ has_found (sees v (DataKey (path_for c.args.sequential c.args.path.now c.in_ok-above.above))) = c.in_ok-taken.ensures ∙ ap (λ (q : Bytes). has_found (sees v (DataKey q))) path in
-    let paths : c.args.ephemeral ≡ true → IfPaths v c.args.session c.in_ok-paths.paths = subst (λ (z : ℤ). c.args.ephemeral ≡ true → IfPaths v z c.in_ok-paths.paths) (to_z-of_z w64 _ fits) c.in_ok-paths.ensures.is in
+    let path : c.in_ok-path.path ≡ path_for c.args.new.now.sequential c.args.new.now.path.now c.in_ok-above.above = c.in_ok-path.ensures in
+    let taken : c.in_ok-taken.taken ≡ has_found (sees v (DataKey (path_for c.args.new.now.sequential c.args.new.now.path.now c.in_ok-above.above))) = c.in_ok-taken.ensures ∙ ap (λ (q : Bytes). has_found (sees v (DataKey q))) path in
+    let paths : c.args.new.now.ephemeral ≡ true → IfPaths v c.args.new.now.session c.in_ok-paths.paths = subst (λ (z : ℤ). c.args.new.now.ephemeral ≡ true → IfPaths v z c.in_ok-paths.paths) (to_z-of_z w64 _ fits) c.in_ok-paths.ensures.is in
     IfOk-weaker c.choose_create.result _ _ (λ d is. record {
       up = c.in_ok-up.up;
       above = c.in_ok-above.above;
@@ -31,6 +31,6 @@ returns c =
       paths_are = paths;
       paths_within = c.in_ok-paths.ensures.within;
       is =
-          let made : d ≡ chosen_of (create_choice c.in_ok-path.path c.args.parent.now c.args.content.now c.args.now c.args.ephemeral c.args.session c.in_ok-up.up c.in_ok-above.above c.in_ok-taken.taken c.in_ok-paths.paths) = first_of (search rules, grind (arith, common_steps, is, to_z-of_z w64 _ fits)) in
-          made ∙ (λ i. chosen_of (create_choice (path i) c.args.parent.now c.args.content.now c.args.now c.args.ephemeral c.args.session c.in_ok-up.up c.in_ok-above.above (taken i) c.in_ok-paths.paths));
+          let made : d ≡ chosen_of (create_choice c.in_ok-path.path c.args.parent.now c.args.new.now.content.now c.args.new.now.time c.args.new.now.ephemeral c.args.new.now.session c.in_ok-up.up c.in_ok-above.above c.in_ok-taken.taken c.in_ok-paths.paths) = first_of (search rules, grind (arith, common_steps, is, to_z-of_z w64 _ fits)) in
+          made ∙ (λ i. chosen_of (create_choice (path i) c.args.parent.now c.args.new.now.content.now c.args.new.now.time c.args.new.now.ephemeral c.args.new.now.session c.in_ok-up.up c.in_ok-above.above (taken i) c.in_ok-paths.paths));
     }) c.choose_create.ensures
