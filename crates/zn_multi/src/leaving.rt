@@ -12,11 +12,12 @@ ghost use Rattle.zn_layout.specs.Records.{IsCountRec};
 ghost use Rattle.zn_view.specs.declared.leaving.NodeNow.{NodeNow as AnyNode};
 ghost use Rattle.zn_view.specs.declared.leaving.TreeChange.TheVariants as changed;
 ghost use Rattle.zn_multi.specs.Reading.{AreSmall, IfLeft};
-ghost use Rattle.zn_view.specs.Leaving.{set_once as set_once_more, one_child_more as one_more, one_child_less as one_less, node_with as node_with_change, counts_with as counts_with_change, owned_with as owned_with_change, node_after as node_after_all, counts_after as counts_after_all, owned_after as owned_after_all, with_change as with_one_change, create_change as change_of_create, delete_change as change_of_delete, set_change as change_of_set, is_checked as is_checked_in, is_owner_seen as is_owner_seen_in, node_path as path_of_node, owner_of as owner_for, are_seen as are_seen_in, IsNodeShown, AreCountsShown, IsOwnedShown, IsNodeNow, AreCountsNow, IsOwnedNow, IsOwnedFor, NodeLeaves, DeleteLeaves, SetLeaves, CheckLeaves};
+ghost use Rattle.zn_view.specs.Leaving.{set_once as set_once_more, one_child_more as one_more, one_child_less as one_less, node_with as node_with_change, counts_with as counts_with_change, owned_with as owned_with_change, node_after as node_after_all, counts_after as counts_after_all, owned_after as owned_after_all, with_change as with_one_change, create_change as change_of_create, delete_change as change_of_delete, set_change as change_of_set, is_checked as is_checked_in, is_owner_seen as is_owner_seen_in, node_path as path_of_node, are_seen as are_seen_in, IsNodeShown, AreCountsShown, IsOwnedShown, IsNodeNow, AreCountsNow, IsOwnedNow, IsOwnedFor, NodeLeaves, DeleteLeaves, SetLeaves, CheckLeaves};
 ghost use Rattle.zn_view.specs.Lookups.{HasSeen, sees};
 ghost use Rattle.zn_view.specs.Seen.{seen};
 ghost use Rattle.zn_view.specs.Views.{counts_of_parent};
 
+use crate::creator::{Creator, owner_of};
 use std::alloc::Global;
 use zk_model::Path;
 use zk_model::limit::{MAX_CREATES, MAX_OWNED};
@@ -313,17 +314,16 @@ fn owned_for(
     alloc: Global,
     view: &View,
     changes: &[TreeChange],
-    session: i64,
-    ephemeral: bool,
+    by: &Creator,
 ) -> Result<Option<usize>, Memory>
-    requires real { pos 1 ≤ℤ session }
+    requires real { pos 1 ≤ℤ by.now.session }
     requires few { length changes.now ≤ max_parts }
-    ensures { IfOk result (IsOwnedFor view.now changes.now ephemeral session) }
+    ensures { IfOk result (IsOwnedFor view.now changes.now by.now.ephemeral by.now.session) }
 {
-    if !ephemeral {
+    if !by.ephemeral {
         return Ok(Some(0));
     }
-    owned_now(alloc, view, changes, session)
+    owned_now(alloc, view, changes, by.session)
 }
 
 /// The changes with one more; none where that is none.
@@ -367,37 +367,29 @@ fn create_change(
     None
 }
 
-/// The owner of a create's node: 0 where it is not ephemeral.
-fn owner_of(ephemeral: bool, session: i64) -> i64
-    ensures { result ≡ owner_for ephemeral session }
-{
-    if ephemeral { session } else { 0 }
-}
-
 /// What a create below a parent leaves, by the path of its node, if that is known.
 pub(crate) fn create_leaves(
     alloc: Global,
     view: &View,
     changes: Seq<TreeChange>,
-    session: i64,
-    ephemeral: bool,
+    by: &Creator,
     parent: &Path,
     counts: Option<Option<CountRec>>,
     node: Option<Path>,
 ) -> Result<Left, Memory>
-    requires real { pos 1 ≤ℤ session }
+    requires real { pos 1 ≤ℤ by.now.session }
     requires parent { IsTrue (is_path parent.now) }
     requires valid { IfSome node (λ p. IsTrue (is_path p)) }
     requires few { length changes ≤ max_parts }
-    ensures { IfOk result (λ next. (up : Option (Option AnyNode)) × IsNodeNow view.now changes parent.now up × NodeLeaves view.now changes ephemeral session up counts node next) }
+    ensures { IfOk result (λ next. (up : Option (Option AnyNode)) × IsNodeNow view.now changes parent.now up × NodeLeaves view.now changes by.now.ephemeral by.now.session up counts node next) }
 {
     let up = node_now(alloc, view, changes.as_slice(), parent)?;
     let Some(node) = node else {
         return Ok(None);
     };
     let there = node_now(alloc, view, changes.as_slice(), &node)?;
-    let owned = owned_for(alloc, view, changes.as_slice(), session, ephemeral)?;
-    let owner = owner_of(ephemeral, session);
+    let owned = owned_for(alloc, view, changes.as_slice(), by)?;
+    let owner = owner_of(by);
     with_change(
         changes,
         create_change(node, owner, up, counts, there, owned),

@@ -12,6 +12,7 @@
 #![tactic(auto)]
 
 mod carrying;
+mod creator;
 mod deciding;
 mod laws;
 mod laying;

@@ -12,6 +12,7 @@ ghost use Rattle.zn_view.specs.Views.{about_parent, about_path, counts_of_parent
 ghost use Rattle.zn_updates.specs.KeysRead.{start_keys as keys_of_each};
 ghost use Rattle.zn_multi.specs.Reading.{each_new, sequence_data, with_new, AreCountsAbove, AreRead, IfLeft, IsCreateLeft, IsCreateRead, IsDeleteRead, IsPartRead};
 
+use crate::creator::Creator;
 use crate::leaving::{Left, check_leaves, counts_now, create_leaves, delete_leaves, set_leaves};
 use std::alloc::Global;
 use zk_model::flags::{is_ephemeral, is_sequential};
@@ -100,17 +101,16 @@ fn create_left(
     alloc: Global,
     view: &View,
     left: Left,
-    session: i64,
-    ephemeral: bool,
+    by: &Creator,
     parent: &Option<Path>,
     counts: Option<Option<CountRec>>,
     node: Option<Path>,
 ) -> Result<Left, Memory>
-    requires real { pos 1 ≤ℤ session }
+    requires real { pos 1 ≤ℤ by.now.session }
     requires parent { IfSome parent.now (λ q. IsTrue (is_path q)) }
     requires valid { IfSome node (λ p. IsTrue (is_path p)) }
     requires few { IfSome left (λ changes. length changes ≤ max_parts) }
-    ensures { IfOk result (IsCreateLeft view.now left ephemeral session parent.now counts node) }
+    ensures { IfOk result (IsCreateLeft view.now left by.now.ephemeral by.now.session parent.now counts node) }
 {
     let Some(changes) = left else {
         return Ok(None);
@@ -118,9 +118,7 @@ fn create_left(
     let Some(parent) = parent else {
         return Ok(None);
     };
-    create_leaves(
-        alloc, view, changes, session, ephemeral, parent, counts, node,
-    )
+    create_leaves(alloc, view, changes, by, parent, counts, node)
 }
 
 /// Adds the keys of a new node's parent. The root has none, and is there.
@@ -160,25 +158,24 @@ fn read_named(
     path: &[u8],
     named: Path,
     sequential: bool,
-    ephemeral: bool,
-    session: i64,
+    by: &Creator,
     view: &View,
 ) -> Result<PartRead, Memory>
-    requires real { pos 1 ≤ℤ session }
+    requires real { pos 1 ≤ℤ by.now.session }
     requires prefix { IsTrue sequential → IsTrue (is_sequence_prefix path.now) }
     requires named { IsFalse sequential → named ≡ path.now }
     requires few { IfSome left (λ changes. length changes ≤ max_parts) }
-    ensures { IfOk result (λ r. (own : ListOf AnyKey) × (r.keys ≡ map key_bytes own) × IsCreateRead session view.now left path.now sequential ephemeral (parent_of named) own r.left) }
+    ensures { IfOk result (λ r. (own : ListOf AnyKey) × (r.keys ≡ map key_bytes own) × IsCreateRead by.now.session view.now left path.now sequential by.now.ephemeral (parent_of named) own r.left) }
 {
     let parent = named.parent(alloc)?;
     let mut keys = Seq::new(alloc);
     push_parent(alloc, &mut keys, &parent)?;
     push_data(alloc, &mut keys, path, sequential)?;
-    push_session(alloc, &mut keys, session, ephemeral)?;
+    push_session(alloc, &mut keys, by.session, by.ephemeral)?;
     let counts = counts_above(alloc, view, &left, &parent)?;
     let node = node_path(alloc, path, named, counts, sequential)?;
     push_sequence(alloc, &mut keys, &node, sequential)?;
-    let left = create_left(alloc, view, left, session, ephemeral, &parent, counts, node)?;
+    let left = create_left(alloc, view, left, by, &parent, counts, node)?;
     Ok(PartRead { keys, left })
 }
 
@@ -196,16 +193,13 @@ fn read_create(
     ensures { IfOk result (λ r. (content : ByteList) → IsPartRead session view.now left (parts.Create path.now content acl.now flags) r) }
 {
     match create_form(alloc, path, acl, flags)? {
-        Form::Valid(named) => read_named(
-            alloc,
-            left,
-            path,
-            named,
-            is_sequential(flags),
-            is_ephemeral(flags),
-            session,
-            view,
-        ),
+        Form::Valid(named) => {
+            let by = Creator {
+                session,
+                ephemeral: is_ephemeral(flags),
+            };
+            read_named(alloc, left, path, named, is_sequential(flags), &by, view)
+        }
         Form::Refused(_) => Ok(nothing_read(alloc)),
     }
 }

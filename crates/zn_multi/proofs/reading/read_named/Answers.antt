@@ -31,7 +31,7 @@ push_data-requires c =
 
 pub returns : goal.returns
 returns c =
-    let fits : SFits w64 c.args.session = search rules in
+    let fits : SFits w64 c.args.by.now.session = search rules in
     let session = to_z-of_z w64 _ fits in
     let path : Bytes = c.args.path.now in
     let above : Option Bytes = c.in_ok-parent.parent in
@@ -39,18 +39,18 @@ returns c =
     let node : Option Bytes = c.in_ok-node.node in
     let first : c.push_parent.new.keys ≡ map key_bytes (about_parent above) = c.in_ok-push_parent.ensures ∙ ap (λ (l : List Bytes). l ++ map key_bytes (about_parent above)) c.new-keys.ensures in
     let second = keys_after _ (about_parent above) (plain_data c.args.sequential path) _ first c.in_ok-push_data.ensures in
-    let own : c.push_session.new.keys ≡ c.push_data.new.keys ++ map key_bytes (session_nodes c.args.ephemeral c.args.session) =
-    subst (λ (o : ℤ). c.push_session.new.keys ≡ c.push_data.new.keys ++ map key_bytes (session_nodes c.args.ephemeral o)) session c.in_ok-push_session.ensures in
-    let third = keys_after _ (about_parent above ++ plain_data c.args.sequential path) (session_nodes c.args.ephemeral c.args.session) _ second own in
-    let last = keys_after _ ((about_parent above ++ plain_data c.args.sequential path) ++ session_nodes c.args.ephemeral c.args.session) (sequence_data c.args.sequential node) _ third c.in_ok-push_sequence.ensures in
+    let own : c.push_session.new.keys ≡ c.push_data.new.keys ++ map key_bytes (session_nodes c.args.by.now.ephemeral c.args.by.now.session) =
+    subst (λ (o : ℤ). c.push_session.new.keys ≡ c.push_data.new.keys ++ map key_bytes (session_nodes c.args.by.now.ephemeral o)) session c.in_ok-push_session.ensures in
+    let third = keys_after _ (about_parent above ++ plain_data c.args.sequential path) (session_nodes c.args.by.now.ephemeral c.args.by.now.session) _ second own in
+    let last = keys_after _ ((about_parent above ++ plain_data c.args.sequential path) ++ session_nodes c.args.by.now.ephemeral c.args.by.now.session) (sequence_data c.args.sequential node) _ third c.in_ok-push_sequence.ensures in
     let counts : Option (Option CountRec) = c.in_ok-counts.counts in
     let named_is : node ≡ node_path c.args.sequential path counts = c.in_ok-node.ensures in (
-      create_reads c.args.session path c.args.sequential c.args.ephemeral above node,
+      create_reads c.args.by.now.session path c.args.sequential c.args.by.now.ephemeral above node,
       last,
       record {
         counts = counts;
         counts_are = subst (λ (o : Option Bytes). AreCountsAbove c.args.view.now c.args.left o counts) up c.in_ok-counts.ensures;
-        keys = λ i. create_reads c.args.session path c.args.sequential c.args.ephemeral (up i) (named_is i);
-        next_is = subst (λ (x : ℤ × Option Bytes × Option Bytes). IsCreateLeft c.args.view.now c.args.left c.args.ephemeral x.0 x.1 counts x.2 c.in_ok-left.left) (λ i. (session i, up i, named_is i)) c.in_ok-left.ensures;
+        keys = λ i. create_reads c.args.by.now.session path c.args.sequential c.args.by.now.ephemeral (up i) (named_is i);
+        next_is = subst (λ (x : Option Bytes × Option Bytes). IsCreateLeft c.args.view.now c.args.left c.args.by.now.ephemeral c.args.by.now.session x.0 counts x.1 c.in_ok-left.left) (λ i. (up i, named_is i)) c.in_ok-left.ensures;
       },
     )
