@@ -4,7 +4,7 @@
 //! after which parts the key of a sequence node is looked up. A law ties it to the machine: parts that leave something are parts
 //! that the machine carries out, in each sound state that the view shows.
 //!
-//! The Stat that a create2 is answered is made of its fields (`made_stat` of `zk_transcript`). A law ties it to the tree: it is the
+//! The Stat that a create2 is answered is made of its fields (`made_stat` of `zk_service`). A law ties it to the tree: it is the
 //! Stat of the node that is there then.
 //!
 //! In `specs/`: `Carried` and `Created` (the laws). In `proofs/`: `Shown` (what a view shows of a tree), `Passing` (a part that leaves
