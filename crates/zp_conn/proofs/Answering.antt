@@ -36,11 +36,11 @@ use Rattle.zs_session.specs.declared.connect.ConnectStep.{ConnectStep}
 use Rattle.zs_session.specs.declared.connect.ConnectStep.TheVariants as steps
 use Rattle.zs_session.specs.declared.connect.Fresh.{Fresh}
 use Rattle.zx_base.proofs.Options.{none_some, some_is}
-use Rattle.zp_laws.proofs.Cases.{of_alive, of_txn}
-use Rattle.zp_laws.proofs.Ending.{notices-only, only_sends}
-use Rattle.zp_laws.proofs.Keeping.{PlansBeside, first-or-anew, leaves-beside}
-use Rattle.zp_laws.proofs.Strides.{sends-append}
-use Rattle.zp_laws.specs.Walking.{sends}
+use Rattle.zp_step.proofs.Cases.{of_alive, of_txn}
+use Rattle.zp_step.proofs.Ending.{notices-only, only_sends}
+use Rattle.zp_step.proofs.Beside.{PlansBeside, first-or-anew, leaves-beside}
+use Rattle.zp_step.proofs.Sending.{sends-append}
+use Rattle.zp_step.specs.Ending.{sends}
 use Rattle.zp_run.proofs.Showing.{closed-after}
 use Rattle.zp_run.specs.Runs.{closed_for, frame_in}
 use Rattle.zp_step.proofs.Shutting.{steps-open}

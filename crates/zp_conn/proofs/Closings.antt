@@ -9,8 +9,7 @@ use Rattle.zp_step.specs.Stages.{Core, new_core}
 use Rattle.zp_step.specs.declared.action.Action.{Action}
 use Rattle.zp_step.specs.declared.input.Input.{Input}
 use Rattle.zp_step.specs.declared.input.Input.TheVariants as input
-use Rattle.zp_laws.specs.Ending.{asked_by}
-use Rattle.zp_laws.specs.Walking.{sends}
+use Rattle.zp_step.specs.Ending.{asked_by, sends}
 use Rattle.zp_run.specs.Causes.{Shows}
 use Rattle.zp_run.specs.Heard.{Heard}
 use Rattle.zp_run.specs.Laws.{IsClosedIn, RunsOn}

@@ -16,8 +16,7 @@ use Rattle.zx_outside.proofs.Streams.{Takes-append}
 use Rattle.zp_step.specs.Stages.{Core, new_core}
 use Rattle.zp_step.specs.declared.input.Input.{Input}
 use Rattle.zp_step.specs.declared.input.Input.TheVariants as input
-use Rattle.zp_laws.specs.Ending.{asked_by}
-use Rattle.zp_laws.specs.Walking.{sends}
+use Rattle.zp_step.specs.Ending.{asked_by, sends}
 use Rattle.zp_run.proofs.Running.{runs-on}
 use Rattle.zp_run.specs.Notes.{In, Noted, NotedInput, Out, noted_input, notes_in, notes_of, with_note, with_notes}
 use Rattle.zp_run.specs.Runs.{Step, answer_in, answers_of, entries_of, entry_in, frame_in, frames_of, said}

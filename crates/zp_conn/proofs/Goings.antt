@@ -14,9 +14,8 @@ use Rattle.zp_step.specs.declared.action.Action.{Action}
 use Rattle.zp_step.specs.declared.input.Input.{Input}
 use Rattle.zp_step.specs.declared.input.Input.TheVariants as input
 use Rattle.zp_step.proofs.Shutting.{steps-open}
-use Rattle.zp_laws.proofs.Ending.{steps_end_well}
-use Rattle.zp_laws.specs.Ending.{asked_by, takes_out}
-use Rattle.zp_laws.specs.Walking.{sends}
+use Rattle.zp_step.proofs.Ending.{steps_end_well}
+use Rattle.zp_step.specs.Ending.{asked_by, takes_out, sends}
 use Rattle.zp_run.proofs.Running.{runs-on}
 use Rattle.zp_run.specs.Notes.{In, Noted, Out, noted_input, notes_in, notes_of, with_note, with_notes}
 use Rattle.zp_run.specs.Runs.{Step, answer_in, answers_of, asks_of, closed_for, entry_in, frame_in, frames_of, said}

@@ -6,8 +6,7 @@ use Rattle.ev_types.specs.declared.ask.Ask.{Ask}
 use Rattle.zx_base.specs.declared.memory.Memory.{Memory}
 use Rattle.zp_step.specs.declared.action.Action.{Action}
 use Rattle.zp_step.specs.declared.action.Action.TheVariants as action
-use Rattle.zp_laws.specs.Ending.{ends_well, is_end}
-use Rattle.zp_laws.specs.Walking.{sends}
+use Rattle.zp_step.specs.Ending.{ends_well, is_end, sends}
 use Rattle.zp_run.specs.Notes.{Noted, Out, with_note, with_notes}
 use Rattle.zp_conn.specs.Speaking.{HasSaid, IsCut, IsRest, IsSpeaking, Says, joined}
 use Rattle.zp_conn.specs.declared.speaking.Rest.TheVariants as rest

@@ -2,8 +2,7 @@
 use Rattle.std.specs.Prelude.{◌≡◌, ◌⊎◌, ℕ, true, List, ◌∷◌, ◌++◌, map, flat_map, Option, Some, None, Result, Ok, Err}
 use Rattle.zx_base.specs.declared.memory.Memory.{Memory}
 use Rattle.zp_step.specs.declared.action.Action.{Action}
-use Rattle.zp_laws.specs.Ending.{asked_by, ends_well}
-use Rattle.zp_laws.specs.Walking.{sends}
+use Rattle.zp_step.specs.Ending.{asked_by, ends_well, sends}
 use Rattle.zp_run.specs.Notes.{Noted, Out, with_note, with_notes}
 use Rattle.zp_run.specs.Runs.{closed_for}
 use Rattle.zp_conn.specs.declared.speaking.Rest.{Rest}

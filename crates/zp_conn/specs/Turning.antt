@@ -22,7 +22,7 @@ use Rattle.zp_step.specs.Steps.{awaits_entry}
 use Rattle.zp_step.specs.declared.input.Input.{Input}
 use Rattle.zp_step.specs.declared.input.Input.TheVariants as input
 use Rattle.zp_step.specs.declared.wants.Wants.TheVariants as wants
-use Rattle.zp_laws.specs.Ending.{takes_out}
+use Rattle.zp_step.specs.Ending.{takes_out}
 use Rattle.zp_run.specs.Notes.{notes_of, with_notes}
 use Rattle.zp_run.specs.Runs.{Runs, Step, answer_in, answers_of, asks_of, entries_of, entry_in, frames_of, said}
 use Rattle.zp_core.specs.Held.{IsHeld}

@@ -8,8 +8,8 @@ ghost use Rattle.zp_conn.specs.Handing.{Hands, IsStepped};
 use crate::outbox::Outbox;
 use crate::speaking::{Rest, speak};
 use zp_core::{Core, Input};
-use zp_laws::steps_end_well;
 use zp_run::{Event, Trace};
+use zp_step::steps_end_well;
 use zx_base::Memory;
 
 /// A step, with its packets noted and held.

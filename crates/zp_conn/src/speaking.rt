@@ -1,7 +1,7 @@
 //! What a step says.
 
 ghost use Rattle.std.specs.Prelude.{◌≡◌, true};
-ghost use Rattle.zp_laws.specs.Ending.{ends_well};
+ghost use Rattle.zp_step.specs.Ending.{ends_well};
 ghost use Rattle.zp_conn.specs.Speaking.{IsSpeaking, Says, Speaks};
 
 use crate::outbox::Outbox;

@@ -20,7 +20,7 @@ use Rattle.zp_step.specs.Steps.{Goes, rests, takes}
 use Rattle.zp_step.specs.Taking.{TakesFrame, TakesReadable, plainly}
 use Rattle.zp_core.specs.Going.{GoesOn}
 use Rattle.zp_core.specs.Held.{IsFrame, IsHeld, IsHeldIn, IsReal, IsServing}
-use Rattle.zp_core.proofs.Beside.{PlansBeside, first-or-anew}
+use Rattle.zp_step.proofs.Beside.{PlansBeside, first-or-anew}
 use Rattle.zp_core.proofs.HeldAfter.{takes_up-held}
 use Rattle.zx_base.proofs.Booleans.{either}
 

@@ -45,7 +45,7 @@ use Rattle.zp_step.specs.Connects.{Connects, Opens, begun, connected}
 use Rattle.zp_step.specs.Entries.{entered, then_reply, told_entry}
 use Rattle.zn_view.specs.Keeping.{update_path}
 use Rattle.zp_step.specs.Kept.{keeps}
-use Rattle.zp_core.proofs.Beside.{PlansBeside, first-or-anew, leaves-beside}
+use Rattle.zp_step.proofs.Beside.{PlansBeside, first-or-anew, leaves-beside}
 use Rattle.zp_step.specs.Keepalives.{Checked, KeptAlive, Looked, StillMine, TakesUp, checks, keeps_alive}
 use Rattle.zp_step.specs.Looking.{IfRecords, Looks, asks_for, change_by, decided, expired, max_ranges, moved, pending}
 use Rattle.zp_step.specs.Plans.{CommitAnswered, ReadOn, finishes}

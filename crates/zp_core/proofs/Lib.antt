@@ -11,7 +11,6 @@ pub mod Closing
 pub mod Coming
 pub mod Answered
 pub mod Lives
-pub mod Beside
 pub mod Passing
 pub mod Tasks
 pub mod StillLacking

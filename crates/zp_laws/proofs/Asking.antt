@@ -17,23 +17,20 @@ use Rattle.zx_base.proofs.Options.{none_some}
 use Rattle.zn_view.specs.Seen.{View}
 use Rattle.zn_view.specs.declared.plan.Plan.{Plan}
 use Rattle.zn_view.specs.declared.plan.Who.{Who}
-use Rattle.zp_step.specs.Plans.{finishes}
-use Rattle.zp_step.specs.Replies.{Is, closed_by, is_due, replied}
-use Rattle.zp_step.specs.Replies.{waits}
-use Rattle.zp_step.specs.Stages.{Core, KeptViews, Pending, Stage, Unconnected, Connecting, Ready, KeepingAlive, Checking, Reading, Committing, Waiting, Shut, asked_of, is_shut}
+use Rattle.zp_step.specs.Plans.{finishes, CommitAnswered}
+use Rattle.zp_step.specs.Replies.{Is, closed_by, is_due, replied, waits}
+use Rattle.zp_step.specs.Stages.{Core, KeptViews, Pending, Stage, Unconnected, Connecting, Ready, KeepingAlive, Checking, Reading, Committing, Waiting, Shut, asked_of, is_shut, is_open, is_served}
 use Rattle.zp_step.specs.Steps.{Answers, Comes, Goes, Steps, StepsOpen, queued, rests, takes}
-use Rattle.zp_step.specs.Plans.{CommitAnswered}
 use Rattle.zp_step.specs.declared.action.Action.{Action}
 use Rattle.zp_step.specs.declared.action.Action.TheVariants as action
 use Rattle.zp_step.specs.declared.input.Input.{Input}
 use Rattle.zp_step.specs.declared.input.Input.TheVariants as input
 use Rattle.zp_step.proofs.Shutting.{steps-open}
-use Rattle.zp_laws.specs.Ending.{StaysOut, asked_by, closes, ends_well, is_end}
-use Rattle.zp_laws.specs.Frames.{is_open, is_served}
+use Rattle.zp_step.specs.Ending.{StaysOut, asked_by, closes, ends_well, is_end}
 use Rattle.zp_laws.specs.Inputs.{IsReady, takes_entries}
 use Rattle.zp_laws.specs.Standing.{AreViewsOf, IsPastFrame, IsReply, Stands, StandsOpen, is_ahead}
 use Rattle.zp_laws.specs.Walking.{IsAheadIn, IsAskedFor, IsStill}
-use Rattle.zp_laws.proofs.Ending.{goes-ends, steps_end_well}
+use Rattle.zp_step.proofs.Ending.{goes-ends, steps_end_well}
 use Rattle.zp_laws.proofs.Going.{goes-walks}
 use Rattle.zp_laws.proofs.Replying.{Busy, replied-next, replied-walks}
 use Rattle.zp_laws.proofs.Steps.{was-left, AtStage, at-stage, busy-at, sends_are_walks, served-open, was-done}

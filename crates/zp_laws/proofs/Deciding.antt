@@ -26,12 +26,12 @@ use Rattle.zn_view.specs.declared.plan.Decision.TheVariants.{Answered, Planned, 
 use Rattle.zn_view.proofs.Asked.{stands-put}
 use Rattle.zn_view.proofs.LastUpdate.{last_update-told}
 use Rattle.zp_step.specs.Kept.{keeps, view_path}
-use Rattle.zp_step.specs.Looking.{IsBacked, Looks, asks_for, change_by, decided, expired, max_ranges, moved, pending}
+use Rattle.zp_step.specs.Looking.{IsBacked, Looks, asks_for, change_by, decided, expired, max_ranges, moved, pending, IsForTree}
 use Rattle.zp_step.specs.Replies.{Is, waits}
 use Rattle.zp_step.specs.Stages.{AddsWatch, Core, WatchChange}
 use Rattle.zp_step.specs.declared.action.Action.{Action}
 use Rattle.zp_laws.specs.Frames.{IsFrameAt}
-use Rattle.zp_laws.specs.Standing.{IsForTree, IsMoment, IsPastFrame, IsReply, IsViewAt, IsViewOf, Matches}
+use Rattle.zp_laws.specs.Standing.{IsMoment, IsPastFrame, IsReply, IsViewAt, IsViewOf, Matches}
 use Rattle.zp_laws.specs.Walking.{Walks}
 use Rattle.zp_laws.proofs.Attached.{IsAttached, away-refused, first_place-take, gone-refused, here-served, live-is, moored}
 use Rattle.zp_laws.proofs.Going.{Works, beside-walks, beside-works, plans-walks, reads-walks}

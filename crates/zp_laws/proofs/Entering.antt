@@ -21,12 +21,13 @@ use Rattle.zn_layout.specs.declared.entry.Entry.{Entry}
 use Rattle.zn_view.specs.declared.plan.Who.{Who}
 use Rattle.zp_step.specs.Entries.{entered, then_reply}
 use Rattle.zp_step.specs.Replies.{Is, is_due, send_notices, waits}
-use Rattle.zp_step.specs.Stages.{Core, Pending, Stage, Unconnected, Connecting, Ready, KeepingAlive, Checking, Reading, Committing, Waiting, Shut}
+use Rattle.zp_step.specs.Stages.{Core, Pending, Stage, Unconnected, Connecting, Ready, KeepingAlive, Checking, Reading, Committing, Waiting, Shut, is_open, waits_from}
 use Rattle.zp_step.specs.declared.action.Action.{Action}
-use Rattle.zp_laws.specs.Frames.{AreFrames, is_open, waits_from}
+use Rattle.zp_laws.specs.Frames.{AreFrames}
 use Rattle.zp_laws.specs.Inputs.{IsTrueEntry, takes_entries}
 use Rattle.zp_laws.specs.Standing.{IsFreshLook, IsReply, Knows, Matches, Stands, StandsOpen, has_looked}
-use Rattle.zp_laws.specs.Walking.{IsStill, Strides, Walks, sends}
+use Rattle.zp_laws.specs.Walking.{IsStill, Strides, Walks}
+use Rattle.zp_step.specs.Ending.{sends}
 use Rattle.zp_laws.proofs.Going.{still-matches}
 use Rattle.zp_laws.proofs.Replying.{notices-sent, notices-up, past-told, waits-walks}
 use Rattle.zp_laws.proofs.Strides.{ahead-append, placed, strides-append, strides-one, walks-is}

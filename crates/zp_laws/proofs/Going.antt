@@ -27,17 +27,18 @@ use Rattle.zn_view.specs.Seen.{View, empty_view}
 use Rattle.zn_view.specs.declared.want.Want.{Want}
 use Rattle.zs_session.specs.Alive.{is_alive_due}
 use Rattle.zp_step.specs.Keepalives.{TakesUp, keeps_alive}
-use Rattle.zp_step.specs.Looking.{Looks, asks_for, decided, max_ranges}
+use Rattle.zp_step.specs.Looking.{Looks, asks_for, decided, max_ranges, IsForTree}
 use Rattle.zp_step.specs.Replies.{Is, close_after, stage_after}
-use Rattle.zp_step.specs.Stages.{Committing, Core, KeptViews, Ready, Reading, counted_up}
+use Rattle.zp_step.specs.Stages.{Committing, Core, KeptViews, Ready, Reading, counted_up, is_open, waits_from}
 use Rattle.zp_step.specs.Steps.{Goes, rests, takes}
 use Rattle.zp_step.specs.Taking.{LooksFirst, LooksOn, PlansAtOnce, TakesFrame, TakesReadable, end_of_plain, plainly}
 use Rattle.zp_step.specs.declared.action.Action.{Action}
 use Rattle.zp_step.specs.declared.action.Action.TheVariants as action
-use Rattle.zp_laws.specs.Frames.{AreFrames, IsFrameAt, is_open, waits_from}
-use Rattle.zp_laws.specs.Standing.{AreViewsOf, IsBoundPlan, IsForTree, IsFreshLook, IsViewOf, Knows, Matches, Stands, StandsOpen, is_ahead}
-use Rattle.zp_laws.specs.Walking.{IsAheadIn, Walks, sends}
-use Rattle.zp_laws.proofs.Counting.{counted-small}
+use Rattle.zp_laws.specs.Frames.{AreFrames, IsFrameAt}
+use Rattle.zp_laws.specs.Standing.{AreViewsOf, IsBoundPlan, IsFreshLook, IsViewOf, Knows, Matches, Stands, StandsOpen, is_ahead}
+use Rattle.zp_laws.specs.Walking.{IsAheadIn, Walks}
+use Rattle.zp_step.specs.Ending.{sends}
+use Rattle.zp_step.proofs.Counting.{counted-small}
 use Rattle.zp_laws.proofs.Keeping.{views-of, views-used}
 use Rattle.zp_laws.proofs.Strides.{UpTo, held-after, placed, strides-none, strides-one, turn-next, walks-append, walks-is}
 use Rattle.zp_laws.proofs.WalkMoves.{plain-move}

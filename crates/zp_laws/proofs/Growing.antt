@@ -18,8 +18,8 @@ use Rattle.zn_layout.specs.StandsFor.{StandsFor}
 use Rattle.zn_view.specs.Seen.{View}
 use Rattle.zn_view.specs.Views.{Agrees}
 use Rattle.zn_view.specs.declared.plan.Who.{Who}
-use Rattle.zp_step.specs.Stages.{Core, Pending, Stage, Unconnected, Connecting, Ready, KeepingAlive, Checking, Reading, Committing, Waiting, Shut}
-use Rattle.zp_laws.specs.Frames.{AreFrames, IsAtWork, IsFrameAt, IsRequestAt, waits_from}
+use Rattle.zp_step.specs.Stages.{Core, Pending, Stage, Unconnected, Connecting, Ready, KeepingAlive, Checking, Reading, Committing, Waiting, Shut, waits_from}
+use Rattle.zp_laws.specs.Frames.{AreFrames, IsAtWork, IsFrameAt, IsRequestAt}
 use Rattle.zp_laws.specs.Growing.{Grows}
 use Rattle.zp_laws.specs.Inputs.{Precedes}
 use Rattle.zp_laws.specs.Standing.{IsFreshLook, IsMoment, IsPastFrame, IsReply, IsViewAt, Knows, Matches, Stands, has_looked}

@@ -1,9 +1,5 @@
-pub mod Cases
 pub mod Keeping
-pub mod ConnectAsks
-pub mod Ending
 pub mod Planning
-pub mod Counting
 pub mod Updates
 pub mod WalkMoves
 pub mod Strides

@@ -1,5 +1,5 @@
 -- A plan is made at the time of the step that asks its transaction.
-use Rattle.zp_step.specs.Looking.{asks_for}
+use Rattle.zp_step.specs.Looking.{asks_for, IfRecords, Looks, change_by, decided, expired, max_ranges, moved, pending}
 use Rattle.std.proofs.Common.{◌≡◌, ℕ, List, [], ◌++◌, take, refl, sym, ap, ◌∙◌, subst, Bool, true, false, ℤ, pos, inl, inr, append-nil}
 use Rattle.std.specs.Prelude.{Option, Some, None, ◌⊎◌, if◌then◌else◌, MatchBool}
 use Rattle.std.specs.Arc.{arc_value}
@@ -35,7 +35,6 @@ use Rattle.zp_step.specs.Entries.{entered, then_reply}
 use Rattle.zp_step.specs.Keepalives.{Looked, StillMine, TakesUp, checks, keeps_alive}
 use Rattle.zp_step.specs.Kept.{keeps}
 use Rattle.zn_view.specs.Keeping.{update_path}
-use Rattle.zp_step.specs.Looking.{IfRecords, Looks, change_by, decided, expired, max_ranges, moved, pending}
 use Rattle.zp_step.specs.Plans.{Committed, finishes}
 use Rattle.zp_step.specs.Replies.{Is, closed_by, is_due, replied, stage_after, waits}
 use Rattle.zp_step.specs.Stages.{Core, Pending, Stage, Unconnected, Connecting, Ready, KeepingAlive, Checking, Reading, Committing, Waiting, Shut, is_shut}
@@ -45,11 +44,11 @@ use Rattle.zp_step.specs.declared.action.Action.{Action}
 use Rattle.zp_step.specs.declared.input.Input.{Input}
 use Rattle.zp_step.specs.declared.input.Input.TheVariants as input
 use Rattle.zp_step.proofs.Shutting.{steps-open}
-use Rattle.zp_laws.specs.Ending.{asked_by}
-use Rattle.zp_laws.proofs.Cases.{of_alive, of_txn}
-use Rattle.zp_laws.proofs.Ending.{asks-nothing, notices-only}
+use Rattle.zp_step.specs.Ending.{asked_by}
+use Rattle.zp_step.proofs.Cases.{of_alive, of_txn}
+use Rattle.zp_step.proofs.Ending.{asks-nothing, notices-only}
 use Rattle.zp_laws.specs.Planning.{IsPlannedAt}
-use Rattle.zp_laws.proofs.Keeping.{PlansBeside, first-or-anew}
+use Rattle.zp_step.proofs.Beside.{PlansBeside, first-or-anew}
 use Rattle.zx_base.proofs.Booleans.{either}
 
 planned-is : (now : ℕ) (x : Core × List Action) (c' : Core) (out : List Action) → Is x c' out → IsPlannedAt now x.0.stage → IsPlannedAt now c'.stage

@@ -23,14 +23,16 @@ use Rattle.zk_least.proofs.Firing.{after-line}
 use Rattle.zk_least.proofs.Queues.{none-fires, unarmed-fires}
 use Rattle.zk_least.proofs.Rising.{at-line, not-below}
 use Rattle.zp_step.specs.Replies.{Is, close_after, is_due, replied, send_notices, stage_after, waits}
-use Rattle.zp_step.specs.Stages.{Core, Pending, Waiting, counted_up, seen_by}
+use Rattle.zp_step.specs.Stages.{Core, Pending, Waiting, counted_up, seen_by, is_open}
 use Rattle.zp_step.specs.declared.action.Action.{Action}
 use Rattle.zp_step.specs.declared.action.Action.TheVariants as action
-use Rattle.zp_laws.specs.Frames.{AreFrames, is_open}
+use Rattle.zp_laws.specs.Frames.{AreFrames}
 use Rattle.zp_laws.specs.Standing.{AreViewsOf, IsPastFrame, IsReply, Matches, StandsOpen, is_ahead}
-use Rattle.zp_laws.specs.Walking.{IsAheadIn, Walks, sends}
+use Rattle.zp_laws.specs.Walking.{IsAheadIn, Walks}
+use Rattle.zp_step.specs.Ending.{sends}
 use Rattle.zp_laws.proofs.Going.{close-sends, index-after, later-bound, still-matches}
-use Rattle.zp_laws.proofs.Strides.{UpTo, held-after, placed, sends-append, strides-none, strides-one, turn-next, walks-is}
+use Rattle.zp_laws.proofs.Strides.{UpTo, held-after, placed, strides-none, strides-one, turn-next, walks-is}
+use Rattle.zp_step.proofs.Sending.{sends-append}
 use Rattle.zp_laws.proofs.Updates.{last-update, legal-before, none-above, same-count}
 
 -- a core at work on its next request

@@ -48,7 +48,7 @@ use Rattle.zp_step.specs.Keepalives.{Checked, KeptAlive, Looked, StillMine, chec
 use Rattle.zp_step.specs.Looking.{IfRecords, Looks, moved}
 use Rattle.zp_step.specs.Plans.{CommitAnswered, ReadOn, finishes}
 use Rattle.zp_step.specs.Replies.{Is, closed_by, waits}
-use Rattle.zp_step.specs.Stages.{Core, KeptViews, Stage, Unconnected, Connecting, Ready, KeepingAlive, Checking, Reading, Committing, Waiting, Shut, asked_of, is_shut}
+use Rattle.zp_step.specs.Stages.{Core, KeptViews, Stage, Unconnected, Connecting, Ready, KeepingAlive, Checking, Reading, Committing, Waiting, Shut, asked_of, is_shut, is_open, is_served, waits_from}
 use Rattle.zp_step.specs.Steps.{Answers, Comes, Handles, Steps, queued}
 use Rattle.zp_step.specs.Taking.{TakesFrame}
 use Rattle.zp_step.specs.declared.action.Action.{Action}
@@ -56,11 +56,11 @@ use Rattle.zp_step.specs.declared.action.Action.TheVariants as action
 use Rattle.zp_step.specs.declared.input.Input.{Input}
 use Rattle.zp_step.specs.declared.input.Input.TheVariants as input
 use Rattle.zp_step.proofs.Shutting.{steps-open}
-use Rattle.zp_laws.specs.Frames.{AreFrames, IsAtWork, IsFrameAt, is_open, is_served, waits_from}
+use Rattle.zp_laws.specs.Frames.{AreFrames, IsAtWork, IsFrameAt}
 use Rattle.zp_laws.specs.Inputs.{IsNextFrame, IsOfEarlierIn, IsOwn, IsReady, Precedes, StoodAt, is_answer, is_first}
 use Rattle.zp_laws.specs.Standing.{AreViewsOf, IsFreshLook, IsPastFrame, IsViewOf, IsNoView, IsReply, IsViewAt, Knows, Matches, Stands, StandsOpen, has_looked}
 use Rattle.zp_laws.specs.Walking.{Walks}
-use Rattle.zp_laws.proofs.Cases.{of_alive, open-unless}
+use Rattle.zp_step.proofs.Cases.{of_alive, open-unless}
 use Rattle.zp_laws.proofs.Carried.{WasDone, done-reply, done-view}
 use Rattle.zp_laws.proofs.Deciding.{Sees, expired-walks, moved-walks, view-walks}
 use Rattle.zp_laws.proofs.Entering.{entry-walks}

@@ -5,7 +5,7 @@ use Rattle.std.proofs.lemmas.Int.{ints}
 use Rattle.std.proofs.lemmas.Bool.{and_parts, and_from}
 use Rattle.std.proofs.lemmas.Bool.Decides.{nat_tests}
 use Rattle.std.proofs.lemmas.List.{map-append}
-use Rattle.std.proofs.lemmas.List.Elements.{All-nil, All-append, filter_map-append}
+use Rattle.std.proofs.lemmas.List.Elements.{All-nil, All-append}
 use Rattle.std.proofs.lemmas.Option.{slice_get_within}
 use Rattle.ev_types.specs.Store.{Store}
 use Rattle.zk_transcript.specs.History.{first_place, state_at, when}
@@ -24,11 +24,9 @@ use Rattle.zp_step.specs.declared.action.Action.{Action}
 use Rattle.zp_step.specs.Replies.{Is, stage_after}
 use Rattle.zp_step.specs.Stages.{Core, Stage, Unconnected, Connecting, Ready, KeepingAlive, Checking, Reading, Committing, Waiting, Shut}
 use Rattle.zp_laws.specs.Standing.{IsFreshLook, Matches, has_looked, is_ahead}
-use Rattle.zp_laws.specs.Walking.{IsAheadIn, IsStill, Strides, Walks, sends, sent_in}
+use Rattle.zp_laws.specs.Walking.{IsAheadIn, IsStill, Strides, Walks}
+use Rattle.zp_step.specs.Ending.{sends}
 use Rattle.zp_laws.proofs.WalkMoves.{walk-append}
-
-pub sends-append : (xs ys : List Action) → sends (xs ++ ys) ≡ sends xs ++ sends ys
-sends-append xs ys = filter_map-append sent_in xs ys
 
 abbrev pub UpTo : ℕ → Due → Type 0
 UpTo n d = d.0 ≤ n

@@ -38,9 +38,9 @@ use Rattle.zp_step.specs.declared.input.Input.TheVariants as input
 use Rattle.zp_step.proofs.Shutting.{goes-still, steps-open}
 use Rattle.zp_laws.specs.Frames.{AreFrames}
 use Rattle.zp_laws.specs.Standing.{IsFreshLook, IsViewOf, Stands, is_ahead}
-use Rattle.zp_laws.specs.Walking.{sends}
+use Rattle.zp_step.specs.Ending.{sends}
 use Rattle.zp_laws.specs.Welcomes.{IsAttachment, IsRefusal, IsSilent, IsWelcome, is_connecting, is_entry}
-use Rattle.zp_laws.proofs.Cases.{open-unless}
+use Rattle.zp_step.proofs.Cases.{open-unless}
 use Rattle.zp_laws.proofs.Going.{goes-walks}
 use Rattle.zp_laws.proofs.Strides.{turn-next, walks-if}
 use Rattle.zx_base.proofs.Booleans.{either}

@@ -1,11 +1,11 @@
 -- The frames of a connection in a transcript, and in a core: each one has an index, the connect 0.
-use Rattle.std.specs.Prelude.{◌≡◌, ℕ, ℤ, ◌+◌, ◌<◌, Bool, true, false, List, [], ◌∷◌, length, Some}
+use Rattle.std.specs.Prelude.{◌≡◌, ℕ, ℤ, ◌+◌, ◌<◌, true, List, [], ◌∷◌, Some}
 use Rattle.zk_jute.specs.Requests.{Asks, read_request}
 use Rattle.zk_model.specs.declared.request.Request.{Request}
 use Rattle.zk_service.specs.Answers.{has_header}
 use Rattle.zk_transcript.specs.Walks.{placed_frame}
 use Rattle.zk_transcript.specs.declared.transcript.TranscriptLine.{TranscriptLine}
-use Rattle.zp_step.specs.Stages.{Core, Stage, Unconnected, Connecting, Ready, KeepingAlive, Checking, Reading, Committing, Shut, max_count}
+use Rattle.zp_step.specs.Stages.{Stage, KeepingAlive, Checking, Reading, Committing, max_count}
 
 -- ---- in a transcript
 
@@ -28,18 +28,6 @@ AreFrames lines conn i (f ∷ fs) = IsFrameAt lines conn i f × AreFrames lines 
 
 -- ---- in a core
 
--- the index of the first frame that waits: the next one to answer, or the one after it where that one was taken up; before the
--- connect has come, 0
-abbrev pub waits_from : Stage → ℕ → ℕ
-waits_from (Unconnected fresh) n = 0
-waits_from (Connecting connect) n = n
-waits_from Ready n = n
-waits_from _ n = n + 1
-
--- the index of the next frame that comes
-abbrev pub next_frame : Core → ℕ
-next_frame c = waits_from c.stage c.next + length c.waiting
-
 -- the frame at work, if there is one, is frame i of the transcript
 abbrev pub IsAtWork : List TranscriptLine → ℕ → ℕ → Stage → Type 0
 IsAtWork lines conn i (KeepingAlive bytes) = IsFrameAt lines conn i bytes
@@ -47,16 +35,3 @@ IsAtWork lines conn i (Checking bytes) = IsFrameAt lines conn i bytes
 IsAtWork lines conn i (Reading xid r v ws) = IsRequestAt lines conn i xid r
 IsAtWork lines conn i (Committing xid r v p time) = IsRequestAt lines conn i xid r
 IsAtWork lines conn i _ = Unit {0}
-
--- ---- stages
-
--- attached, and not closed
-abbrev pub is_served : Stage → Bool
-is_served (Unconnected fresh) = false
-is_served (Connecting connect) = false
-is_served Shut = false
-is_served _ = true
-
-abbrev pub is_open : Stage → Bool
-is_open Shut = false
-is_open _ = true

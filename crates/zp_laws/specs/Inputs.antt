@@ -23,10 +23,9 @@ use Rattle.zn_layout.specs.StandsFor.{StandsFor}
 use Rattle.zn_layout.specs.declared.entry.Entry.{Entry}
 use Rattle.zn_view.specs.Seen.{View}
 use Rattle.zn_view.specs.declared.plan.Who.{Who}
-use Rattle.zp_step.specs.Stages.{Core, Stage, Ready, Checking, Reading, Committing, Waiting, asked_of, max_count}
+use Rattle.zp_step.specs.Stages.{Core, Stage, Ready, Checking, Reading, Committing, Waiting, asked_of, max_count, is_served, next_frame}
 use Rattle.zp_step.specs.declared.input.Input.{Input}
 use Rattle.zp_step.specs.declared.input.Input.TheVariants as input
-use Rattle.zp_laws.specs.Frames.{is_served, next_frame}
 use Rattle.zp_laws.specs.Standing.{IsMoment, IsPastFrame, Stands}
 
 -- ---- an entry

@@ -1,6 +1,6 @@
 -- When a plan is made: at the time of the step that asks its transaction.
 use Rattle.std.specs.Prelude.{List, None, false, ℕ, ◌≡◌, ◌⊎◌}
-use Rattle.zp_laws.specs.Ending.{asked_by}
+use Rattle.zp_step.specs.Ending.{asked_by}
 use Rattle.zp_step.specs.Stages.{Committing, Core, Stage, is_shut}
 use Rattle.zp_step.specs.Steps.{Steps}
 use Rattle.zp_step.specs.declared.action.Action.{Action}

@@ -1,13 +1,13 @@
 -- What is true of an attached core between two steps: it stands at a walker of its connection, and what its stage holds is
 -- true of the store and of the transcript.
-use Rattle.std.specs.Prelude.{◌≡◌, ℕ, pos, ◌+◌, ◌≤◌, ◌<◌, ◌⊎◌, Bool, true, false, not, ◌||◌, List, [], length, take, Some, None, is_some, All, slice_get}
+use Rattle.std.specs.Prelude.{◌≡◌, ℕ, pos, ◌+◌, ◌≤◌, ◌<◌, ◌⊎◌, Bool, true, false, not, ◌||◌, List, [], length, take, Some, is_some, All, slice_get}
 use Rattle.std.specs.List.{list_all}
 use Rattle.std.specs.Ordering.{int_eq}
 use Rattle.ev_types.specs.Store.{Store, store_at}
 use Rattle.zk_jute.specs.Requests.{read_request}
-use Rattle.zk_model.specs.Watches.{Watches, no_watches}
+use Rattle.zk_model.specs.Watches.{Watches}
 use Rattle.zk_model.specs.declared.request.Request.{Request}
-use Rattle.zk_service.specs.Answers.{plain_request, xid_of}
+use Rattle.zk_service.specs.Answers.{xid_of}
 use Rattle.zk_transcript.specs.History.{state_at}
 use Rattle.zk_transcript.specs.Legal.{attach_of, index_shown, is_below_place}
 use Rattle.zk_transcript.specs.Walks.{Walker, after_update, is_not_overtaken, own_update, placed_frame, told_as_of}
@@ -23,8 +23,8 @@ use Rattle.zn_view.specs.declared.plan.Plan.{Plan}
 use Rattle.zn_view.specs.declared.plan.Who.{Who}
 use Rattle.zp_step.specs.Replies.{is_due}
 use Rattle.zn_view.specs.Keeping.{IsKeepable}
-use Rattle.zp_step.specs.Stages.{Core, KeptViews, Pending, Stage, Unconnected, Connecting, Ready, Checking, Reading, Committing, Waiting, seen_by}
-use Rattle.zp_laws.specs.Frames.{AreFrames, IsAtWork, IsFrameAt, waits_from}
+use Rattle.zp_step.specs.Stages.{Core, KeptViews, Pending, Stage, Unconnected, Connecting, Ready, Checking, Reading, Committing, Waiting, seen_by, waits_from}
+use Rattle.zp_laws.specs.Frames.{AreFrames, IsAtWork, IsFrameAt}
 
 -- ---- a moment as of which the next request of a walk may be answered
 
@@ -72,10 +72,6 @@ pub record IsViewAt (store : Store) (lines : List TranscriptLine) (conn : ℕ) (
   pub agrees : Agrees v (store_at store number)
   pub stands : StandsFor (store_at store number) (state_at lines looked)
   pub moment : IsMoment lines conn who w looked
-
--- a request that only the tree answers
-abbrev pub IsForTree : Request → Type 0
-IsForTree r = plain_request no_watches r ≡ None
 
 -- the view is of a revision of the store, whenever it was read
 pub record IsViewOf (store : Store) (v : View) : Type 0 where

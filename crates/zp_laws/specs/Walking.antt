@@ -1,28 +1,19 @@
 -- A step of an attached connection is a walk: what it sends is what some choices of the walk give, and an open core stands
 -- where they lead.
-use Rattle.std.specs.Prelude.{◌≡◌, ℕ, ℤ, ◌≤◌, ◌≤ℤ◌, ◌⊎◌, true, false, List, length, map, filter_map, Option, Some, None, All, Contains}
+use Rattle.std.specs.Prelude.{◌≡◌, ℕ, ℤ, ◌≤◌, ◌≤ℤ◌, ◌⊎◌, true, false, List, length, map, Some, All, Contains}
 use Rattle.ev_types.specs.Store.{Store}
 use Rattle.ev_types.specs.declared.ask.Ask.{Ask}
 use Rattle.zk_transcript.specs.Walks.{Choice, Due, Walker, are_fresh, are_in_turn, walk}
 use Rattle.zk_transcript.specs.declared.transcript.TranscriptLine.{TranscriptLine}
-use Rattle.zp_step.specs.Stages.{Core, Stage, Unconnected, Connecting, Waiting, Shut, asked_of}
+use Rattle.zp_step.specs.Stages.{Core, Stage, Unconnected, Connecting, Waiting, Shut, asked_of, is_open}
 use Rattle.zp_step.specs.Steps.{Steps}
 use Rattle.zp_step.specs.declared.action.Action.{Action}
 use Rattle.zp_step.specs.declared.action.Action.TheVariants as action
 use Rattle.zp_step.specs.declared.input.Input.{Input}
-use Rattle.zp_laws.specs.Frames.{is_open}
 use Rattle.zp_laws.specs.Inputs.{IsReady, is_answer}
 use Rattle.zp_laws.specs.Standing.{IsFreshLook, Stands, StandsOpen, is_ahead}
 
 -- ---- what is sent
-
-abbrev pub sent_in : Action → Option (List ℕ)
-sent_in (action.Send bytes) = Some bytes
-sent_in (action.Ask a) = None
-sent_in (action.Close why) = None
-
-abbrev pub sends : List Action → List (List ℕ)
-sends out = filter_map sent_in out
 
 -- Some choices, in turn, lead from one walker to another and give these packets, none of them due after the last line. They are
 -- fresh under the premise `Afresh`, which says when the step looked.

@@ -26,7 +26,8 @@ use Rattle.zp_step.specs.declared.input.Input.{Input}
 use Rattle.zp_step.specs.declared.input.Input.TheVariants as input
 use Rattle.zp_laws.specs.Frames.{AreFrames}
 use Rattle.zp_laws.specs.Standing.{is_ahead}
-use Rattle.zp_laws.specs.Walking.{Walks, sends}
+use Rattle.zp_laws.specs.Walking.{Walks}
+use Rattle.zp_step.specs.Ending.{sends}
 
 -- no session yet
 abbrev pub is_connecting : Stage → Bool

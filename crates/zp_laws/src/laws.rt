@@ -1,6 +1,5 @@
 //! The laws of a connection's steps. Each function does nothing, and its contract is the law.
 
-ghost use Rattle.zp_laws.specs.Ending.{StepsCount, StepsEndWell};
 ghost use Rattle.zp_laws.specs.Growing.{FreshnessLasts, StandingLasts};
 ghost use Rattle.zp_laws.specs.Honest.{PastIsRecords, PresentIsRecords, RecordsAreSound};
 ghost use Rattle.zp_laws.specs.Planning.{PlansAreMadeNow};
@@ -22,23 +21,10 @@ pub fn sends_are_walks()
     ensures { SendsAreWalks }
 {}
 
-/// A step sends packets, and then it asks once, or closes, or neither. It closes exactly where the connection is shut after
-/// it. What it asks is what is out then. Where it asks nothing and stays open, nothing is out, or what was out before stays so:
-/// then the input is no answer and no failure.
-pub fn steps_end_well()
-    ensures { StepsEndWell }
-{}
-
 /// A plan is made at the time of the step that asks its transaction. After a step the plan that is out, if one is, was made in it,
 /// or the stage is what it was and the step asked nothing.
 pub fn plans_are_made_now()
     ensures { PlansAreMadeNow }
-{}
-
-/// Each frame that came was taken up or waits after the others, and no other one: a step that leaves the connection open raises
-/// the index of the next frame to come by one where its input is a frame, and otherwise leaves it. None waits while it is ready.
-pub fn steps_count()
-    ensures { StepsCount }
 {}
 
 /// While a connection has no session, a step sends nothing, or the refusal and ends it, or the welcome; and what it sends

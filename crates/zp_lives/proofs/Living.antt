@@ -13,7 +13,7 @@ use Rattle.zk_transcript.specs.declared.transcript.TranscriptLine.{TranscriptLin
 use Rattle.zp_script.specs.Effects.{new_conn, opened}
 use Rattle.zp_script.specs.Runs.{world_over}
 use Rattle.zp_script.specs.Worlds.{Closed, Conn, Connection, World, conn_at}
-use Rattle.zp_laws.specs.Ending.{asked_by, closes}
+use Rattle.zp_step.specs.Ending.{asked_by, closes}
 use Rattle.zp_lives.proofs.Keeping.{accounted-served}
 use Rattle.zp_lives.proofs.Stepping.{IsAtCore, IsFedFrom, IsStepped, IsTaken, asks_out, left_asks, listed, open-now, step_of, takes-any}
 use Rattle.zp_lives.proofs.Telling.{shown-append, unnamed-shows}

@@ -27,10 +27,10 @@ use Rattle.zp_script.specs.Worlds.{Conn, Connection, World, after_step, conn_at,
 use Rattle.zp_script.specs.declared.flight.Asking.{Asking}
 use Rattle.zp_script.specs.declared.flight.Flight.TheVariants.{Carried, Denied, Out}
 use Rattle.zp_script.specs.declared.flight.Flight.{Flight}
-use Rattle.zp_laws.proofs.Counting.{counted-small}
-use Rattle.zp_laws.proofs.Ending.{steps_end_well}
-use Rattle.zp_laws.specs.Ending.{EndsWell, asked_by, closes}
-use Rattle.zp_laws.specs.Frames.{is_served}
+use Rattle.zp_step.proofs.Counting.{counted-small}
+use Rattle.zp_step.proofs.Ending.{steps_end_well}
+use Rattle.zp_step.specs.Ending.{EndsWell, asked_by, closes}
+use Rattle.zp_step.specs.Stages.{is_served, Checking, Committing, Connecting, Core, KeepingAlive, Reading, Ready, Shut, Stage, Unconnected, Waiting, asked_of, counted_up, is_shut, max_count, wanted_in}
 use Rattle.zp_lives.proofs.Entries.{entry-there}
 use Rattle.zp_lives.proofs.Executing.{IsCarriedTo, carried-to}
 use Rattle.zp_lives.proofs.Keeping.{takes-accounted}
@@ -43,7 +43,6 @@ use Rattle.zp_lives.specs.Showing.{index_after, shown_act, shown_in, shown_of}
 use Rattle.zp_run.specs.Runs.{Step, answers_of, asks_of, entry_in}
 use Rattle.zp_step.proofs.Shutting.{ends-named}
 use Rattle.zp_step.specs.Laws.{end_by}
-use Rattle.zp_step.specs.Stages.{Checking, Committing, Connecting, Core, KeepingAlive, Reading, Ready, Shut, Stage, Unconnected, Waiting, asked_of, counted_up, is_shut, max_count, wanted_in}
 use Rattle.zp_step.specs.Steps.{IsNextEntry, MayTake, Steps, awaits_entry}
 use Rattle.zp_step.specs.declared.action.Action.TheVariants as action
 use Rattle.zp_step.specs.declared.action.Action.{Action}

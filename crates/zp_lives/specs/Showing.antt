@@ -9,7 +9,7 @@ use Rattle.zp_step.specs.declared.action.Action.{Action}
 use Rattle.zp_step.specs.declared.action.Action.TheVariants as action
 use Rattle.zp_step.specs.declared.input.Input.{Input}
 use Rattle.zp_step.specs.declared.input.Input.TheVariants as input
-use Rattle.zp_laws.specs.Ending.{closes}
+use Rattle.zp_step.specs.Ending.{closes}
 use Rattle.zp_run.specs.Runs.{Step}
 
 -- a frame came, with its index; a packet was sent; the connection ended

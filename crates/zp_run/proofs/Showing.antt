@@ -13,7 +13,7 @@ use Rattle.zp_step.specs.Stages.{Core, Pending, Ready, Waiting, Shut, seen_by}
 use Rattle.zp_step.specs.declared.action.Action.{Action}
 use Rattle.zp_step.specs.declared.action.Action.TheVariants as action
 use Rattle.zp_step.specs.declared.input.Input.{Input}
-use Rattle.zp_laws.proofs.Ending.{notices-only, only_sends}
+use Rattle.zp_step.proofs.Ending.{notices-only, only_sends}
 use Rattle.zp_run.specs.Causes.{IsEndReply, Shows}
 use Rattle.zp_run.specs.Heard.{Heard, EndsFor, HoldsHeard, MayEndFor, Rests}
 use Rattle.zp_run.specs.Runs.{closed_for}

@@ -45,16 +45,15 @@ use Rattle.zs_session.specs.declared.connect.Phase.TheVariants.{Unasked, Looking
 use Rattle.zs_session.specs.declared.fault.StepFault.TheVariants as faults
 use Rattle.zx_base.proofs.Options.{none_some, some_is}
 use Rattle.zx_base.specs.Maps.{Bytes}
-use Rattle.zp_laws.proofs.Cases.{of_alive}
-use Rattle.zp_laws.proofs.Ending.{notices-only, only_sends}
-use Rattle.zp_laws.proofs.Keeping.{PlansBeside, first-or-anew, leaves-beside}
-use Rattle.zp_laws.specs.Standing.{IsForTree}
+use Rattle.zp_step.proofs.Cases.{of_alive}
+use Rattle.zp_step.proofs.Ending.{notices-only, only_sends}
+use Rattle.zp_step.proofs.Beside.{PlansBeside, first-or-anew, leaves-beside}
+use Rattle.zp_step.specs.Looking.{IsForTree, IfRecords, Looks, change_by, decided, expired, moved, pending}
 use Rattle.zp_step.proofs.Shutting.{steps-open}
 use Rattle.zp_step.specs.Connects.{Connects, Opens, begun, connected}
 use Rattle.zp_step.specs.Entries.{entered, then_reply}
 use Rattle.zp_step.specs.Keepalives.{Checked, KeptAlive, Looked, StillMine, TakesUp, checks, keeps_alive}
 use Rattle.zp_step.specs.Kept.{keeps}
-use Rattle.zp_step.specs.Looking.{IfRecords, Looks, change_by, decided, expired, moved, pending}
 use Rattle.zp_step.specs.Plans.{Committed, ReadOn, end_after, finishes}
 use Rattle.zp_step.specs.Replies.{Is, close_after, closed_by, stage_after, waits}
 use Rattle.zp_step.specs.Stages.{Core, Pending, Stage, Unconnected, Connecting, Ready, KeepingAlive, Checking, Reading, Committing, Waiting, Shut, counted_up, is_shut, new_core}

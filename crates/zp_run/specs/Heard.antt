@@ -24,7 +24,7 @@ use Rattle.zs_session.specs.Sessions.{life_key}
 use Rattle.zp_step.specs.declared.input.Input.{Input}
 use Rattle.zp_step.specs.declared.input.Input.TheVariants as input
 use Rattle.zp_step.specs.Stages.{Core, Pending, Stage, Unconnected, Connecting, Ready, KeepingAlive, Checking, Reading, Committing, Waiting, Shut}
-use Rattle.zp_laws.specs.Standing.{IsForTree}
+use Rattle.zp_step.specs.Looking.{IsForTree}
 
 -- the frames that came, the connect first, and the answers, each in order
 pub record Heard : Type 0 where

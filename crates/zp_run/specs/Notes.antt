@@ -4,7 +4,7 @@ use Rattle.std.specs.Arc.{arc_value}
 use Rattle.zn_layout.specs.declared.entry.Entry.{Entry}
 use Rattle.zp_step.specs.declared.input.Input.{Input}
 use Rattle.zp_step.specs.declared.input.Input.TheVariants as input
-use Rattle.zp_laws.specs.Walking.{sends}
+use Rattle.zp_step.specs.Ending.{sends}
 use Rattle.zp_run.specs.Runs.{Step}
 use Rattle.zp_run.specs.declared.event.Event.{Event}
 use Rattle.zp_run.specs.declared.event.Event.TheVariants as event

@@ -11,8 +11,7 @@ use Rattle.zp_step.specs.declared.input.Input.{Input}
 use Rattle.zp_step.specs.declared.input.Input.TheVariants as input
 use Rattle.zp_step.specs.Stages.{Core}
 use Rattle.zp_step.specs.Steps.{MayTake, Steps}
-use Rattle.zp_laws.specs.Ending.{asked_by}
-use Rattle.zp_laws.specs.Walking.{sends}
+use Rattle.zp_step.specs.Ending.{asked_by, sends}
 
 -- one step: what was handed in, at which time (in milliseconds), and what the connection did then
 pub record Step : Type 0 where

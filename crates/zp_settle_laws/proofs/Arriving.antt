@@ -19,7 +19,7 @@ use Rattle.zs_session.specs.Alive.{is_alive_due}
 use Rattle.zx_base.proofs.Options.{some_is}
 use Rattle.zn_view.specs.Keeping.{update_path}
 use Rattle.zp_step.specs.Looking.{Looks, asks_for, decided, max_ranges}
-use Rattle.zp_laws.proofs.Keeping.{PlansBeside, first-or-anew}
+use Rattle.zp_step.proofs.Beside.{PlansBeside, first-or-anew}
 use Rattle.zn_view.specs.declared.plan.Decision.TheVariants.{Planned}
 use Rattle.zp_step.proofs.Shutting.{steps-open}
 use Rattle.zp_step.specs.Keepalives.{TakesUp, keeps_alive}

@@ -27,9 +27,9 @@ use Rattle.zx_base.proofs.Options.{none_some, some_is}
 use Rattle.zp_laws.proofs.Attached.{here-served}
 use Rattle.zp_laws.proofs.Deciding.{attached-then}
 use Rattle.zp_laws.proofs.WalkMoves.{walk-next}
-use Rattle.zp_laws.specs.Frames.{AreFrames, IsAtWork, IsFrameAt, is_served, waits_from}
+use Rattle.zp_laws.specs.Frames.{AreFrames, IsAtWork, IsFrameAt}
+use Rattle.zp_step.specs.Stages.{is_served, waits_from, Core, Pending, Stage, Unconnected, Connecting, Ready, KeepingAlive, Checking, Reading, Committing, Waiting, Shut}
 use Rattle.zp_laws.specs.Standing.{IsReply, Knows}
-use Rattle.zp_step.specs.Stages.{Core, Pending, Stage, Unconnected, Connecting, Ready, KeepingAlive, Checking, Reading, Committing, Waiting, Shut}
 use Rattle.zp_script.specs.declared.flight.Flight.{Flight}
 use Rattle.zp_world_laws.proofs.Numbers.{number-same}
 use Rattle.zp_world_laws.specs.Bounds.{attachment}

@@ -26,8 +26,8 @@ use Rattle.zt_text.specs.declared.script.Happening.TheVariants as line
 use Rattle.zt_text.specs.declared.script.Happening.{Happening}
 use Rattle.zt_text.specs.declared.script.Why.TheVariants as why
 use Rattle.zx_base.proofs.Options.{none_some}
-use Rattle.zp_laws.proofs.Ending.{steps_end_well}
-use Rattle.zp_laws.specs.Ending.{closes, ends_well, is_end}
+use Rattle.zp_step.proofs.Ending.{steps_end_well}
+use Rattle.zp_step.specs.Ending.{closes, ends_well, is_end}
 use Rattle.zp_step.proofs.Shutting.{shut-for-good}
 use Rattle.zp_step.specs.Stages.{Core, counted_up, is_shut, max_count, new_core}
 use Rattle.zp_step.specs.Steps.{Steps as CoreSteps}

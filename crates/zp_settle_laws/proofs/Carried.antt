@@ -40,7 +40,7 @@ use Rattle.zs_session.specs.declared.connect.ConnectStep.TheVariants as steps
 use Rattle.zs_session.specs.declared.connect.Phase.{Phase}
 use Rattle.zs_session.specs.declared.connect.Phase.TheVariants.{Attaching, Creating, Granting, Keeping, Looking, LookingAgain, Over, Unasked}
 use Rattle.zx_base.proofs.Options.{none_some, some_is}
-use Rattle.zp_laws.proofs.Cases.{of_alive, of_txn}
+use Rattle.zp_step.proofs.Cases.{of_alive, of_txn}
 use Rattle.zp_laws.proofs.Parts.{found-there, parts-worked, revision-kept}
 use Rattle.zp_step.specs.Stages.{Stage, Unconnected, Connecting, Ready, KeepingAlive, Checking, Reading, Committing, Waiting, Shut, asked_of}
 use Rattle.zp_world_laws.proofs.Asking.{ranges-read}

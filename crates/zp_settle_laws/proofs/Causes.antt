@@ -37,8 +37,8 @@ use Rattle.zs_session.specs.declared.connect.ConnectStep.TheVariants as steps
 use Rattle.zs_session.specs.declared.connect.Fresh.{Fresh}
 use Rattle.zs_session.specs.declared.fault.StepFault.TheVariants as faults
 use Rattle.zx_base.specs.Maps.{Bytes}
-use Rattle.zp_laws.proofs.Cases.{of_alive}
-use Rattle.zp_laws.proofs.Keeping.{PlansBeside, first-or-anew}
+use Rattle.zp_step.proofs.Cases.{of_alive}
+use Rattle.zp_step.proofs.Beside.{PlansBeside, first-or-anew}
 use Rattle.zp_step.proofs.Shutting.{shut-for-good, steps-open}
 use Rattle.zp_step.specs.Connects.{Connects, Opens, begun, connected}
 use Rattle.zp_step.specs.Entries.{entered, then_reply}

@@ -6,8 +6,8 @@ use Rattle.zk_transcript.proofs.Lookups.{first_shown-place}
 use Rattle.zk_transcript.specs.History.{first_shown, frame, frame_shown, when}
 use Rattle.zk_transcript.specs.declared.transcript.TranscriptLine.TheVariants.{Close, Frame as FrameLine, Lapse as LapseLine, Open, Send, Update}
 use Rattle.zk_transcript.specs.declared.transcript.TranscriptLine.{TranscriptLine}
-use Rattle.zp_laws.specs.Frames.{AreFrames, IsAtWork, IsFrameAt, is_served, waits_from}
-use Rattle.zp_step.specs.Stages.{Core, Stage, Unconnected, Connecting, Ready, KeepingAlive, Checking, Reading, Committing, Waiting, Shut, counted_up, is_shut, max_count}
+use Rattle.zp_laws.specs.Frames.{AreFrames, IsAtWork, IsFrameAt}
+use Rattle.zp_step.specs.Stages.{is_served, waits_from, Core, Stage, Unconnected, Connecting, Ready, KeepingAlive, Checking, Reading, Committing, Waiting, Shut, counted_up, is_shut, max_count}
 use Rattle.zp_script.specs.Happens.{asks_at, max_settling}
 use Rattle.zp_script.specs.Worlds.{Actor, Closed, Conn, Connection, Reaper, World, conn_at}
 use Rattle.zp_world_laws.proofs.Arrivals.{core-of}

@@ -18,18 +18,17 @@ use Rattle.zn_view.specs.Seen.{empty_view}
 use Rattle.zs_session.specs.Alive.{is_alive_due}
 use Rattle.zx_base.proofs.Options.{none_some}
 use Rattle.zp_laws.proofs.Strides.{placed}
-use Rattle.zp_laws.specs.Frames.{is_served}
+use Rattle.zp_step.specs.Stages.{is_served, Core, Pending, Stage, Unconnected, Connecting, Ready, KeepingAlive, Checking, Reading, Committing, Waiting, Shut, wanted_in, wants_of}
 use Rattle.zp_laws.specs.Inputs.{IsTrueEntry}
 use Rattle.zp_laws.specs.Standing.{Knows}
 use Rattle.zn_view.specs.Keeping.{update_path}
 use Rattle.zp_step.specs.Looking.{Looks, asks_for, decided, max_ranges}
-use Rattle.zp_laws.proofs.Keeping.{PlansBeside, first-or-anew}
+use Rattle.zp_step.proofs.Beside.{PlansBeside, first-or-anew}
 use Rattle.zn_view.specs.declared.plan.Decision.TheVariants.{Planned}
 use Rattle.zp_step.proofs.Shutting.{steps-open}
 use Rattle.zp_step.specs.Entries.{entered, then_reply, told_entry}
 use Rattle.zp_step.specs.Keepalives.{TakesUp, keeps_alive}
 use Rattle.zp_step.specs.Replies.{Is, is_due, replied}
-use Rattle.zp_step.specs.Stages.{Core, Pending, Stage, Unconnected, Connecting, Ready, KeepingAlive, Checking, Reading, Committing, Waiting, Shut, wanted_in, wants_of}
 use Rattle.zp_step.specs.Steps.{Goes, StepsOpen, rests, takes}
 use Rattle.zp_step.specs.Taking.{TakesFrame, TakesReadable, plainly}
 use Rattle.zp_step.specs.declared.action.Action.{Action}

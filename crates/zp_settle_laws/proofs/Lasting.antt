@@ -28,15 +28,14 @@ use Rattle.zs_reap.specs.declared.reap.Reap.{Reap}
 use Rattle.zs_reap.specs.declared.reap.ReapStep.{ReapStep}
 use Rattle.zs_reap.specs.declared.reap.ReapStep.TheVariants as reaped
 use Rattle.zx_base.proofs.Options.{none_some, some_is}
-use Rattle.zp_laws.proofs.Counting.{steps_count}
+use Rattle.zp_step.proofs.Counting.{steps_count}
 use Rattle.zp_laws.proofs.Steps.{sends_are_walks, served-open}
 use Rattle.zp_laws.proofs.Strides.{placed}
-use Rattle.zp_laws.specs.Ending.{comes_in}
-use Rattle.zp_laws.specs.Frames.{is_served}
+use Rattle.zp_step.specs.Ending.{comes_in}
+use Rattle.zp_step.specs.Stages.{is_served, Core, Stage, Unconnected, Connecting, Ready, KeepingAlive, Checking, Reading, Committing, Waiting, Shut, asked_of, is_shut}
 use Rattle.zp_laws.specs.Inputs.{IsTrueInput}
 use Rattle.zp_step.proofs.Shutting.{ends-named, steps-open}
 use Rattle.zp_step.specs.Laws.{end_by}
-use Rattle.zp_step.specs.Stages.{Core, Stage, Unconnected, Connecting, Ready, KeepingAlive, Checking, Reading, Committing, Waiting, Shut, asked_of, is_shut}
 use Rattle.zp_step.specs.Steps.{Steps as CoreSteps}
 use Rattle.zp_step.specs.declared.action.Action.{Action}
 use Rattle.zp_step.specs.declared.action.Action.TheVariants as action

@@ -26,12 +26,11 @@ use Rattle.zs_session.specs.declared.connect.Phase.{Phase}
 use Rattle.zs_session.specs.declared.fault.StepFault.TheVariants as faults
 use Rattle.zt_text.specs.declared.script.Happening.{Happening}
 use Rattle.zx_base.proofs.Options.{none_some, some_is}
-use Rattle.zp_laws.specs.Frames.{is_served, waits_from}
+use Rattle.zp_step.specs.Stages.{is_served, waits_from, Core, Stage, Unconnected, Connecting, Ready, KeepingAlive, Checking, Reading, Committing, Waiting, Shut, counted_up, is_shut, wanted_in}
 use Rattle.zp_step.proofs.Shutting.{ends-named, goes-still, shut-for-good, steps-open}
 use Rattle.zp_step.specs.Connects.{Connects, connected}
 use Rattle.zp_step.specs.Laws.{end_by}
 use Rattle.zp_step.specs.Replies.{Is, closed_by}
-use Rattle.zp_step.specs.Stages.{Core, Stage, Unconnected, Connecting, Ready, KeepingAlive, Checking, Reading, Committing, Waiting, Shut, counted_up, is_shut, wanted_in}
 use Rattle.zp_step.specs.Steps.{Answers, Comes, Steps as CoreSteps, StepsOpen, queued}
 use Rattle.zp_step.specs.declared.action.Action.{Action}
 use Rattle.zp_step.specs.declared.input.Input.TheVariants as input

@@ -23,10 +23,9 @@ use Rattle.zn_view.specs.declared.plan.Who.{Who}
 use Rattle.zt_text.specs.declared.script.Happening.{Happening}
 use Rattle.zx_base.proofs.Options.{none_some, some_is, some-from_is_some as some-there}
 use Rattle.zp_laws.proofs.Steps.{sends_are_walks}
-use Rattle.zp_laws.specs.Frames.{is_served}
+use Rattle.zp_step.specs.Stages.{is_served, Core, Stage, Unconnected, Connecting, Ready, KeepingAlive, Checking, Reading, Committing, Waiting, Shut, is_shut}
 use Rattle.zp_laws.specs.Inputs.{IsTrueEntry, IsTrueInput}
 use Rattle.zp_step.proofs.Shutting.{ends-named, steps-open}
-use Rattle.zp_step.specs.Stages.{Core, Stage, Unconnected, Connecting, Ready, KeepingAlive, Checking, Reading, Committing, Waiting, Shut, is_shut}
 use Rattle.zp_step.specs.Steps.{Steps as CoreSteps}
 use Rattle.zp_step.specs.declared.action.Action.TheVariants as action
 use Rattle.zp_step.specs.declared.action.Action.{Action}

@@ -23,9 +23,8 @@ use Rattle.zk_transcript.specs.Walks.{Answer, Choice, Due, Plain, Tell, Walker, 
 use Rattle.zk_transcript.specs.declared.transcript.TranscriptLine.{TranscriptLine}
 use Rattle.zk_service.specs.declared.update.UpdateRec.{UpdateRec}
 use Rattle.zx_base.proofs.Options.{none_some, some_is}
-use Rattle.zp_step.specs.Stages.{Core, Stage, Unconnected, Connecting, Ready, KeepingAlive, Checking, Reading, Committing, Waiting, Shut}
+use Rattle.zp_step.specs.Stages.{Core, Stage, Unconnected, Connecting, Ready, KeepingAlive, Checking, Reading, Committing, Waiting, Shut, is_served, waits_from}
 use Rattle.zp_laws.proofs.WalkMoves.{walk-next}
-use Rattle.zp_laws.specs.Frames.{is_served, waits_from}
 use Rattle.zp_script.specs.Happens.{max_settling}
 use Rattle.zp_script.specs.Worlds.{Actor, Closed, Conn, Connection, Reaper, World, conn_at}
 use Rattle.zp_world_laws.proofs.Arrivals.{core-of}

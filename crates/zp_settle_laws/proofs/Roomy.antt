@@ -25,13 +25,12 @@ use Rattle.zs_session.specs.declared.connect.Fresh.{Fresh}
 use Rattle.zt_text.specs.declared.script.Happening.TheVariants as line
 use Rattle.zt_text.specs.declared.script.Happening.{Happening}
 use Rattle.zx_base.proofs.Options.{none_some, some_is}
-use Rattle.zp_laws.proofs.Ending.{steps_end_well}
-use Rattle.zp_laws.specs.Ending.{closes, ends_well}
-use Rattle.zp_laws.specs.Frames.{is_served}
+use Rattle.zp_step.proofs.Ending.{steps_end_well}
+use Rattle.zp_step.specs.Ending.{closes, ends_well}
+use Rattle.zp_step.specs.Stages.{is_served, Core, Stage, Unconnected, Connecting, Ready, KeepingAlive, Checking, Reading, Committing, Waiting, Shut, asked_of, counted_up, is_shut, new_core}
 use Rattle.zp_step.proofs.Shutting.{ends-named, goes-still, shut-for-good, steps-open}
 use Rattle.zp_step.specs.Entries.{entered, then_reply}
 use Rattle.zp_step.specs.Laws.{end_by}
-use Rattle.zp_step.specs.Stages.{Core, Stage, Unconnected, Connecting, Ready, KeepingAlive, Checking, Reading, Committing, Waiting, Shut, asked_of, counted_up, is_shut, new_core}
 use Rattle.zp_step.specs.Steps.{Steps as CoreSteps}
 use Rattle.zp_step.specs.declared.action.Action.TheVariants as action
 use Rattle.zp_step.specs.declared.action.Action.{Action}

@@ -38,15 +38,14 @@ use Rattle.zs_session.specs.Alive.{is_alive_due}
 use Rattle.zs_session.specs.Answering.{viewed}
 use Rattle.zs_session.specs.Sessions.{attach_wants, life_key}
 use Rattle.zx_base.proofs.Options.{none_some, some_is}
-use Rattle.zp_laws.proofs.Cases.{of_alive}
+use Rattle.zp_step.proofs.Cases.{of_alive}
 use Rattle.zp_laws.proofs.Honest.{records-sound}
-use Rattle.zp_laws.specs.Standing.{IsForTree}
+use Rattle.zp_step.specs.Looking.{IsForTree, IfRecords, Looks, asks_for, change_by, decided, max_ranges, moved, pending}
 use Rattle.zp_step.specs.Kept.{keeps}
 use Rattle.zn_view.specs.Keeping.{update_path}
-use Rattle.zp_laws.proofs.Keeping.{PlansBeside, first-or-anew, leaves-beside}
+use Rattle.zp_step.proofs.Beside.{PlansBeside, first-or-anew, leaves-beside}
 use Rattle.zp_step.specs.Entries.{entered, then_reply, told_entry}
 use Rattle.zp_step.specs.Keepalives.{Checked, KeptAlive, Looked, StillMine, TakesUp, checks, keeps_alive}
-use Rattle.zp_step.specs.Looking.{IfRecords, Looks, asks_for, change_by, decided, max_ranges, moved, pending}
 use Rattle.zp_step.specs.Plans.{CommitAnswered, Committed, ReadOn, end_after, finishes}
 use Rattle.zp_step.specs.Replies.{Is, is_due, replied, stage_after, waits}
 use Rattle.zp_step.specs.Stages.{Core, Pending, Stage, Unconnected, Connecting, Ready, KeepingAlive, Checking, Reading, Committing, Waiting, Shut}

@@ -47,10 +47,9 @@ use Rattle.zt_text.specs.declared.script.Happening.{Happening}
 use Rattle.zx_base.proofs.Options.{none_some, some_is}
 use Rattle.zx_base.specs.Maps.{Bytes}
 use Rattle.zp_laws.proofs.Honest.{past-records, present-records, records-sound}
-use Rattle.zp_laws.specs.Frames.{is_served}
+use Rattle.zp_step.specs.Stages.{is_served, Core, Stage, Unconnected, Connecting, Ready, KeepingAlive, Checking, Reading, Committing, Waiting, Shut, asked_of}
 use Rattle.zp_laws.specs.Inputs.{IsOfEarlierIn, is_first}
 use Rattle.zp_laws.specs.Standing.{IsNoView, IsViewAt, Knows}
-use Rattle.zp_step.specs.Stages.{Core, Stage, Unconnected, Connecting, Ready, KeepingAlive, Checking, Reading, Committing, Waiting, Shut, asked_of}
 use Rattle.zp_script.specs.Runs.{RunsFrom}
 use Rattle.zp_script.specs.Worlds.{Conn, Connection, Reaper, World, conn_at}
 use Rattle.zp_script.specs.declared.flight.Flight.TheVariants.{Carried}

@@ -9,4 +9,5 @@ pub mod Plans
 pub mod Connects
 pub mod Entries
 pub mod Steps
+pub mod Ending
 pub mod Laws

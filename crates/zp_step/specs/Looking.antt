@@ -1,12 +1,14 @@
 -- What is asked and decided on a view. A request asks in rounds, all at one revision, for what is still lacking; when nothing
 -- is, it is decided.
-use Rattle.std.specs.Prelude.{◌≢◌, ℕ, ℤ, ◌⊎◌, List, [], ◌∷◌, take, Option, Some, None}
+use Rattle.std.specs.Prelude.{◌≡◌, ◌≢◌, ℕ, ℤ, ◌⊎◌, List, [], ◌∷◌, take, Option, Some, None}
 use Rattle.ev_types.specs.declared.answer.ActAns.{ActAns}
 use Rattle.zk_model.specs.Codes.{session_expired, session_moved}
+use Rattle.zk_model.specs.Watches.{no_watches}
 use Rattle.zk_model.specs.declared.reply.Reply.{Reply}
 use Rattle.zk_model.specs.declared.reply.Reply.TheVariants as reply
 use Rattle.zk_model.specs.declared.request.Request.{Request}
 use Rattle.zk_model.specs.declared.request.Request.TheVariants as req
+use Rattle.zk_service.specs.Answers.{plain_request}
 use Rattle.zk_service.specs.declared.cause.Cause.{Cause}
 use Rattle.zk_service.specs.declared.cause.Cause.TheVariants as cause
 use Rattle.zx_base.specs.Maps.{Bytes}
@@ -28,6 +30,10 @@ use Rattle.zp_step.specs.Stages.{Core, Pending, Reading, Committing, WatchChange
 use Rattle.zp_step.specs.Kept.{keeps}
 use Rattle.zn_view.specs.Keeping.{IsKeepable}
 use Rattle.zp_step.specs.Replies.{Is, closed_by, waits}
+
+-- a request that only the tree answers
+abbrev pub IsForTree : Request → Type 0
+IsForTree r = plain_request no_watches r ≡ None
 
 -- ---- what an answer shows
 

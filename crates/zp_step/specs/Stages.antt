@@ -1,5 +1,5 @@
 -- What a connection keeps between two steps: how far it has come, and what its client was told.
-use Rattle.std.specs.Prelude.{ℕ, ℤ, pos, min, Bool, true, false, List, [], Option, Some, None, if◌then◌else◌}
+use Rattle.std.specs.Prelude.{ℕ, ℤ, ◌+◌, length, pos, min, Bool, true, false, List, [], Option, Some, None, if◌then◌else◌}
 use Rattle.ev_types.specs.declared.ask.Ask.{Ask}
 use Rattle.ev_types.specs.declared.ask.Ask.TheVariants as ask
 use Rattle.zk_model.specs.Watches.{Watches, Seen, no_watches, is_unarmed}
@@ -150,3 +150,30 @@ wanted_in c Shut = wants.Nothing
 
 abbrev pub wants_of : Core → Wants
 wants_of c = wanted_in c c.stage
+
+-- ---- stages
+
+-- attached, and not closed
+abbrev pub is_served : Stage → Bool
+is_served (Unconnected fresh) = false
+is_served (Connecting connect) = false
+is_served Shut = false
+is_served _ = true
+
+abbrev pub is_open : Stage → Bool
+is_open Shut = false
+is_open _ = true
+
+-- ---- frames
+
+-- the index of the first frame that waits: the next one to answer, or the one after it where that one was taken up; before the
+-- connect has come, 0
+abbrev pub waits_from : Stage → ℕ → ℕ
+waits_from (Unconnected fresh) n = 0
+waits_from (Connecting connect) n = n
+waits_from Ready n = n
+waits_from _ n = n + 1
+
+-- the index of the next frame that comes
+abbrev pub next_frame : Core → ℕ
+next_frame c = waits_from c.stage c.next + length c.waiting

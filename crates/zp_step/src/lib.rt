@@ -24,7 +24,8 @@
 //! - `Kept`: the views that a connection keeps of the paths that it used;
 //! - `Kinds`: which update a connection's transaction is;
 //! - `Steps`: a whole step (`Steps`), and which inputs may be handed in (`MayTake`);
-//! - `Laws`: what the functions of `laws` say.
+//! - `Ending`: the order of a step's actions (`StepsEndWell`), and its frames (`StepsCount`);
+//! - `Laws`: what else the functions of `laws` say.
 //!
 //! `MayTake` says which inputs may be handed in. An answer is of the kind of the ask that is out, and a transaction's has numbers
 //! that etcd can have; no step is defined for an answer of another kind. An entry is the one after the cursor, and comes while
@@ -39,6 +40,6 @@ mod wants;
 
 pub use action::Action;
 pub use input::Input;
-pub use laws::{ends_are_named, shut_for_good};
+pub use laws::{ends_are_named, shut_for_good, steps_count, steps_end_well};
 pub use wants::Wants;
 pub use zs_session::Fresh;

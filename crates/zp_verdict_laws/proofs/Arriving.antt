@@ -20,7 +20,7 @@ use Rattle.zp_verdict_laws.proofs.Progress.{Broken, Opened, frames_of-append, pr
 use Rattle.zp_verdict_laws.proofs.Stored.{IsNatural, natural, store-natural}
 use Rattle.zp_verdict_laws.proofs.Tidy.{ChangesOne, Free, IsInStep, Proceeds, alike-proceeds, one-proceeds, proceeds-same, proceeds-then, in_step-count}
 use Rattle.zp_verdict_laws.specs.Lawful.{AreCounted}
-use Rattle.zp_laws.proofs.Counting.{counted-small}
+use Rattle.zp_step.proofs.Counting.{counted-small}
 use Rattle.zp_step.specs.Stages.{Core, counted_up}
 use Rattle.zp_step.specs.declared.input.Input.TheVariants as input
 use Rattle.zp_world_laws.proofs.Acting.{is_own, one-own, own-unnamed}

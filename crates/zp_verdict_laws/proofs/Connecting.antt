@@ -18,7 +18,7 @@ use Rattle.zs_session.specs.declared.connect.ConnectStep.{ConnectStep}
 use Rattle.zs_session.specs.declared.connect.Phase.TheVariants.{Attaching, Creating, Granting, Keeping, Looking, LookingAgain, Over, Unasked}
 use Rattle.zs_session.specs.declared.connect.Phase.{Phase}
 use Rattle.zx_base.proofs.Options.{none_some}
-use Rattle.zp_laws.proofs.Cases.{of_alive}
+use Rattle.zp_step.proofs.Cases.{of_alive}
 use Rattle.zp_verdict_laws.proofs.Shown.{IsNaturalView, number-natural, view-zxid, viewed-natural}
 use Rattle.zp_verdict_laws.proofs.Stored.{AreNaturalParts, IsNatural, IsNaturalAnswer}
 use Rattle.zx_base.proofs.Booleans.{either}

@@ -18,7 +18,7 @@ use Rattle.zp_verdict_laws.proofs.Naturals.{AreNaturalLines, IsNaturalActor, IsN
 use Rattle.zp_verdict_laws.proofs.Stepping.{IsNaturalCore, IsNaturalInput, natural-steps}
 use Rattle.zp_verdict_laws.proofs.Tidy.{ChangesOne, Free, IsTidy, IsInStep, Proceeds, one-proceeds, proceeds-to, in_step-count}
 use Rattle.zp_verdict_laws.specs.Lawful.{AreCounted}
-use Rattle.zp_laws.proofs.Ending.{steps_end_well}
+use Rattle.zp_step.proofs.Ending.{steps_end_well}
 use Rattle.zp_step.specs.Stages.{Core, is_shut, max_count}
 use Rattle.zp_step.specs.declared.input.Input.{Input}
 use Rattle.zp_world_laws.proofs.Acting.{acts-own, ends-own, is_own, own-unnamed}

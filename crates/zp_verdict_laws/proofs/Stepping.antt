@@ -38,15 +38,14 @@ use Rattle.zs_session.specs.declared.connect.ConnectStep.TheVariants as steps
 use Rattle.zs_session.specs.declared.connect.ConnectStep.{ConnectStep}
 use Rattle.zs_session.specs.declared.connect.Fresh.{Fresh}
 use Rattle.zx_base.proofs.Options.{none_some, some_is}
-use Rattle.zp_laws.proofs.Cases.{of_alive}
-use Rattle.zp_laws.proofs.Keeping.{PlansBeside, first-or-anew, leaves-beside}
-use Rattle.zp_laws.specs.Standing.{IsForTree}
+use Rattle.zp_step.proofs.Cases.{of_alive}
+use Rattle.zp_step.proofs.Beside.{PlansBeside, first-or-anew, leaves-beside}
+use Rattle.zp_step.specs.Looking.{IsForTree, IfRecords, Looks, asks_for, change_by, decided, expired, max_ranges, moved, pending}
 use Rattle.zp_step.proofs.Shutting.{shut-for-good, steps-open}
 use Rattle.zp_step.specs.Connects.{Connects, Opens, begun, connected}
 use Rattle.zp_step.specs.Entries.{entered, then_reply}
 use Rattle.zp_step.specs.Keepalives.{StillMine, TakesUp, checks, keeps_alive}
 use Rattle.zp_step.specs.Kept.{keeps}
-use Rattle.zp_step.specs.Looking.{IfRecords, Looks, asks_for, change_by, decided, expired, max_ranges, moved, pending}
 use Rattle.zp_step.specs.Plans.{Committed, end_after, finishes}
 use Rattle.zp_step.specs.Replies.{Is, close_after, closed_by, is_due, replied, send_notices, stage_after, waits}
 use Rattle.zp_step.specs.Stages.{Checking, Committing, Connecting, Core, KeepingAlive, Pending, Reading, Ready, Shut, Stage, Unconnected, Waiting, is_shut, seen_by}

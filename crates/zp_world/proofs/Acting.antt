@@ -17,7 +17,7 @@ use Rattle.zp_script.specs.declared.flight.Flight.TheVariants.{Out}
 use Rattle.zp_script.specs.Arriving.{frame_lines}
 use Rattle.zp_script.specs.StepOutcomes.{StepOutcome, acts, acts_all, leaves, left_by, quiet}
 use Rattle.zp_script.specs.Worlds.{Actor, Conns, Connection, Closed, World}
-use Rattle.zp_laws.specs.Ending.{is_end}
+use Rattle.zp_step.specs.Ending.{is_end}
 use Rattle.zp_step.specs.Stages.{Core, counted_up, is_shut}
 use Rattle.zp_step.specs.declared.action.Action.{Action}
 use Rattle.zp_step.specs.declared.action.Action.TheVariants as action

@@ -12,8 +12,8 @@ use Rattle.zs_session.specs.Answering.{IsAwaited}
 use Rattle.zx_base.proofs.Options.{none_some, some_none}
 use Rattle.zp_script.specs.declared.flight.Flight.{Flight}
 use Rattle.zp_script.specs.declared.flight.Flight.TheVariants.{Out, Carried, Denied}
-use Rattle.zp_laws.proofs.Ending.{steps_end_well}
-use Rattle.zp_laws.specs.Ending.{EndsWell, asked_by, closes, ends_well}
+use Rattle.zp_step.proofs.Ending.{steps_end_well}
+use Rattle.zp_step.specs.Ending.{EndsWell, asked_by, closes, ends_well}
 use Rattle.zp_step.proofs.Shutting.{ends-named, goes-still, steps-open}
 use Rattle.zp_step.specs.Laws.{end_by}
 use Rattle.zp_step.specs.Replies.{Is, closed_by}

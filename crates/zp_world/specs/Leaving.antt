@@ -4,7 +4,7 @@ use Rattle.ev_types.specs.declared.ask.Ask.{Ask}
 use Rattle.zk_service.specs.declared.update.UpdateKind.{UpdateKind}
 use Rattle.zp_script.specs.declared.flight.Flight.{Flight}
 use Rattle.zp_script.specs.declared.flight.Flight.TheVariants.{Out}
-use Rattle.zp_laws.specs.Ending.{asked_by, closes, ends_well}
+use Rattle.zp_step.specs.Ending.{asked_by, closes, ends_well}
 use Rattle.zp_step.specs.Stages.{Core, asked_of, is_shut}
 use Rattle.zp_step.specs.declared.action.Action.{Action}
 use Rattle.zp_step.specs.declared.action.Action.TheVariants as action

@@ -12,8 +12,7 @@ use Rattle.zk_transcript.specs.declared.transcript.TranscriptLine.TheVariants.{S
 use Rattle.zk_service.specs.declared.update.UpdateKind.{UpdateKind}
 use Rattle.zp_step.specs.declared.action.Action.{Action}
 use Rattle.zp_step.specs.declared.action.Action.TheVariants as action
-use Rattle.zp_laws.specs.Ending.{asked_by, closes, ends_well, is_end}
-use Rattle.zp_laws.specs.Walking.{sends}
+use Rattle.zp_step.specs.Ending.{asked_by, closes, ends_well, is_end, sends}
 use Rattle.zp_script.specs.StepOutcomes.{StepOutcome, acts, acts_all, left_by, quiet}
 use Rattle.zp_script.specs.declared.flight.Flight.{Flight}
 use Rattle.zp_script.specs.declared.flight.Flight.TheVariants.{Out}

@@ -16,7 +16,7 @@ use Rattle.zk_transcript.specs.declared.transcript.TranscriptLine.{TranscriptLin
 use Rattle.zp_script.specs.Arriving.{Arrives, EndsBadly, FramesArrive, frame_lines, shown_frame}
 use Rattle.zp_script.specs.Handing.{Handed}
 use Rattle.zp_script.specs.Worlds.{Actor, Closed, Conn, Connection, Reaper, World, conn_at, is_open_conn, with_conn, zxid_at}
-use Rattle.zp_laws.proofs.Counting.{counted-small}
+use Rattle.zp_step.proofs.Counting.{counted-small}
 use Rattle.zp_step.specs.Stages.{Core, counted_up, max_count}
 use Rattle.zp_step.specs.declared.input.Input.TheVariants as input
 use Rattle.zp_world_laws.proofs.Acting.{Acts, acts-entries, acts-known, acts-within, is_own}

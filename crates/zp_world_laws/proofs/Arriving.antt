@@ -1,7 +1,7 @@
 -- Bytes of a client arrive: each frame is shown, and handed to its connection, which takes it up, puts it after those that wait, or
 -- ends. A length out of range ends it.
 use Rattle.zp_laws.proofs.Steps.{frames-push, knows-still}
-use Rattle.zp_world_laws.proofs.Closing.{shown-but}
+use Rattle.zp_world_laws.proofs.Closing.{shown-but, AreShown, IsShownFrame, but-of, shown-plain, with_line}
 use Rattle.ev_types.specs.Store.{Store, present}
 use Rattle.ev_types.specs.declared.answer.Answer.TheVariants as answer
 use Rattle.ev_types.specs.declared.answer.Answer.{Answer}
@@ -27,17 +27,15 @@ use Rattle.zp_script.specs.declared.flight.Asking.{Asking}
 use Rattle.zp_script.specs.declared.flight.Flight.TheVariants.{Carried, Denied, Out}
 use Rattle.zp_script.specs.declared.flight.Flight.{Flight}
 use Rattle.zp_laws.proofs.Going.{still-matches}
-use Rattle.zp_laws.proofs.Steps.{frames-push}
-use Rattle.zp_laws.specs.Frames.{IsFrameAt, is_served, next_frame, waits_from}
+use Rattle.zp_laws.specs.Frames.{IsFrameAt}
+use Rattle.zp_step.specs.Stages.{is_served, next_frame, waits_from, Checking, Committing, Connecting, Core, KeepingAlive, Reading, Ready, Shut, Stage, Unconnected, Waiting, counted_up, is_shut}
 use Rattle.zp_laws.specs.Inputs.{IsOwn}
 use Rattle.zp_step.proofs.Shutting.{goes-still, steps-open}
 use Rattle.zp_step.specs.Replies.{Is, closed_by}
-use Rattle.zp_step.specs.Stages.{Checking, Committing, Connecting, Core, KeepingAlive, Reading, Ready, Shut, Stage, Unconnected, Waiting, counted_up, is_shut}
 use Rattle.zp_step.specs.Steps.{Comes, Goes, Steps, queued}
 use Rattle.zp_step.specs.declared.action.Action.TheVariants as action
 use Rattle.zp_step.specs.declared.action.Action.{Action}
 use Rattle.zp_step.specs.declared.input.Input.TheVariants as input
-use Rattle.zp_world_laws.proofs.Closing.{AreShown, IsShownFrame, but-of, shown-plain, with_line}
 use Rattle.zp_world_laws.proofs.Commits.{head-at, stands-now}
 use Rattle.zp_world_laws.proofs.Ends.{closing-whole}
 use Rattle.zp_world_laws.proofs.Executing.{precedes-self}

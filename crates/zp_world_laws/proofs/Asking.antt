@@ -16,8 +16,8 @@ use Rattle.zn_view.specs.Asks.{plan_txn, ranges_of}
 use Rattle.zn_view.specs.declared.plan.Who.{Who}
 use Rattle.zn_view.specs.declared.want.Want.{Want}
 use Rattle.zs_session.specs.Sessions.{attach_wants}
-use Rattle.zp_step.specs.Stages.{Core, Stage, Unconnected, Connecting, Ready, KeepingAlive, Checking, Reading, Committing, Waiting, Shut, asked_of}
-use Rattle.zp_laws.specs.Frames.{IsAtWork, is_served}
+use Rattle.zp_step.specs.Stages.{Core, Stage, Unconnected, Connecting, Ready, KeepingAlive, Checking, Reading, Committing, Waiting, Shut, asked_of, is_served}
+use Rattle.zp_laws.specs.Frames.{IsAtWork}
 use Rattle.zp_laws.specs.Standing.{Knows, is_ahead}
 use Rattle.zp_laws.specs.Walking.{IsAheadIn}
 use Rattle.zp_step.specs.Kinds.{kind_in_stage, kind_of_request}

@@ -10,8 +10,7 @@ use Rattle.zk_transcript.specs.History.{after, frame, frame_shown, first_shown}
 use Rattle.zk_service.specs.declared.cause.Ended.{Ended}
 use Rattle.zk_transcript.specs.declared.transcript.TranscriptLine.{TranscriptLine}
 use Rattle.zk_transcript.specs.declared.transcript.TranscriptLine.TheVariants.{Frame as FrameLine, Close}
-use Rattle.zp_step.specs.Stages.{Core, is_shut}
-use Rattle.zp_laws.specs.Frames.{is_served}
+use Rattle.zp_step.specs.Stages.{Core, is_shut, is_served}
 use Rattle.zp_script.specs.StepOutcomes.{ends, leaves, left_by, quiet}
 use Rattle.zp_script.specs.Worlds.{Closed, Conn, Connection, World, conn_at, with_conn}
 use Rattle.zp_script.specs.declared.flight.Asking.{Asking}

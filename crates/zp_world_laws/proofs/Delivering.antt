@@ -10,9 +10,8 @@ use Rattle.zp_script.specs.Handing.{AnswerComes, AnswerComesTo, Handed}
 use Rattle.zp_script.specs.Worlds.{Actor, Conn, Connection, World, conn_at, with_conn}
 use Rattle.zp_script.specs.declared.flight.Flight.TheVariants.{Carried, Denied, Out}
 use Rattle.zp_script.specs.declared.flight.Flight.{Flight}
-use Rattle.zp_laws.specs.Frames.{is_served}
+use Rattle.zp_step.specs.Stages.{is_served, Core, Ready, Stage, Waiting, asked_of}
 use Rattle.zp_laws.specs.Inputs.{IsTrueEntry, takes_entries}
-use Rattle.zp_step.specs.Stages.{Core, Ready, Stage, Waiting, asked_of}
 use Rattle.zp_step.specs.declared.input.Input.TheVariants as input
 use Rattle.zp_step.specs.declared.input.Input.{Input}
 use Rattle.zp_world_laws.proofs.Closing.{but-of}

@@ -35,9 +35,9 @@ use Rattle.zn_view.specs.Asks.{WritesOwnKeys, plan_txn, ranges_of, transaction}
 use Rattle.zn_view.specs.Deciding.{IsGood}
 use Rattle.zn_view.specs.Seen.{View}
 use Rattle.zn_view.specs.declared.plan.Plan.{Plan}
-use Rattle.zp_step.specs.Stages.{Core, Stage, Unconnected, Connecting, Ready, KeepingAlive, Checking, Reading, Committing, Waiting, Shut, asked_of}
+use Rattle.zp_step.specs.Stages.{Core, Stage, Unconnected, Connecting, Ready, KeepingAlive, Checking, Reading, Committing, Waiting, Shut, asked_of, is_served}
 use Rattle.zp_laws.proofs.Growing.{moment-push, past-push, stands-push}
-use Rattle.zp_laws.specs.Frames.{IsAtWork, is_served}
+use Rattle.zp_laws.specs.Frames.{IsAtWork}
 use Rattle.zp_laws.specs.Inputs.{IsOfEarlierIn, IsOwn, IsOwnLine, IsTrueAnswer, Precedes, StoodAt, is_first, kind_for}
 use Rattle.zp_laws.specs.Standing.{IsMoment, IsPastFrame, Knows, Stands, has_looked, is_ahead}
 use Rattle.zp_step.specs.Kinds.{kind_in_stage, kind_of_request}

@@ -22,15 +22,14 @@ use Rattle.zp_script.specs.StepOutcomes.{StepOutcome, acts_all, leaves, quiet}
 use Rattle.zp_script.specs.Worlds.{Closed, Conn, Connection, World, after_step}
 use Rattle.zp_script.specs.declared.flight.Flight.TheVariants.{Carried, Denied, Out}
 use Rattle.zp_script.specs.declared.flight.Flight.{Flight}
-use Rattle.zp_laws.proofs.Ending.{steps_end_well}
+use Rattle.zp_step.proofs.Ending.{steps_end_well}
 use Rattle.zp_laws.proofs.Steps.{frames-push}
-use Rattle.zp_laws.specs.Ending.{EndsWell, IsNumbered}
-use Rattle.zp_laws.specs.Frames.{AreFrames, IsFrameAt, is_served, next_frame, waits_from}
-use Rattle.zp_laws.specs.Walking.{sends}
+use Rattle.zp_step.specs.Ending.{EndsWell, IsNumbered, sends}
+use Rattle.zp_laws.specs.Frames.{AreFrames, IsFrameAt}
+use Rattle.zp_step.specs.Stages.{is_served, next_frame, waits_from, Checking, Committing, Connecting, Core, KeepingAlive, Reading, Ready, Shut, Stage, Unconnected, Waiting, asked_of, is_shut, max_count}
 use Rattle.zp_step.proofs.Shutting.{goes-still, steps-open}
 use Rattle.zp_step.specs.Connects.{Opens, begun, connected, kept_by}
 use Rattle.zp_step.specs.Replies.{Is, closed_by}
-use Rattle.zp_step.specs.Stages.{Checking, Committing, Connecting, Core, KeepingAlive, Reading, Ready, Shut, Stage, Unconnected, Waiting, asked_of, is_shut, max_count}
 use Rattle.zp_step.specs.Steps.{Comes, StepsOpen, with_frame_counted, queued}
 use Rattle.zp_step.specs.declared.action.Action.TheVariants as action
 use Rattle.zp_step.specs.declared.action.Action.{Action}

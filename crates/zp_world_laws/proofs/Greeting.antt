@@ -32,20 +32,20 @@ use Rattle.zp_script.specs.Worlds.{Closed, Conn, Connection, World, after_step, 
 use Rattle.zp_script.specs.declared.flight.Asking.{Asking}
 use Rattle.zp_script.specs.declared.flight.Flight.TheVariants.{Carried, Out}
 use Rattle.zp_laws.proofs.Asking.{open-is}
-use Rattle.zp_laws.proofs.ConnectAsks.{same-ask}
-use Rattle.zp_laws.proofs.Ending.{steps_end_well}
+use Rattle.zp_step.proofs.ConnectAsks.{same-ask}
+use Rattle.zp_step.proofs.Ending.{steps_end_well}
 use Rattle.zp_laws.proofs.Going.{goes-walks}
 use Rattle.zp_laws.proofs.WalkMoves.{walk-next}
 use Rattle.zp_laws.proofs.Welcoming.{welcomed-stands}
-use Rattle.zp_laws.specs.Ending.{EndsWell, StaysOut, asked_by}
-use Rattle.zp_laws.specs.Frames.{AreFrames, is_served}
+use Rattle.zp_step.specs.Ending.{EndsWell, StaysOut, asked_by, sends}
+use Rattle.zp_laws.specs.Frames.{AreFrames}
+use Rattle.zp_step.specs.Stages.{is_served, Connecting, Core, Ready, Shut, asked_of, is_shut}
 use Rattle.zp_laws.specs.Standing.{IsFreshLook, StandsOpen}
-use Rattle.zp_laws.specs.Walking.{IsAheadIn, IsStill, Walks, sends}
+use Rattle.zp_laws.specs.Walking.{IsAheadIn, IsStill, Walks}
 use Rattle.zp_laws.specs.Welcomes.{IsAttachment}
 use Rattle.zp_step.proofs.Shutting.{goes-still, steps-open}
 use Rattle.zp_step.specs.Connects.{Connects, attached_core, connected, kept_by}
 use Rattle.zp_step.specs.Replies.{Is, closed_by}
-use Rattle.zp_step.specs.Stages.{Connecting, Core, Ready, Shut, asked_of, is_shut}
 use Rattle.zp_step.specs.Steps.{Answers, Goes, StepsOpen}
 use Rattle.zp_step.specs.declared.action.Action.TheVariants as action
 use Rattle.zp_step.specs.declared.action.Action.{Action}

@@ -24,16 +24,15 @@ use Rattle.zp_script.specs.declared.flight.Asking.{Asking}
 use Rattle.zp_script.specs.declared.flight.Flight.TheVariants.{Out}
 use Rattle.zp_script.specs.declared.flight.Flight.{Flight}
 use Rattle.zp_laws.proofs.Asking.{open-is, plans_are_bound}
-use Rattle.zp_laws.proofs.Ending.{steps_end_well}
+use Rattle.zp_step.proofs.Ending.{steps_end_well}
 use Rattle.zp_laws.proofs.Growing.{look-push, stands-push}
 use Rattle.zp_laws.proofs.Steps.{sends_are_walks, served-open}
 use Rattle.zp_laws.proofs.WalkMoves.{walk-next}
-use Rattle.zp_laws.specs.Ending.{EndsWell, StaysOut, asked_by, closes, takes_out}
-use Rattle.zp_laws.specs.Frames.{is_open, is_served}
+use Rattle.zp_step.specs.Ending.{EndsWell, StaysOut, asked_by, closes, takes_out}
+use Rattle.zp_step.specs.Stages.{is_open, is_served, Checking, Committing, Connecting, Core, KeepingAlive, Reading, Ready, Shut, Stage, Unconnected, Waiting, asked_of, is_shut}
 use Rattle.zp_laws.specs.Inputs.{IsReady, IsTrueInput, is_answer}
 use Rattle.zp_laws.specs.Standing.{IsFreshLook, Knows, Stands, StandsOpen, has_looked, is_ahead}
 use Rattle.zp_laws.specs.Walking.{IsAheadIn, Walks}
-use Rattle.zp_step.specs.Stages.{Checking, Committing, Connecting, Core, KeepingAlive, Reading, Ready, Shut, Stage, Unconnected, Waiting, asked_of, is_shut}
 use Rattle.zp_step.specs.declared.action.Action.TheVariants as action
 use Rattle.zp_step.specs.declared.action.Action.{Action}
 use Rattle.zp_step.specs.declared.input.Input.{Input}

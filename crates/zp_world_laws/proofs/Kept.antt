@@ -14,8 +14,7 @@ use Rattle.zk_transcript.specs.Legal.{is_legal}
 use Rattle.zk_transcript.specs.declared.transcript.TranscriptLine.{TranscriptLine}
 use Rattle.zk_transcript.specs.declared.transcript.TranscriptLine.TheVariants.{Lapse as LapseLine}
 use Rattle.zk_service.specs.declared.update.UpdateKind.{UpdateKind}
-use Rattle.zp_step.specs.Stages.{Core}
-use Rattle.zp_laws.specs.Frames.{is_served}
+use Rattle.zp_step.specs.Stages.{Core, is_served}
 use Rattle.zp_laws.specs.Inputs.{Precedes}
 use Rattle.zp_script.specs.Carrying.{CarriedBy, Executes, ExecutesStray}
 use Rattle.zp_script.specs.Effects.{LapsesTo, PutTo}

@@ -17,12 +17,10 @@ use Rattle.zp_script.specs.StepOutcomes.{ended_by, leaves, quiet}
 use Rattle.zp_script.specs.Worlds.{Actor, Closed, Conn, Connection, Reaper, World, conn_at, with_conn}
 use Rattle.zp_script.specs.declared.flight.Flight.TheVariants.{Carried, Denied, Out}
 use Rattle.zp_script.specs.declared.flight.Flight.{Flight}
-use Rattle.zp_laws.proofs.Ending.{steps_end_well}
-use Rattle.zp_laws.specs.Ending.{comes_in}
-use Rattle.zp_laws.specs.Frames.{is_served}
+use Rattle.zp_step.proofs.Ending.{steps_end_well}
+use Rattle.zp_step.specs.Ending.{comes_in, sends}
+use Rattle.zp_step.specs.Stages.{is_served, Checking, Committing, Connecting, Core, KeepingAlive, Reading, Ready, Shut, Stage, Unconnected, Waiting, is_shut, wanted_in, wants_of}
 use Rattle.zp_laws.specs.Inputs.{IsTrueEntry}
-use Rattle.zp_laws.specs.Walking.{sends}
-use Rattle.zp_step.specs.Stages.{Checking, Committing, Connecting, Core, KeepingAlive, Reading, Ready, Shut, Stage, Unconnected, Waiting, is_shut, wanted_in, wants_of}
 use Rattle.zp_step.specs.declared.input.Input.TheVariants as input
 use Rattle.zp_step.specs.declared.input.Input.{Input}
 use Rattle.zp_world_laws.proofs.Acting.{Acts, ends-own, leaves-acts}

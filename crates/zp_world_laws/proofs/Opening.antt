@@ -2,8 +2,7 @@
 use Rattle.std.proofs.Common.{◌≡◌, ◌≢◌, ℕ, List, [], ◌∷◌, ◌++◌, refl, sym, ap, ◌∙◌, true, false, ℤ, inl, inr}
 use Rattle.std.specs.Prelude.{Some, None}
 use Rattle.zk_transcript.specs.declared.transcript.TranscriptLine.TheVariants.{Open}
-use Rattle.zp_step.specs.Stages.{Core, is_shut, new_core}
-use Rattle.zp_laws.specs.Frames.{is_served}
+use Rattle.zp_step.specs.Stages.{Core, is_shut, new_core, is_served}
 use Rattle.zp_script.specs.Effects.{new_conn, opened}
 use Rattle.zp_script.specs.Worlds.{Conn, Connection, World, conn_at}
 use Rattle.zp_script.specs.declared.flight.Asking.{Asking}

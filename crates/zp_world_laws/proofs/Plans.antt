@@ -40,7 +40,8 @@ use Rattle.zn_view.specs.declared.plan.Who.{Who}
 use Rattle.zp_laws.proofs.Attached.{IsAttached, acts-here, live-is}
 use Rattle.zp_laws.proofs.Revisions.{may-commit}
 use Rattle.zp_laws.specs.Inputs.{kind_for}
-use Rattle.zp_laws.specs.Standing.{IsForTree, is_ahead}
+use Rattle.zp_step.specs.Looking.{IsForTree}
+use Rattle.zp_laws.specs.Standing.{is_ahead}
 use Rattle.zp_world_laws.proofs.Commits.{stands-now, zxid-next}
 use Rattle.zp_world_laws.specs.Bounds.{IsBoundRequest}
 use Rattle.zp_world_laws.specs.Serving.{Commits, GuardsHold, StoreServes, next_revision}

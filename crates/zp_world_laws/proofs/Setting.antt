@@ -7,8 +7,7 @@ use Rattle.zp_script.specs.Worlds.{Conn, Connection, World, conn_at, is_closed_a
 use Rattle.zp_script.specs.declared.flight.Asking.{Asking}
 use Rattle.zp_script.specs.declared.flight.Flight.TheVariants.{Carried, Denied, Out}
 use Rattle.zp_script.specs.declared.flight.Flight.{Flight}
-use Rattle.zp_laws.specs.Frames.{is_served}
-use Rattle.zp_step.specs.Stages.{Core, is_shut}
+use Rattle.zp_step.specs.Stages.{is_served, Core, is_shut}
 use Rattle.zp_world_laws.proofs.Carrying.{one, request-asker}
 use Rattle.zp_world_laws.proofs.Closing.{But}
 use Rattle.zp_world_laws.proofs.Kept.{closed-same, no-stray}

@@ -18,9 +18,8 @@ use Rattle.zp_script.specs.Worlds.{Actor, Closed, Conn, Connection, Reaper, Worl
 use Rattle.zp_script.specs.declared.flight.Flight.{Flight}
 use Rattle.zp_script.specs.declared.flight.Flight.TheVariants.{Out, Carried, Denied}
 use Rattle.zp_laws.proofs.Strides.{placed}
-use Rattle.zp_laws.specs.Frames.{is_served}
+use Rattle.zp_step.specs.Stages.{is_served, Core, Pending, Stage, Unconnected, Connecting, Ready, KeepingAlive, Checking, Reading, Committing, Waiting, Shut, asked_of, is_shut, wanted_in}
 use Rattle.zp_laws.specs.Standing.{Knows}
-use Rattle.zp_step.specs.Stages.{Core, Pending, Stage, Unconnected, Connecting, Ready, KeepingAlive, Checking, Reading, Committing, Waiting, Shut, asked_of, is_shut, wanted_in}
 use Rattle.zp_world_laws.proofs.Arrivals.{core-of}
 use Rattle.zp_world_laws.proofs.Lives.{known-at}
 use Rattle.zp_world_laws.specs.Accounting.{IsAccounted}

@@ -1,8 +1,8 @@
 -- What may be carried out after a line of a script could be carried out before it, or its plan was made at the clock's time now.
 -- So it is with each update that the line added.
-use Rattle.zp_script.specs.StepOutcomes.{quiet, acts_all}
-use Rattle.zp_script.specs.Kinds.{kind_asked}
-use Rattle.zp_world_laws.proofs.Running.{answers, carries, enters}
+use Rattle.zp_script.specs.StepOutcomes.{quiet, acts_all, StepOutcome, ended_by, ends, leaves, left_by, reap_acts}
+use Rattle.zp_script.specs.Kinds.{kind_asked, kind_of_reap}
+use Rattle.zp_world_laws.proofs.Running.{answers, carries, enters, SettlesOn, Settling, number-free, settling-is}
 use Rattle.ev_types.specs.Denials.{carry}
 use Rattle.ev_types.specs.Lapses.{foreign, lapse}
 use Rattle.ev_types.specs.Store.{Store, revision}
@@ -36,15 +36,13 @@ use Rattle.zp_script.specs.Faults.{fault, flight_at}
 use Rattle.zp_script.specs.Handing.{AnswerComesTo, FailureComesTo, Handed, Reaps, landed, landed_conn}
 use Rattle.zp_script.specs.Happens.{Settles, settling}
 use Rattle.zp_step.specs.Kinds.{kind_in_stage, kind_of_connect, kind_of_request}
-use Rattle.zp_script.specs.Kinds.{kind_of_reap}
-use Rattle.zp_script.specs.StepOutcomes.{StepOutcome, ended_by, ends, leaves, left_by, reap_acts}
 use Rattle.zp_script.specs.Worlds.{Actor, Closed, Conn, Connection, Reaper, World, after_reap, after_step, conn_at, is_open_conn, with_conn, zxid_at}
 use Rattle.zp_script.specs.declared.flight.Asking.{Asking}
 use Rattle.zp_script.specs.declared.flight.Flight.TheVariants.{Carried, Denied, Out}
 use Rattle.zp_script.specs.declared.flight.Flight.{Flight}
-use Rattle.zp_laws.proofs.Ending.{steps_end_well}
+use Rattle.zp_step.proofs.Ending.{steps_end_well}
 use Rattle.zp_laws.proofs.Planning.{plans_are_made_now}
-use Rattle.zp_laws.specs.Ending.{asked_by}
+use Rattle.zp_step.specs.Ending.{asked_by}
 use Rattle.zp_laws.specs.Planning.{IsPlannedAt}
 use Rattle.zp_step.proofs.Shutting.{shut-for-good}
 use Rattle.zp_step.specs.Stages.{Checking, Committing, Connecting, Core, KeepingAlive, Reading, Ready, Shut, Stage, Unconnected, Waiting, counted_up, is_shut, new_core}
@@ -56,7 +54,6 @@ use Rattle.zp_world_laws.proofs.Effects.{left-at, line-air, out-with, store-air,
 use Rattle.zp_world_laws.proofs.Numbers.{conn-here, conn-there, either-number, left-some}
 use Rattle.zp_world_laws.proofs.Reaping.{damaged-memory, looking_reaper, looks-first}
 use Rattle.zp_world_laws.proofs.Restarting.{Distinct, Gives, all-found, gives-as, gives-others, sorted-distinct}
-use Rattle.zp_world_laws.proofs.Running.{SettlesOn, Settling, carries, number-free, settling-is}
 use Rattle.zp_world_laws.proofs.Speaking.{all-quiet}
 use Rattle.zp_world_laws.proofs.Talking.{is_quiet}
 use Rattle.zp_world_laws.specs.Holding.{Left, Of, Source, air, left_in, out_in, out_of}

@@ -14,13 +14,11 @@ use Rattle.zp_script.specs.Kinds.{kind_asked}
 use Rattle.zp_script.specs.StepOutcomes.{StepOutcome, acts_all, ends, leaves, quiet}
 use Rattle.zp_script.specs.Worlds.{Closed, Connection, World, after_step}
 use Rattle.zp_script.specs.declared.flight.Flight.{Flight}
-use Rattle.zp_laws.proofs.Counting.{steps_count}
-use Rattle.zp_laws.specs.Ending.{EndsWell, IsNumbered, comes_in}
-use Rattle.zp_laws.specs.Frames.{is_served, next_frame}
-use Rattle.zp_laws.specs.Walking.{sends}
+use Rattle.zp_step.proofs.Counting.{steps_count}
+use Rattle.zp_step.specs.Ending.{EndsWell, IsNumbered, comes_in, sends}
+use Rattle.zp_step.specs.Stages.{is_served, next_frame, Checking, Committing, Connecting, Core, KeepingAlive, Reading, Ready, Shut, Stage, Unconnected, Waiting, is_shut, max_count}
 use Rattle.zp_step.proofs.Shutting.{ends-named}
 use Rattle.zp_step.specs.Laws.{end_by}
-use Rattle.zp_step.specs.Stages.{Checking, Committing, Connecting, Core, KeepingAlive, Reading, Ready, Shut, Stage, Unconnected, Waiting, is_shut, max_count}
 use Rattle.zp_step.specs.Steps.{Steps as CoreSteps}
 use Rattle.zp_step.specs.declared.action.Action.TheVariants as action
 use Rattle.zp_step.specs.declared.action.Action.{Action}

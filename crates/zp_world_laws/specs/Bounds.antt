@@ -29,7 +29,8 @@ use Rattle.zs_session.specs.Sessions.{attach_txn, life_key, new_session_txn}
 use Rattle.zs_session.specs.declared.connect.Fresh.{Fresh}
 use Rattle.zp_laws.specs.Frames.{IsRequestAt}
 use Rattle.zp_laws.specs.Inputs.{kind_for}
-use Rattle.zp_laws.specs.Standing.{IsBoundPlan, IsForTree}
+use Rattle.zp_laws.specs.Standing.{IsBoundPlan}
+use Rattle.zp_step.specs.Looking.{IsForTree}
 use Rattle.zp_script.specs.declared.flight.Asking.{Asking}
 use Rattle.zp_world_laws.specs.Serving.{only_reads}
 

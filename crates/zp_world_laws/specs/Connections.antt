@@ -7,8 +7,7 @@ use Rattle.zk_transcript.specs.History.{frame}
 use Rattle.zk_transcript.specs.Legal.{attach_of}
 use Rattle.zk_transcript.specs.Walks.{Due, Walker, packets}
 use Rattle.zk_transcript.specs.declared.transcript.TranscriptLine.{TranscriptLine}
-use Rattle.zp_step.specs.Stages.{Core, asked_of, is_shut}
-use Rattle.zp_laws.specs.Frames.{is_served}
+use Rattle.zp_step.specs.Stages.{Core, asked_of, is_shut, is_served}
 use Rattle.zp_laws.specs.Inputs.{IsTrueAnswer}
 use Rattle.zp_laws.specs.Standing.{IsFreshLook, Stands, is_ahead}
 use Rattle.zp_script.specs.declared.flight.Asking.{Asking}

@@ -4,9 +4,8 @@ use Rattle.zk_transcript.specs.Conversations.{close_shown}
 use Rattle.zk_transcript.specs.History.{first_place, opening}
 use Rattle.zk_transcript.specs.Walks.{placed_frame}
 use Rattle.zk_transcript.specs.declared.transcript.TranscriptLine.{TranscriptLine}
-use Rattle.zp_laws.specs.Ending.{IsNumbered}
-use Rattle.zp_laws.specs.Frames.{next_frame}
-use Rattle.zp_step.specs.Stages.{Core, Ready, max_count}
+use Rattle.zp_step.specs.Ending.{IsNumbered}
+use Rattle.zp_step.specs.Stages.{next_frame, Core, Ready, max_count}
 
 -- it has its `open` line and no `close` line, and no frame from index `frames` on has a line
 pub record IsLined (lines : List TranscriptLine) (c frames : ℕ) : Type 0 where

@@ -6,8 +6,7 @@ use Rattle.zp_script.specs.Faults.{fault}
 use Rattle.zp_script.specs.Happens.{Happens}
 use Rattle.zp_script.specs.Runs.{IsFirst, Runs}
 use Rattle.zp_script.specs.Worlds.{Conn, Connection, World, conn_at}
-use Rattle.zp_laws.specs.Frames.{is_served}
-use Rattle.zp_step.specs.Stages.{Core}
+use Rattle.zp_step.specs.Stages.{is_served, Core}
 use Rattle.zp_world_laws.specs.Accounting.{IsAccounted, IsWithinCounts, OffersSession}
 use Rattle.zp_world_laws.specs.Connections.{Whole}
 use Rattle.zp_world_laws.specs.Entering.{AreEntries}

@@ -50,10 +50,10 @@ use Rattle.zp_step.specs.declared.action.Action.TheVariants as action
 use Rattle.zp_step.specs.declared.input.Input.{Input}
 use Rattle.zp_step.specs.declared.input.Input.TheVariants as input
 use Rattle.zp_step.proofs.Shutting.{steps-open}
-use Rattle.zp_laws.proofs.Keeping.{PlansBeside, first-or-anew}
-use Rattle.zp_laws.specs.Ending.{EndsWell, StaysOut, asked_by, closes, ends_well, takes_out}
-use Rattle.zp_laws.proofs.Cases.{of_alive, of_txn}
-use Rattle.zp_laws.proofs.ConnectAsks.{connect-asks}
+use Rattle.zp_step.proofs.Beside.{PlansBeside, first-or-anew}
+use Rattle.zp_step.specs.Ending.{EndsWell, StaysOut, asked_by, closes, ends_well, takes_out}
+use Rattle.zp_step.proofs.Cases.{of_alive, of_txn}
+use Rattle.zp_step.proofs.ConnectAsks.{connect-asks}
 use Rattle.zx_base.proofs.Booleans.{either}
 
 pub record Ends (c' : Core) (out : List Action) : Type 0 where

@@ -38,17 +38,16 @@ use Rattle.zn_view.specs.Keeping.{update_path}
 use Rattle.zp_step.specs.Looking.{IfRecords, Looks, asks_for, change_by, decided, expired, max_ranges, moved, pending}
 use Rattle.zp_step.specs.Plans.{Committed, ReadOn, finishes}
 use Rattle.zp_step.specs.Replies.{Is, closed_by, is_due, replied, stage_after, waits}
-use Rattle.zp_step.specs.Stages.{Core, Pending, Stage, Unconnected, Connecting, Ready, KeepingAlive, Checking, Reading, Committing, Waiting, Shut, counted_up, is_shut, max_count}
+use Rattle.zp_step.specs.Stages.{Core, Pending, Stage, Unconnected, Connecting, Ready, KeepingAlive, Checking, Reading, Committing, Waiting, Shut, counted_up, is_shut, max_count, is_served, next_frame, waits_from}
 use Rattle.zp_step.specs.Steps.{Answers, Comes, Goes, Handles, Steps, StepsOpen, with_frame_counted, queued, rests, takes}
 use Rattle.zp_step.specs.Taking.{TakesFrame, TakesReadable, end_of_plain, plainly}
 use Rattle.zp_step.specs.declared.action.Action.{Action}
 use Rattle.zp_step.specs.declared.input.Input.{Input}
 use Rattle.zp_step.specs.declared.input.Input.TheVariants as input
 use Rattle.zp_step.proofs.Shutting.{steps-open}
-use Rattle.zp_laws.proofs.Keeping.{PlansBeside, first-or-anew, leaves-beside}
-use Rattle.zp_laws.specs.Ending.{CountsOn, IsNumbered, comes_in}
-use Rattle.zp_laws.specs.Frames.{is_served, next_frame, waits_from}
-use Rattle.zp_laws.proofs.Cases.{of_alive, of_txn}
+use Rattle.zp_step.proofs.Beside.{PlansBeside, first-or-anew, leaves-beside}
+use Rattle.zp_step.specs.Ending.{CountsOn, IsNumbered, comes_in}
+use Rattle.zp_step.proofs.Cases.{of_alive, of_txn}
 use Rattle.zx_base.proofs.Booleans.{either}
 
 -- ---- a count of 64 bits

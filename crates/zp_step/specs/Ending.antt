@@ -1,13 +1,22 @@
 -- Of every step: the order of its actions, and that no frame is lost.
-use Rattle.std.specs.Prelude.{◌≡◌, ℕ, ◌+◌, ◌≤◌, ◌⊎◌, Bool, true, false, List, [], ◌∷◌, Option, Some, None}
+use Rattle.std.specs.Prelude.{◌≡◌, ℕ, ◌+◌, ◌≤◌, ◌⊎◌, Bool, true, false, List, [], ◌∷◌, Option, Some, None, filter_map}
 use Rattle.ev_types.specs.declared.ask.Ask.{Ask}
-use Rattle.zp_step.specs.Stages.{Core, Stage, Unconnected, Ready, asked_of, is_shut, max_count}
+use Rattle.zp_step.specs.Stages.{Core, Stage, Unconnected, Ready, asked_of, is_shut, max_count, is_served, next_frame}
 use Rattle.zp_step.specs.Steps.{Steps}
 use Rattle.zp_step.specs.declared.action.Action.{Action}
 use Rattle.zp_step.specs.declared.action.Action.TheVariants as action
 use Rattle.zp_step.specs.declared.input.Input.{Input}
 use Rattle.zp_step.specs.declared.input.Input.TheVariants as input
-use Rattle.zp_laws.specs.Frames.{is_served, next_frame}
+
+-- ---- the packets that are sent
+
+abbrev pub sent_in : Action → Option (List ℕ)
+sent_in (action.Send bytes) = Some bytes
+sent_in (action.Ask a) = None
+sent_in (action.Close why) = None
+
+abbrev pub sends : List Action → List (List ℕ)
+sends out = filter_map sent_in out
 
 -- ---- the actions: packets, and then one ask, or the close, or neither
 

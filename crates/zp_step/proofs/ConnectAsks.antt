@@ -14,7 +14,7 @@ use Rattle.zs_session.specs.declared.connect.Phase.TheVariants.{Unasked, Looking
 use Rattle.zs_session.specs.Answering.{viewed}
 use Rattle.zs_session.specs.Connecting.{ConnectAnswers, Attached, Created, ConnectEnds, Kept, ConnectLookedAgain, ConnectLooksFirst, ConnectMoves, Resumes, ConnectSteps, Waits, asked_by_connect, asked_in_phase, is_taken}
 use Rattle.zs_session.specs.Sessions.{attach_wants, first_wants, session_wants}
-use Rattle.zp_laws.proofs.Cases.{of_alive, of_txn}
+use Rattle.zp_step.proofs.Cases.{of_alive, of_txn}
 use Rattle.zx_base.proofs.Booleans.{either}
 
 module _ (c : Connect) (phase : Phase) (step : ConnectStep) where
