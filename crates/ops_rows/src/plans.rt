@@ -1,8 +1,8 @@
 //! Plans in words.
 
 use crate::replies::push_reply;
-use ev_types::{Act, Guard, RangeReq};
-use row_files::{Piece, joined, push, push_number, push_unless_zero, push_word, word_of};
+use ev_types::{Act, RangeReq};
+use row_files::{Piece, joined, push, push_at, push_number, push_unless_zero, push_word, word_of};
 use row_words::{data_word, push_trigger};
 use std::alloc::Global;
 use zk_model::Trigger;
@@ -15,7 +15,7 @@ use zx_base::Memory;
 pub fn plan_text(alloc: Global, plan: &Plan) -> Result<String, Memory> {
     let mut text = String::from_str(alloc, "planned if")?;
     for guard in plan.guards.as_slice() {
-        push_guard(alloc, &mut text, guard)?;
+        push_at(alloc, &mut text, guard.key.as_slice(), guard.mod_revision)?;
     }
     push_word(&mut text, "do")?;
     let shown = triggers_text(alloc, plan.triggers.as_slice())?;
@@ -62,12 +62,6 @@ fn push_other_head(alloc: Global, text: &mut String, act: &Act, shown: &str) -> 
     push_word(text, "[")?;
     push(text, put.as_str())?;
     push_word(text, "]")
-}
-
-/// ` KEY@MOD_REVISION`
-fn push_guard(alloc: Global, text: &mut String, guard: &Guard) -> Result<(), Memory> {
-    push_word(text, word_of(guard.key.as_slice()))?;
-    push_number(alloc, text, "@", guard.mod_revision)
 }
 
 fn push_again(text: &mut String, want: &Want) -> Result<(), Memory> {

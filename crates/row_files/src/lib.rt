@@ -10,7 +10,7 @@ mod tries;
 mod words;
 
 pub use hexes::{bytes_of, hex_of};
-pub use pieces::{Piece, joined, push, push_number, push_unless_zero, push_word, said};
+pub use pieces::{Piece, joined, push, push_at, push_number, push_unless_zero, push_word, said};
 pub use tries::{
     Rows, Steps, argument_or, found_in_steps, status_of, try_file, try_file_in, try_files_in,
 };

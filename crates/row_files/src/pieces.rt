@@ -1,5 +1,6 @@
 //! Texts that are put together.
 
+use crate::words::word_of;
 use std::alloc::Global;
 use zx_base::Memory;
 
@@ -53,6 +54,12 @@ pub fn push_number(
 ) -> Result<(), Memory> {
     push(text, front)?;
     push(text, format!(in alloc; "{number}")?.as_str())
+}
+
+/// ` WORD@NUMBER`: a key and the revision of its last change.
+pub fn push_at(alloc: Global, text: &mut String, key: &[u8], number: i64) -> Result<(), Memory> {
+    push_word(text, word_of(key))?;
+    push_number(alloc, text, "@", number)
 }
 
 /// Adds a number after this text; nothing for 0.

@@ -1,15 +1,9 @@
 //! Asks in words.
 
-use ev_types::{Act, Ask, Guard, TxnReq};
-use row_files::{Piece, hex_of, joined, push, push_number, push_unless_zero, push_word, word_of};
+use ev_types::{Act, Ask, TxnReq};
+use row_files::{Piece, hex_of, joined, push, push_at, push_unless_zero, push_word, word_of};
 use std::alloc::Global;
 use zx_base::Memory;
-
-/// ` KEY@MOD_REVISION`
-fn push_guard(alloc: Global, text: &mut String, guard: &Guard) -> Result<(), Memory> {
-    push_word(text, word_of(guard.key.as_slice()))?;
-    push_number(alloc, text, "@", guard.mod_revision)
-}
 
 /// ` put KEY VALUE`, with `lease ID` after it if it has one; ` delete KEY`; ` get KEY`, with `at REVISION` after it where it is not
 /// of the present
@@ -59,7 +53,7 @@ fn push_txn(alloc: Global, text: &mut String, txn: &TxnReq) -> Result<(), Memory
     }
     push(text, "if")?;
     for guard in txn.guards.as_slice() {
-        push_guard(alloc, text, guard)?;
+        push_at(alloc, text, guard.key.as_slice(), guard.mod_revision)?;
     }
     push(text, " do")?;
     push_acts(alloc, text, txn.success.as_slice())?;
