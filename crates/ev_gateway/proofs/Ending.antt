@@ -14,7 +14,8 @@ use Rattle.ev_http.specs.Taking.{Told}
 use Rattle.ev_gateway.specs.declared.connection.GatewayEnd.{GatewayEnd}
 use Rattle.ev_gateway.specs.declared.connection.GatewayEnd.TheVariants as ends
 use Rattle.ev_gateway.specs.Serving.{AnswersOr, EndsBy, IsCutBy, Receives, Replies, Responds, RespondsOr, Serves, Turns, end_of, end_of_watch, unreadable_text}
-use Rattle.ev_gateway.specs.Sinks.{Rests, SinkTold}
+use Rattle.ev_gateway.specs.Sinks.{Rests}
+use Rattle.ev_http.specs.Sinks.{SinkTold}
 use Rattle.ev_gateway.specs.Streaming.{Watches}
 use Rattle.ev_gateway.specs.declared.watching.WatchEnd.{WatchEnd}
 use Rattle.ev_gateway.specs.declared.watching.WatchEnd.TheVariants as over

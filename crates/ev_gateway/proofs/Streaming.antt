@@ -15,7 +15,8 @@ use Rattle.ev_http.specs.Sending.{Sends, Wrote}
 use Rattle.ev_http.proofs.Sending.{wrote_both}
 use Rattle.ev_http.specs.Taking.{Told}
 use Rattle.ev_gateway.specs.Looking.{Looks, Waits}
-use Rattle.ev_gateway.specs.Sinks.{Rests, SinkTold}
+use Rattle.ev_gateway.specs.Sinks.{Rests}
+use Rattle.ev_http.specs.Sinks.{SinkTold}
 use Rattle.ev_gateway.specs.Streaming.{IsEnding, IsPut, Rise, Streams, Watches, WroteFront, begun, line_chunk, put_line, put_lines, told_whole}
 use Rattle.ev_gateway.specs.declared.watching.WatchEnd.{WatchEnd}
 use Rattle.ev_gateway.specs.declared.watching.WatchEnd.TheVariants as over

@@ -17,7 +17,8 @@ use Rattle.ev_http.specs.declared.taking.Tally.{Tally}
 use Rattle.ev_http.specs.Messages.{HoldsRequest, ReadsRequestBody, RequestAnswer}
 use Rattle.ev_http.specs.Sending.{Sends, response_head}
 use Rattle.ev_http.specs.Taking.{Told, Took, failed, fresh}
-use Rattle.ev_gateway.specs.Sinks.{Rests, SinkTold}
+use Rattle.ev_gateway.specs.Sinks.{Rests}
+use Rattle.ev_http.specs.Sinks.{SinkTold}
 use Rattle.ev_gateway.specs.Looking.{Leaves, Waits}
 use Rattle.ev_gateway.specs.Streaming.{Streams, StreamsOn}
 use Rattle.ev_gateway.specs.declared.watching.WatchEnd.{WatchEnd}

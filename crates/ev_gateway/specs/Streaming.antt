@@ -9,7 +9,7 @@ use Rattle.ev_http.specs.Chunked.{chunk, last_chunk, stream_head}
 use Rattle.ev_http.specs.Sending.{Wrote}
 use Rattle.ev_http.specs.Taking.{Told}
 use Rattle.ev_gateway.specs.Looking.{Leaves, Waits}
-use Rattle.ev_gateway.specs.Sinks.{SinkTold}
+use Rattle.ev_http.specs.Sinks.{SinkTold}
 use Rattle.ev_gateway.specs.declared.watching.WatchEnd.{WatchEnd}
 use Rattle.ev_gateway.specs.declared.watching.WatchEnd.TheVariants as over
 

@@ -3,7 +3,7 @@
 ghost use Rattle.std.specs.Prelude.{◌≡◌, ◌≢◌};
 ghost use Rattle.ev_http.specs.Taking.{Told, told};
 ghost use Rattle.ev_gateway.specs.Serving.{AnswersOr, EndsBy, IsCutBy, Receives, RespondsOr, Turns, end_of, end_of_watch, unreadable_text};
-ghost use Rattle.ev_gateway.specs.Sinks.{sink_told};
+ghost use Rattle.ev_http.specs.Sinks.{OfBothEnds, sink_told};
 ghost use Rattle.ev_types.specs.declared.route.Route.TheVariants as routes;
 
 use crate::reply::{Reply, refusal, reply_to};
@@ -102,7 +102,7 @@ fn answer_watch<R: Wait + SystemClock, S: Source, K: Sink>(
     body: &[u8],
 ) -> Result<(), GatewayEnd>
     requires { route ≡ routes.Watch }
-    ensures { AnswersOr result route body.now (told S.given S.left S.counts S.ended S.name source.old) (told S.given S.left S.counts S.ended S.name source.new) (sink_told K.taken K.counts K.name sink.old) (sink_told K.taken K.counts K.name sink.new) }
+    ensures { OfBothEnds (AnswersOr result route body.now) S.given S.left S.counts S.ended S.name K.taken K.counts K.name source.old source.new sink.old sink.new }
 {
     match read_watch(alloc, body) {
         Ok((from, key)) => {
@@ -157,7 +157,7 @@ fn answer<R: Wait + SystemClock, S: Source, K: Sink, C: Clock>(
     route: Route,
     body: &[u8],
 ) -> Result<(), GatewayEnd>
-    ensures { AnswersOr result route body.now (told S.given S.left S.counts S.ended S.name source.old) (told S.given S.left S.counts S.ended S.name source.new) (sink_told K.taken K.counts K.name sink.old) (sink_told K.taken K.counts K.name sink.new) }
+    ensures { OfBothEnds (AnswersOr result route body.now) S.given S.left S.counts S.ended S.name K.taken K.counts K.name source.old source.new sink.old sink.new }
 {
     match route {
         Route::Watch => answer_watch(rt, alloc, store, source, sink, route, body),
@@ -178,7 +178,7 @@ fn turn<R: Wait + SystemClock, S: Source, K: Sink, C: Clock>(
     sink: &mut K,
     clock: &mut C,
 ) -> Result<(), GatewayEnd>
-    ensures { Turns result (told S.given S.left S.counts S.ended S.name source.old) (told S.given S.left S.counts S.ended S.name source.new) (sink_told K.taken K.counts K.name sink.old) (sink_told K.taken K.counts K.name sink.new) }
+    ensures { OfBothEnds (Turns result) S.given S.left S.counts S.ended S.name K.taken K.counts K.name source.old source.new sink.old sink.new }
 {
     match receive(alloc, source) {
         Ok((route, body)) => {
@@ -201,7 +201,7 @@ pub fn gateway<R: Wait + SystemClock, S: Source, K: Sink, C: Clock>(
     clock: &mut C,
     limit: u64,
 ) -> GatewayEnd
-    ensures { EndsBy result limit (told S.given S.left S.counts S.ended S.name source.old) (told S.given S.left S.counts S.ended S.name source.new) (sink_told K.taken K.counts K.name sink.old) (sink_told K.taken K.counts K.name sink.new) }
+    ensures { OfBothEnds (EndsBy result limit) S.given S.left S.counts S.ended S.name K.taken K.counts K.name source.old source.new sink.old sink.new }
 {
     'turns: for served in 0..limit {
         if let Err(end) = turn(rt, alloc, store, source, sink, clock) {

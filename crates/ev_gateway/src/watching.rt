@@ -4,7 +4,7 @@ ghost use Rattle.std.specs.Prelude.{◌≡◌, ◌<◌, ◌≤◌, ◌+◌, ◌�
 ghost use Rattle.ev_http.specs.Chunked.{last_chunk};
 ghost use Rattle.ev_http.specs.Taking.{told};
 ghost use Rattle.ev_json.specs.Messages.{canceled_text, line_text};
-ghost use Rattle.ev_gateway.specs.Sinks.{sink_told};
+ghost use Rattle.ev_http.specs.Sinks.{OfBothEnds, sink_told};
 ghost use Rattle.ev_gateway.specs.Looking.{Looks, is_quiet};
 ghost use Rattle.ev_gateway.specs.Streaming.{Watches, WroteFront, begun, line_chunk, put_line, told_whole};
 
@@ -164,7 +164,7 @@ pub fn watch<R: Wait + SystemClock, S: Source, K: Sink>(
 ) -> Result<WatchEnd, HttpFault>
     requires first { 1 ≤ from }
     requires small { from ≤ 2 ^ 62 }
-    ensures { Watches result key.now from (told S.given S.left S.counts S.ended S.name source.old) (told S.given S.left S.counts S.ended S.name source.new) (sink_told K.taken K.counts K.name sink.old) (sink_told K.taken K.counts K.name sink.new) }
+    ensures { OfBothEnds (Watches result key.now from) S.given S.left S.counts S.ended S.name K.taken K.counts K.name source.old source.new sink.old sink.new }
 {
     if let Err(fault) = begin(alloc, sink, store.revision(rt)) {
         return Err(fault);

@@ -1,6 +1,6 @@
 -- How the body of a message is framed (RFC 9112, section 6), by the fields of its head.
-use Rattle.std.specs.Prelude.{◌≡◌, ℕ, ◌⊎◌, List, [], ◌∷◌, ◌++◌, length, map, drop, Bool, true, false, ◌&&◌, ◌==◌, if◌then◌else◌, Option, Some, None, Result, Ok, Err, codes, bytes_eq, nat_lt, suc}
-use Rattle.std.specs.List.{list_all}
+use Rattle.std.specs.Prelude.{◌≡◌, ℕ, ◌⊎◌, List, [], ◌∷◌, ◌++◌, length, map, drop, Bool, true, false, ◌&&◌, ◌==◌, if◌then◌else◌, Option, Some, None, Result, Ok, Err, codes, bytes_eq, nat_lt, suc, All}
+use Rattle.std.specs.List.{flat_map, list_all}
 use Rattle.std.specs.Char.{is_ascii_digit, to_ascii_lowercase}
 use Rattle.std.specs.Str.Parse.{digits_value}
 use Rattle.httparse.specs.Grammar.{Field, LineEnd, print_section}
@@ -11,7 +11,7 @@ use Rattle.ev_http.specs.declared.framing.Framing.{Framing}
 use Rattle.ev_http.specs.declared.framing.Framing.TheVariants as framing
 use Rattle.ev_http.specs.declared.framing.Word.{Word}
 use Rattle.ev_http.specs.declared.framing.Word.TheVariants as word
-use Rattle.ev_http.specs.Taking.{counted}
+use Rattle.ev_http.specs.Taking.{IsLine, counted}
 
 abbrev pub text_of : Word → List ℕ
 text_of word.ContentLength = codes "content-length"
@@ -82,6 +82,11 @@ framing_of kind fields = whole_framing kind (length fields) (framing_after kind 
 -- Nothing, or whole lines.
 abbrev pub EndsInFeed : List ℕ → Type 0
 EndsInFeed bytes = (bytes ≡ []) ⊎ ((front : List ℕ) × (bytes ≡ front ++ 10 ∷ []))
+
+-- The last so many lines of the bytes, each with its line feed, begin at this place.
+abbrev pub BeginsLastLines : List ℕ → ℕ → ℕ → Type 0
+BeginsLastLines bytes count place = (before : List ℕ) (lines : List (List ℕ)) → bytes ≡ before ++ flat_map (λ (line : List ℕ). line) lines
+    → All IsLine lines → length lines ≡ count → EndsInFeed before → place ≡ length before
 
 -- The line of this number, among the field lines and the empty line after them, begins at this place of the head.
 abbrev pub StandsAt : List Field → ℕ → ℕ → List ℕ → Type 0

@@ -6,3 +6,4 @@ pub mod Sending
 pub mod Stream
 pub mod Taking
 pub mod Chunked
+pub mod Sinks

@@ -1,10 +1,9 @@
 //! How the body of a message is framed, by the fields of its head.
 
-ghost use Rattle.ev_http.specs.Taking.{HasNoFeed, IsLine};
-ghost use Rattle.std.specs.List.{flat_map};
+ghost use Rattle.ev_http.specs.Taking.{HasNoFeed};
 ghost use Rattle.std.specs.Prelude.{◌≡◌, ◌≤◌, ◌++◌, ◌∷◌, [], List, ℕ, length, map, All};
 ghost use Rattle.httparse.specs.Spans.{IsHeaderWithin, header_bytes};
-ghost use Rattle.ev_http.specs.Framing.{is_word, count_of, after_count, after_coding, after_field, framing_after, EndsInFeed, StandsAt};
+ghost use Rattle.ev_http.specs.Framing.{is_word, count_of, after_count, after_coding, after_field, framing_after, BeginsLastLines, EndsInFeed, StandsAt};
 ghost use Rattle.ev_http.specs.Heads.{IsHead};
 ghost use Rattle.httparse.specs.Grammar.{Field};
 
@@ -124,7 +123,7 @@ fn last_line(bytes: &[u8]) -> usize
 
 /// Where the last so many lines of the bytes begin.
 fn last_lines(bytes: &[u8], count: usize) -> usize
-    ensures begins { (before : List ℕ) (lines : List (List ℕ)) → bytes.now ≡ before ++ flat_map (λ (line : List ℕ). line) lines → All IsLine lines → length lines ≡ count → EndsInFeed before → result ≡ length before }
+    ensures begins { BeginsLastLines bytes.now count result }
 {
     let mut end = bytes.len();
     'lines: for _ in 0..count {

@@ -20,7 +20,8 @@ use Rattle.ev_json.specs.Ranges.{KvFits, PartFits as IsPart, PartsFit as ArePart
 use Rattle.ev_call.specs.Fitting.{IsCount, AreCounts, Fits, PartFits, PartsFit}
 use Rattle.ev_call.specs.declared.etcd.CallFault.{CallFault}
 use Rattle.ev_http.specs.Taking.{Told}
-use Rattle.ev_link.specs.Asking.{Calls, Exchanges, SinkTold, answer_of, is_memory}
+use Rattle.ev_link.specs.Asking.{Calls, Exchanges, answer_of, is_memory}
+use Rattle.ev_http.specs.Sinks.{SinkTold}
 use Rattle.ev_link.specs.declared.failure.LinkFailure.{LinkFailure}
 use Rattle.ev_link.specs.declared.http_link.State.{State}
 use Rattle.ev_link.specs.declared.http_link.State.TheVariants as state

@@ -8,7 +8,8 @@ ghost use Rattle.ev_call.specs.Fitting.{Fits};
 ghost use Rattle.ev_http.specs.Taking.{told};
 ghost use Rattle.ev_json.specs.Ranges.{AnswerFits};
 ghost use Rattle.ev_call.specs.Addresses.{IsAddress};
-ghost use Rattle.ev_link.specs.Asking.{SendsAsk, Exchanges, Calls, Receives, sink_told, is_memory, failure_in, answer_of, state_after};
+ghost use Rattle.ev_link.specs.Asking.{SendsAsk, Exchanges, Calls, Receives, is_memory, failure_in, answer_of, state_after};
+ghost use Rattle.ev_http.specs.Sinks.{OfBothEnds, sink_told};
 ghost use Rattle.ev_link.specs.declared.http_link.State.TheVariants.{Open};
 
 use crate::failure::LinkFailure;
@@ -72,7 +73,7 @@ fn exchange<S: Source, K: Sink>(
     host: &str,
     ask: &Ask,
 ) -> Result<Answer, LinkFailure>
-    ensures { Exchanges result host.now ask.now (told S.given S.left S.counts S.ended S.name source.old) (told S.given S.left S.counts S.ended S.name source.new) (sink_told K.taken K.counts K.name sink.old) (sink_told K.taken K.counts K.name sink.new) }
+    ensures { OfBothEnds (Exchanges result host.now ask.now) S.given S.left S.counts S.ended S.name K.taken K.counts K.name source.old source.new sink.old sink.new }
 {
     if let Err(fault) = send_ask(alloc, sink, host, ask) {
         return Err(LinkFailure::Http(fault));

@@ -1,3 +1,4 @@
 pub mod Outcomes
 pub mod Fits
 pub mod Kinds
+pub mod Reads

@@ -3,10 +3,11 @@
 ghost use Rattle.std.specs.Prelude.{◌≡◌, Some, IfOk, IfErr};
 ghost use Rattle.std.specs.FinMap.{get};
 ghost use Rattle.zk_model.specs.declared.reply.Body.TheVariants as body;
-ghost use Rattle.zk_service.specs.Answers.{about, listing, armed_data, armed_children};
-ghost use Rattle.zk_model.specs.Znodes.{stat_of, child_names};
+ghost use Rattle.zk_service.specs.Answers.{about, armed_data, armed_children};
+ghost use Rattle.zk_model.specs.Znodes.{stat_of};
 ghost use Rattle.zk_machine.specs.Faults.{BeyondUnless, IsWithin};
 ghost use Rattle.zk_answers.specs.Outcomes.{told_of};
+ghost use Rattle.zk_answers.specs.Reads.{told_of_children, told_of_children2, told_of_data, told_of_exists};
 
 use crate::told::{Told, good, refused};
 use crate::watches::Watches;
@@ -68,7 +69,7 @@ pub fn exists(
     path: &Text,
     is_watched: bool,
 ) -> Result<Told, Fault>
-    ensures ok { IfOk result (λ t. Some (told_of t) ≡ about (armed_data is_watched path.now watches.now) (armed_data is_watched path.now watches.now) (get tree.now path.now) (λ n. body.Stat (stat_of tree.now path.now n))) }
+    ensures ok { IfOk result (λ t. Some (told_of t) ≡ told_of_exists tree.now watches.now path.now is_watched) }
     ensures beyond { IfErr result (BeyondUnless (IsWithin tree.now)) }
 {
     let armed = armed_data(alloc, is_watched, path.as_slice(), watches)?;
@@ -90,7 +91,7 @@ pub fn get_data(
     path: &Text,
     is_watched: bool,
 ) -> Result<Told, Fault>
-    ensures ok { IfOk result (λ t. Some (told_of t) ≡ about (armed_data is_watched path.now watches.now) watches.now (get tree.now path.now) (λ n. body.Content n.content (stat_of tree.now path.now n))) }
+    ensures ok { IfOk result (λ t. Some (told_of t) ≡ told_of_data tree.now watches.now path.now is_watched) }
     ensures beyond { IfErr result (BeyondUnless (IsWithin tree.now)) }
 {
     let Some(node) = tree.get(path.as_slice()) else {
@@ -123,7 +124,7 @@ pub fn get_children(
     path: &Text,
     is_watched: bool,
 ) -> Result<Told, Memory>
-    ensures { IfOk result (λ t. Some (told_of t) ≡ listing (armed_children is_watched path.now watches.now) watches.now (get tree.now path.now) (λ n. body.Names (child_names tree.now path.now))) }
+    ensures { IfOk result (λ t. Some (told_of t) ≡ told_of_children tree.now watches.now path.now is_watched) }
 {
     if tree.get(path.as_slice()).is_none() {
         return Ok(refused(alloc, watches.copy()?, NO_NODE));
@@ -144,7 +145,7 @@ pub fn get_children2(
     path: &Text,
     is_watched: bool,
 ) -> Result<Told, Fault>
-    ensures ok { IfOk result (λ t. Some (told_of t) ≡ listing (armed_children is_watched path.now watches.now) watches.now (get tree.now path.now) (λ n. body.NamesStat (child_names tree.now path.now) (stat_of tree.now path.now n))) }
+    ensures ok { IfOk result (λ t. Some (told_of t) ≡ told_of_children2 tree.now watches.now path.now is_watched) }
     ensures beyond { IfErr result (BeyondUnless (IsWithin tree.now)) }
 {
     let Some(node) = tree.get(path.as_slice()) else {

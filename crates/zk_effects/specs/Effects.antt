@@ -8,7 +8,7 @@ use Rattle.zk_service.specs.declared.update.UpdateRec.{UpdateRec}
 use Rattle.zk_transcript.specs.declared.transcript.TranscriptLine.{TranscriptLine}
 use Rattle.zk_transcript.specs.declared.transcript.TranscriptLine.TheVariants.{Update}
 use Rattle.zk_transcript.specs.History.{state_at}
-use Rattle.zk_history.specs.Commits.{response_to}
+use Rattle.zk_history.specs.Commits.{response_in, response_to}
 use Rattle.zk_effects.specs.declared.effects.Effect.{Effect}
 use Rattle.zk_effects.specs.declared.effects.Table.{Table}
 
@@ -22,6 +22,10 @@ kept_of e = (e.triggers, e.response)
 -- these triggers and this response are kept
 abbrev pub IsEffect : Option Effect → List Trigger → Option Body → Type 0
 IsEffect o triggers response = option_map kept_of o ≡ Some (triggers, response)
+
+-- the body of the reply to the request that an update at place k carried out, unless that is a closeSession
+abbrev pub kept_response : List TranscriptLine → ℕ → UpdateRec → Option Body
+kept_response all k u = response_in (take k all) (state_at all k) u.zxid u.kind
 
 -- what the updates among the first n lines did is kept
 abbrev pub AreEffects : List TranscriptLine → ℕ → Table → Type 0

@@ -1,14 +1,13 @@
 //! What each update of a transcript did, worked out once. Of the other lines nothing is kept but where the next update stands.
 
-ghost use Rattle.std.specs.Prelude.{◌≡◌, ◌≢◌, ◌+◌, ◌<◌, ◌≤◌, ℕ, List, Some, length, option_map, slice_get, take, true, IfErr, IfOk};
+ghost use Rattle.std.specs.Prelude.{◌≡◌, ◌≢◌, ◌+◌, ◌<◌, ◌≤◌, ℕ, List, Some, length, option_map, slice_get, true, IfErr, IfOk};
 ghost use Rattle.zk_service.specs.declared.update.UpdateRec.{UpdateRec as Updated};
 ghost use Rattle.zk_transcript.specs.declared.transcript.TranscriptLine.{TranscriptLine as Line};
 ghost use Rattle.zk_transcript.specs.declared.transcript.TranscriptLine.TheVariants.{Update};
 ghost use Rattle.zk_transcript.specs.History.{state_at};
 ghost use Rattle.zk_machine.specs.Faults.{BeyondUnless};
-ghost use Rattle.zk_history.specs.Commits.{response_in};
 ghost use Rattle.zk_history.specs.Fits.{AllFit};
-ghost use Rattle.zk_effects.specs.Effects.{AreEffects, AreNexts, IsEffect, IsNext, effect_at};
+ghost use Rattle.zk_effects.specs.Effects.{AreEffects, AreNexts, IsEffect, IsNext, effect_at, kept_response};
 
 use std::alloc::Global;
 use std::collections::BTreeMap;
@@ -169,7 +168,7 @@ impl<'a> Effects<'a> {
     /// The body of the reply to the create, create2, delete, setData or multi that the update at a place carried out.
     pub fn response(&self, place: usize) -> Option<&Body>
         requires { place < length self.now.all.now }
-        ensures { (u : Updated) → slice_get self.now.all.now place ≡ Some (Update u) → option_map (λ b. b.now) result ≡ response_in (take place self.now.all.now) (state_at self.now.all.now place) u.zxid u.kind }
+        ensures { (u : Updated) → slice_get self.now.all.now place ≡ Some (Update u) → option_map (λ b. b.now) result ≡ kept_response self.now.all.now place u }
     {
         match self.table.at(place) {
             Some(effect) => effect.response.as_ref(),

@@ -1,12 +1,10 @@
 //! The state at a moment that moves on, line by line.
 
-ghost use Rattle.std.specs.Prelude.{◌≡◌, ◌+◌, ◌<◌, ◌≤◌, Some, length, slice_get, IfErr, IfOk};
-ghost use Rattle.zk_transcript.specs.declared.transcript.TranscriptLine.{TranscriptLine as Line};
+ghost use Rattle.std.specs.Prelude.{◌≡◌, ◌+◌, ◌<◌, ◌≤◌, length, IfErr, IfOk};
 ghost use Rattle.zk_transcript.specs.History.{after, state_at};
 ghost use Rattle.zk_machine.specs.Faults.{BeyondUnless};
-ghost use Rattle.zk_history.specs.Commits.{response_to};
 ghost use Rattle.zk_history.specs.Fits.{AllFit};
-ghost use Rattle.zk_history.specs.Pasts.{lines_of};
+ghost use Rattle.zk_history.specs.Pasts.{RespondsNext, lines_of};
 
 use crate::lines::{Applied, apply};
 use crate::past::{Past, line_at};
@@ -58,7 +56,7 @@ impl<'a> Cursor<'a> {
         requires { self.past.len < length self.past.all.now }
         ensures moment { IfOk result (λ r. r.0.past.len ≡ self.entry.past.len + 1) }
         ensures all { IfOk result (λ r. r.0.past.all.now ≡ self.entry.past.all.now) }
-        ensures response { IfOk result (λ r. (l : Line) → slice_get self.entry.past.all.now self.entry.past.len ≡ Some l → r.1 ≡ response_to (lines_of self.entry.past) (state_at self.entry.past.all.now self.entry.past.len) l) }
+        ensures response { IfOk result (λ r. RespondsNext self.entry.past r.1) }
         ensures beyond { IfErr result (BeyondUnless (AllFit self.entry.past.all.now)) }
     {
         let Cursor { past, state } = self;

@@ -18,15 +18,12 @@ use Rattle.zn_view.specs.Needs.{AreNeeds}
 use Rattle.zn_view.specs.Seen.{View}
 use Rattle.zn_view.specs.Views.{reads, about_path, valid}
 use Rattle.zn_view.specs.Lacking.{lacking}
-use Rattle.zn_reads.specs.Wanting.{first_keys}
+use Rattle.zn_reads.specs.Wanting.{first_keys, set_watches_keys}
 use Rattle.zn_reads.proofs.Needed.{read_keys, no_listing, wanted-needed}
 
 set_watches_formed : (since : ℤ) (exists datas children : List Bytes) → plain_request no_watches (req.SetWatches since exists datas children) ≡ None
 unfolding plain_request
 set_watches_formed since exists datas children = refl
-
-abbrev pub set_watches_keys : Who → List Bytes → List Bytes → List Bytes → List Bytes
-set_watches_keys who datas exists children = map key_bytes (first_keys who) ++ map key_bytes (map DataKey (valid datas)) ++ map key_bytes (map DataKey (valid exists)) ++ map key_bytes (flat_map about_path (valid children))
 
 map_three : (who : Who) (a b c : List Key) → map key_bytes (first_keys who ++ (a ++ b ++ c)) ≡ map key_bytes (first_keys who) ++ map key_bytes a ++ map key_bytes b ++ map key_bytes c
 map_three who a b c = ap (λ (l : List Bytes). key_bytes HeadKey ∷ key_bytes (LeaseKey (nat_abs who.session)) ∷ l) (map-append key_bytes (a ++ b) c ∙ ap (λ (l : List Bytes). l ++ map key_bytes c) (map-append key_bytes a b))

@@ -6,7 +6,7 @@ ghost use Rattle.zk_model.specs.Paths.{is_path};
 ghost use Rattle.zk_model.specs.declared.request.Request.TheVariants as req;
 ghost use Rattle.zn_layout.specs.Keys.{DataKey, key_bytes};
 ghost use Rattle.zn_reads.specs.Deciding.{is_read};
-ghost use Rattle.zn_reads.specs.Wanting.{first_keys, with_listing, IsListingDue, AreKeyNeeds, AreListingWants};
+ghost use Rattle.zn_reads.specs.Wanting.{first_keys, set_watches_keys, with_listing, IsListingDue, AreKeyNeeds, AreListingWants};
 ghost use Rattle.zn_view.specs.Lacking.{lacking};
 ghost use Rattle.zn_view.specs.Needs.{AreNeeds};
 ghost use Rattle.zn_view.specs.Seen.{listed};
@@ -222,7 +222,7 @@ fn set_watches_keys(
     who: Who,
 ) -> Result<Vec<Bytes>, Memory>
     requires { pos 1 ≤ℤ who.session }
-    ensures { IfOk result (λ keys. keys.items ≡ map key_bytes (first_keys who) ++ map key_bytes (map DataKey (valid datas.now)) ++ map key_bytes (map DataKey (valid exists.now)) ++ map key_bytes (flat_map about_path (valid children.now))) }
+    ensures { IfOk result (λ keys. keys.items ≡ set_watches_keys who datas.now exists.now children.now) }
 {
     let mut keys = first_keys(alloc, who)?;
     push_datas(alloc, datas, &mut keys)?;

@@ -1,22 +1,15 @@
 -- A frame comes: the first one is the connect, and another one waits or ends the connection.
 use Rattle.std.proofs.Common.{◌≡◌, ℕ, ◌<◌, ◌≤◌, List, [], length, refl, ap}
-use Rattle.std.specs.Prelude.{MatchBool}
-use Rattle.zk_jute.specs.Requests.{read_request}
-use Rattle.zk_service.specs.Answers.{has_header}
 use Rattle.zk_service.specs.declared.cause.Cause.TheVariants as cause
-use Rattle.zp_step.specs.Replies.{Is, closed_by}
 use Rattle.zp_step.specs.Stages.{Core}
 use Rattle.zp_step.specs.Steps.{queued}
-use Rattle.zp_core.specs.Meanings.{Leads, Shuts, core_of, ready, stage_of}
+use Rattle.zp_core.specs.Handling.{ComesLater}
+use Rattle.zp_core.specs.Meanings.{Shuts, ready, stage_of}
 use Rattle.zp_core.specs.declared.client.Client.{Client}
 use Rattle.zp_core.specs.declared.moves.Move.{Move}
 use Rattle.zp_core.specs.declared.stage.Stage.{Stage}
 use Rattle.zp_core.proofs.Closing.{shuts-leads}
 use Rattle.zp_core.proofs.Headers.{headed, headless}
-
--- what becomes of a frame after the first
-abbrev pub ComesLater : Client → Stage → List ℕ → Client → Move → Type 0
-ComesLater old s frame = Leads (λ c out. MatchBool (has_header (read_request frame)) (Is (queued (core_of old (stage_of s)) frame, []) c out) (Is (closed_by (core_of old (stage_of s)) (cause.NoHeader old.taken)) c out))
 
 pub later-waits : (old new : Client) (s : Stage) (frame : List ℕ) → 8 ≤ length frame → ready new ≡ queued (ready old) frame → ComesLater old s frame new (record { stage = s; actions = [] })
 later-waits old new s frame long e = rw (headed frame long) (ap (λ (d : Core). record d { stage = stage_of s }) e, refl)

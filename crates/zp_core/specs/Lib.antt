@@ -3,3 +3,4 @@ pub mod Held
 pub mod Going
 pub mod OnKept
 pub mod Left
+pub mod Handling

@@ -6,12 +6,10 @@ ghost use Rattle.std.specs.Map.{lookup};
 ghost use Rattle.zx_base.specs.Maps.{same};
 ghost use Rattle.zn_view.specs.Keeping.{update_path as path_of_update};
 ghost use Rattle.zn_view.specs.Seen.{empty_view};
-ghost use Rattle.zn_view.specs.declared.plan.Decision.TheVariants as decisions;
-ghost use Rattle.zp_step.specs.Kept.{used_first};
-ghost use Rattle.zp_step.specs.Looking.{decided};
 ghost use Rattle.zp_step.specs.Replies.{Is};
 ghost use Rattle.zp_step.specs.Taking.{LooksFirst, LooksOn};
 ghost use Rattle.zp_core.specs.Held.{IsRequest};
+ghost use Rattle.zp_core.specs.Handling.{planned_at_once};
 ghost use Rattle.zp_core.specs.Meanings.{Leads, ready};
 ghost use Rattle.zp_core.specs.OnKept.{PlansOn};
 
@@ -62,7 +60,7 @@ fn plan_at_once(
     plan: Plan,
 ) -> Result<Move, Memory>
     requires { lookup (same key.now) client.old.views ≡ Some view }
-    ensures { IfOk result (Leads (Is (decided (record (ready client.old) { views = used_first key.now view client.old.views }) task.value.xid task.value.request view now (decisions.Planned plan))) client.new) }
+    ensures { IfOk result (Leads (Is (planned_at_once (ready client.old) key.now task.value.xid task.value.request view now plan)) client.new) }
 {
     client.views.use_first(key);
     task.view = view;

@@ -5,7 +5,8 @@ ghost use Rattle.zn_view.specs.Adding.{AreNumbers};
 ghost use Rattle.zn_view.specs.Seen.{IsCountNumber};
 ghost use Rattle.zn_view.specs.Asks.{transaction};
 ghost use Rattle.zs_session.specs.Answering.{IsAnswerTo};
-ghost use Rattle.zp_step.specs.Plans.{CommitAnswered, Committed, WasMade, end_after as end_of, finishes};
+ghost use Rattle.zp_step.specs.Plans.{end_after as end_of, finishes};
+ghost use Rattle.zp_core.specs.Handling.{CommitIsAnswered, CommitIsMade, CommitIsTried};
 ghost use Rattle.zp_core.specs.Held.{IsRequest};
 ghost use Rattle.zp_core.specs.Meanings.{Leads, pending_of, ready};
 
@@ -66,7 +67,7 @@ fn done(
     parts: &[ActAns],
 ) -> Result<Move, Memory>
     requires { IsCountNumber revision }
-    ensures { IfOk result (Leads (λ c out. WasMade (ready client.old) commit.value.task.value.xid commit.value.task.value.request commit.value.task.value.view commit.value.plan c out revision parts.now) client.new) }
+    ensures { IfOk result (Leads (λ c out. CommitIsMade (ready client.old) commit.value c out revision parts.now) client.new) }
 {
     leave(alloc, client, &commit, revision, parts)?;
     let pending = finished(alloc, commit, revision, parts)?;
@@ -96,7 +97,7 @@ fn look_again(
     requires time { now < 2 ^ 62 }
     requires revision { IsCountNumber revision }
     requires numbers { AreNumbers parts.now }
-    ensures { IfOk result (Leads (λ c out. Committed (ready client.old) commit.value.task.value.xid commit.value.task.value.request commit.value.task.value.view commit.value.plan now c out revision false parts.now) client.new) }
+    ensures { IfOk result (Leads (λ c out. CommitIsTried (ready client.old) commit.value now c out revision false parts.now) client.new) }
 {
     match look_at(alloc, commit.plan.again.as_slice(), revision, parts) {
         Ok(view) => look(alloc, client, viewed_anew(commit, view), now),
@@ -119,7 +120,7 @@ fn commit_at(
     requires time { now < 2 ^ 62 }
     requires revision { IsCountNumber revision }
     requires numbers { AreNumbers parts.now }
-    ensures { IfOk result (Leads (λ c out. Committed (ready client.old) commit.value.task.value.xid commit.value.task.value.request commit.value.task.value.view commit.value.plan now c out revision succeeded parts.now) client.new) }
+    ensures { IfOk result (Leads (λ c out. CommitIsTried (ready client.old) commit.value now c out revision succeeded parts.now) client.new) }
 {
     if succeeded {
         return done(alloc, client, commit, revision, parts);
@@ -139,7 +140,7 @@ pub(crate) fn committed(
     requires request { IsRequest commit.value.task.value.request }
     requires real { pos 1 ≤ℤ client.old.who.session }
     requires time { now < 2 ^ 62 }
-    ensures { IfOk result (Leads (λ c out. CommitAnswered (ready client.old) commit.value.task.value.xid commit.value.task.value.request commit.value.task.value.view commit.value.plan now c out answer.now) client.new) }
+    ensures { IfOk result (Leads (λ c out. CommitIsAnswered (ready client.old) commit.value now c out answer.now) client.new) }
 {
     match answer {
         Answer::Txn {

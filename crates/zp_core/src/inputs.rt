@@ -1,17 +1,14 @@
 //! What a connection does at each input.
 
-ghost use Rattle.std.specs.Prelude.{◌≡◌, ◌+◌, [], length, false, Some, None, IfOk, OnOk, IsTrue, MatchBool, MatchOption, ◌↔◌, ◌≤ℤ◌, pos, ◌<◌, ◌^◌};
-ghost use Rattle.zk_jute.specs.Requests.{read_request};
-ghost use Rattle.zk_service.specs.Answers.{has_header};
-ghost use Rattle.zk_service.specs.declared.cause.Cause.TheVariants as causes;
+ghost use Rattle.std.specs.Prelude.{◌≡◌, ◌+◌, length, false, Some, None, IfOk, OnOk, IsTrue, MatchOption, ◌↔◌, ◌≤ℤ◌, pos, ◌<◌, ◌^◌};
 ghost use Rattle.zs_session.specs.Answering.{IsAwaited};
 ghost use Rattle.zp_step.specs.Laws.{end_by as end_of};
-ghost use Rattle.zp_step.specs.Replies.{Is, closed_by};
 ghost use Rattle.zp_step.specs.Stages.{Ready, asked_of, counted_up, is_shut};
 ghost use Rattle.zp_step.specs.Steps.{Answers, Comes, Handles, IsFit, queued};
 ghost use Rattle.zp_core.specs.Held.{IsFrame, IsHeld};
 ghost use Rattle.zp_step.specs.Keepalives.{TakesUp};
 ghost use Rattle.zp_core.specs.Going.{GoesOn, IsAtRest, IsNext};
+ghost use Rattle.zp_core.specs.Handling.{ComesLater};
 ghost use Rattle.zp_core.specs.Meanings.{Leads, core_of, ready, stage_of};
 
 use crate::client::Client;
@@ -85,7 +82,7 @@ fn come_later(
     stage: Stage,
     frame: &[u8],
 ) -> Result<Move, Memory>
-    ensures { IfOk result (Leads (λ c out. MatchBool (has_header (read_request frame.now)) (Is (queued (core_of client.old (stage_of stage)) frame.now, []) c out) (Is (closed_by (core_of client.old (stage_of stage)) (causes.NoHeader client.old.taken)) c out)) client.new) }
+    ensures { IfOk result (ComesLater client.old stage frame.now client.new) }
 {
     if frame.len() < HEADER {
         let place = client.taken;

@@ -1,21 +1,20 @@
 //! The keepalive before a frame is taken up, and the look at the session that may follow it.
 
-ghost use Rattle.std.specs.Prelude.{◌≡◌, ◌≤ℤ◌, pos, IfOk, MatchBool, option_map, ◌<◌, ◌^◌};
-ghost use Rattle.std.specs.Ordering.{int_eq};
+ghost use Rattle.std.specs.Prelude.{◌≡◌, ◌≤ℤ◌, pos, IfOk, option_map, ◌<◌, ◌^◌};
 ghost use Rattle.zk_jute.specs.Requests.{read_request as read_as};
 ghost use Rattle.zk_service.specs.Answers.{xid_of as xid_in};
 ghost use Rattle.zn_view.specs.Lookups.{found_at};
-ghost use Rattle.zp_step.specs.Taking.{TakesFrame};
 ghost use Rattle.zn_view.specs.Adding.{AreNumbers};
 ghost use Rattle.zn_view.specs.Seen.{IsCountNumber};
-ghost use Rattle.zs_session.specs.Answering.{viewed, IsAnswerTo};
+ghost use Rattle.zs_session.specs.Answering.{IsAnswerTo};
 ghost use Rattle.zs_session.specs.Sessions.{attach_wants as wants_of, life_key};
 ghost use Rattle.ev_types.specs.declared.ask.Ask.TheVariants as asks;
 ghost use Rattle.zn_view.specs.Asks.{reading as reading_of};
 ghost use Rattle.zp_step.specs.Keepalives.{TakesUp, KeptAlive, Checked, Looked, checks, keeps_alive};
-ghost use Rattle.zp_step.specs.Looking.{IfRecords, expired as expired_of, moved as moved_of};
+ghost use Rattle.zp_step.specs.Looking.{expired as expired_of, moved as moved_of};
 ghost use Rattle.zp_step.specs.Replies.{Is, waits};
 ghost use Rattle.zp_core.specs.Held.{IsFrame};
+ghost use Rattle.zp_core.specs.Handling.{ByLook, ByPut};
 ghost use Rattle.zp_core.specs.Meanings.{Leads, ready};
 
 use crate::client::Client;
@@ -151,7 +150,7 @@ fn take_or_refuse(
     requires frame { IsFrame frame.now }
     requires real { pos 1 ≤ℤ client.old.who.session }
     requires time { now < 2 ^ 62 }
-    ensures { IfOk result (Leads (λ c out. MatchBool (int_eq found client.old.who.mine) (TakesFrame (ready client.old) frame.now now c out) (Is (waits (ready client.old) (moved_of client.old.who view.now found (xid_in (read_as frame.now)))) c out)) client.new) }
+    ensures { IfOk result (Leads (λ c out. ByPut (ready client.old) frame.now view.now now c out found) client.new) }
 {
     if found != client.who.mine {
         return refuse_moved(alloc, client, frame, view, found);
@@ -192,7 +191,7 @@ fn check_at(
     requires time { now < 2 ^ 62 }
     requires revision { IsCountNumber revision }
     requires numbers { AreNumbers parts.now }
-    ensures { IfOk result (Leads (λ c out. IfRecords (ready client.old) (wants_of client.old.who.session) parts.now c out (Looked (ready client.old) frame.now now c out (viewed revision (wants_of client.old.who.session) parts.now))) client.new) }
+    ensures { IfOk result (Leads (λ c out. ByLook (ready client.old) frame.now now revision parts.now c out) client.new) }
 {
     let wants = attach_wants(alloc, client.who.session)?;
     match look(alloc, wants.as_slice(), revision, parts) {

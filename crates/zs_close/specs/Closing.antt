@@ -1,5 +1,5 @@
 -- What a close is decided by, and the plan of the end of a session.
-use Rattle.std.specs.Prelude.{◌≡◌, ℤ, nat_abs, Bool, true, List, ◌++◌, length, nat_le, Option, Some, None, All, MatchBool}
+use Rattle.std.specs.Prelude.{◌≡◌, ℤ, nat_abs, Bool, true, List, ◌∷◌, ◌++◌, length, nat_le, Option, Some, None, All, MatchBool}
 use Rattle.std.specs.Ordering.{int_eq}
 use Rattle.ev_types.specs.declared.answer.Kv.{Kv}
 use Rattle.ev_types.specs.declared.ask.Act.{Act}
@@ -18,7 +18,7 @@ use Rattle.zn_view.specs.declared.plan.Who.{Who}
 use Rattle.zn_view.specs.Asks.{guards_of, again_of, picked, IsLeaseless, ShowsHead, WritesOwnKeys}
 use Rattle.zn_view.specs.Lookups.{sees, IsCountsIn, IsNodesIn}
 use Rattle.zn_view.specs.Seen.{View}
-use Rattle.zs_close.specs.Ending.{end_changes, end_triggers, parents}
+use Rattle.zs_close.specs.Ending.{end_changes, end_triggers, parents, put_parents}
 use Rattle.zs_close.specs.Wanting.{read_keys}
 
 -- ---- the counts that a view saw
@@ -37,6 +37,11 @@ TellsCountsOf v counts q = (o : Option Kv) → sees v (CountsKey q) ≡ Some o �
 -- a function tells the counts of each of these nodes as the view saw them
 abbrev pub TellsCounts : View → (Bytes → Option CountRec) → List Bytes → Type 0
 TellsCounts v counts qs = All (TellsCountsOf v counts) qs
+
+-- The new operations put, after the old ones, the counts of a parent of these paths without them, as the view saw the counts.
+abbrev pub PutsParent : View → List Bytes → Bytes → List Act → List Act → Type 0
+PutsParent v paths parent old new = (counts : Bytes → Option CountRec) → TellsCountsOf v counts parent → (rest : List Bytes)
+    → new ++ acts_of (put_parents counts paths rest) ≡ old ++ acts_of (put_parents counts paths (parent ∷ rest))
 
 -- ---- the plan of an end
 

@@ -9,7 +9,7 @@ ghost use Rattle.zn_layout.specs.Keys.{CountsKey};
 ghost use Rattle.zn_layout.specs.Records.{counts_value, IsCountRec};
 ghost use Rattle.zx_base.specs.Maps.{Bytes as ByteList};
 ghost use Rattle.zn_view.specs.Lookups.{HasSeen};
-ghost use Rattle.zs_close.specs.Closing.{AreWritesAfter, TellsCounts, TellsCountsOf};
+ghost use Rattle.zs_close.specs.Closing.{AreWritesAfter, PutsParent, TellsCounts};
 ghost use Rattle.zs_close.specs.Ending.{delete_nodes, delete_session, end_changes, end_triggers as triggers_of_end, fewer as fewer_of, parents as parents_once, put_parents};
 
 use crate::parents::{children_among, parents};
@@ -95,7 +95,7 @@ fn push_counts(
     requires valid { IsTrue (is_path parent.now) }
     requires seen { HasSeen view.now (CountsKey parent.now) }
     ensures after { OnOk result (AreWritesAfter acts.old acts.new) }
-    ensures told { OnOk result ((counts : ByteList → Option AnyCounts) → TellsCountsOf view.now counts parent.now → (rest : List ByteList) → acts.new ++ acts_of (put_parents counts paths.now rest) ≡ acts.old ++ acts_of (put_parents counts paths.now (parent.now ∷ rest))) }
+    ensures told { OnOk result (PutsParent view.now paths.now parent.now acts.old acts.new) }
 {
     let Some((counts, _)) = view.counts_at(parent.bytes())? else {
         return Ok(());

@@ -1,9 +1,9 @@
 //! The paths of data watches and of child watches.
 
-ghost use Rattle.std.specs.Prelude.{◌≡◌, ◌||◌, IfOk, OnOk, OnErr};
+ghost use Rattle.std.specs.Prelude.{◌≡◌, IfOk, OnOk, OnErr};
 ghost use Rattle.std.specs.FinMap.{contains_key};
 ghost use Rattle.zk_model.specs.Watches.{no_watches, is_unarmed, fired_data, fired_children, fire, is_watched, note, unwatched};
-ghost use Rattle.zw_watch.specs.Armed.{armed, fired_of, watches_of};
+ghost use Rattle.zw_watch.specs.Armed.{armed, fired_both, fired_of, has_either, watches_of};
 
 use crate::notices::{CHANGED, CHILDREN, CREATED, DELETED, note};
 use std::alloc::Global;
@@ -94,14 +94,14 @@ impl PathSets {
     }
 
     fn has_either(&self, path: &[u8]) -> bool
-        ensures { result ≡ (contains_key (watches_of self.now).on_data path.now || contains_key (watches_of self.now).on_children path.now) }
+        ensures { result ≡ has_either (watches_of self.now) path.now }
     {
         self.on_data.contains(path) || self.on_children.contains(path)
     }
 
     /// Fires those watches that the path has, with one notice.
     fn fire_both(&mut self, alloc: Global, path: &[u8]) -> Result<Option<Notice>, Memory>
-        ensures ok { IfOk result (λ n. fired_of (watches_of self.new) n ≡ (fired_children (fired_data (watches_of self.old) path.now) path.now, note (contains_key (watches_of self.old).on_data path.now || contains_key (watches_of self.old).on_children path.now) 2 path.now)) }
+        ensures ok { IfOk result (λ n. fired_of (watches_of self.new) n ≡ (fired_both (watches_of self.old) path.now, note (has_either (watches_of self.old) path.now) 2 path.now)) }
         ensures err { OnErr result (watches_of self.new ≡ watches_of self.old) }
     {
         let is_hit = self.has_either(path);

@@ -1,6 +1,6 @@
 use Rattle.ev_http.specs.Taking.{told}
 use Rattle.ev_gateway.specs.Serving.{Serves}
-use Rattle.ev_gateway.specs.Sinks.{sink_told}
+use Rattle.ev_http.specs.Sinks.{sink_told}
 use Rattle.ev_gateway.proofs.connection.gateway.Given as goal
 
 abbrev pub invariant-turns : goal.invariant-turns

@@ -2,7 +2,7 @@ use Rattle.std.proofs.Common.{ℤ, List, ℕ, Ok, ap₂, subst, w64}
 use Rattle.std.proofs.lemmas.Int.{to_z-of_z}
 use Rattle.ev_http.specs.Chunked.{last_chunk}
 use Rattle.ev_json.specs.Messages.{canceled_text}
-use Rattle.ev_gateway.specs.Sinks.{sink_told}
+use Rattle.ev_http.specs.Sinks.{sink_told}
 use Rattle.ev_gateway.specs.Streaming.{WroteFront, line_chunk}
 use Rattle.ev_gateway.proofs.Streaming.{both, by_wrote}
 use Rattle.ev_gateway.proofs.watching.cancel.Goals as goal

@@ -4,7 +4,7 @@ use Rattle.ev_http.specs.Chunked.{last_chunk}
 use Rattle.ev_http.specs.Taking.{told}
 use Rattle.ev_json.specs.Messages.{canceled_text}
 use Rattle.ev_gateway.specs.Looking.{Looks}
-use Rattle.ev_gateway.specs.Sinks.{sink_told}
+use Rattle.ev_http.specs.Sinks.{sink_told}
 use Rattle.ev_gateway.specs.Streaming.{WroteFront, line_chunk}
 use Rattle.ev_gateway.proofs.Looking.{one_look_more}
 use Rattle.ev_gateway.proofs.Streaming.{broken, by_wrote, canceled, closed, further, starved, unbegun}

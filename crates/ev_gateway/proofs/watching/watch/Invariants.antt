@@ -1,7 +1,7 @@
 use Rattle.std.proofs.Common.{◌≤◌, ◌^◌}
 use Rattle.ev_http.specs.Taking.{told}
 use Rattle.ev_gateway.specs.Looking.{Waits}
-use Rattle.ev_gateway.specs.Sinks.{sink_told}
+use Rattle.ev_http.specs.Sinks.{sink_told}
 use Rattle.ev_gateway.proofs.Streaming.{Came}
 use Rattle.ev_gateway.proofs.watching.watch.Given as goal
 

@@ -19,7 +19,7 @@ use Rattle.zx_base.specs.Maps.{Bytes}
 use Rattle.zn_updates.specs.Deciding.{IsCreate, IsUpLookedUp}
 use Rattle.zn_updates.proofs.Forms.{create_path_valid}
 use Rattle.zn_updates.proofs.Plans.{refused_form, refused_sound}
-use Rattle.zn_updates.proofs.CreateClauses.{form_at, create_refused, all_promised, own_looked_up, path_looked_up, up_looked_up, create-by_tree}
+use Rattle.zn_updates.proofs.CreateClauses.{form_at, create_refused, all_promised, own_looked_up, up_looked_up, create-by_tree}
 use Rattle.zn_updates.proofs.Writing.{create-written}
 use Rattle.zn_updates.proofs.create.decide_create.Goals as goal
 

@@ -4,7 +4,8 @@ use Rattle.std.proofs.lemmas.Result.{IfOk-weaker}
 use Rattle.zk_service.specs.declared.cause.Cause.TheVariants as cause
 use Rattle.zp_core.specs.Meanings.{Shuts}
 use Rattle.zp_core.specs.declared.moves.Move.{Move}
-use Rattle.zp_core.proofs.Coming.{ComesLater, later-closes, later-waits}
+use Rattle.zp_core.specs.Handling.{ComesLater}
+use Rattle.zp_core.proofs.Coming.{later-closes, later-waits}
 use Rattle.zp_core.proofs.inputs.come_later.Goals as goal
 
 pub returns-then-frame-lt-HEADER : goal.returns-then-frame-lt-HEADER

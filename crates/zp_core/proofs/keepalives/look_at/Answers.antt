@@ -12,7 +12,8 @@ use Rattle.zp_step.specs.Keepalives.{Looked}
 use Rattle.zp_step.specs.Looking.{expired}
 use Rattle.zp_step.specs.Replies.{Is, waits}
 use Rattle.zp_core.specs.Meanings.{Leads, core_of, ready, stage_of}
-use Rattle.zp_core.proofs.Lives.{ByPut, put_at, still-none, still-some}
+use Rattle.zp_core.specs.Handling.{ByPut}
+use Rattle.zp_core.proofs.Lives.{put_at, still-none, still-some}
 use Rattle.zp_core.proofs.keepalives.look_at.Goals as goal
 
 pub returns-in-None : goal.returns-in-None

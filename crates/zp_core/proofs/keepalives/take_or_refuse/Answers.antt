@@ -8,7 +8,8 @@ use Rattle.zk_service.specs.Answers.{xid_of}
 use Rattle.zp_step.specs.Looking.{moved}
 use Rattle.zp_step.specs.Replies.{Is, waits}
 use Rattle.zp_core.specs.Meanings.{Leads, core_of, ready, stage_of}
-use Rattle.zp_core.proofs.Lives.{ByPut, by-other}
+use Rattle.zp_core.specs.Handling.{ByPut}
+use Rattle.zp_core.proofs.Lives.{by-other}
 use Rattle.zp_core.proofs.keepalives.take_or_refuse.Goals as goal
 
 pub returns-then-found-client : goal.returns-then-found-client
