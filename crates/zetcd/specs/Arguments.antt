@@ -8,6 +8,12 @@ use Rattle.zetcd_cmd.specs.Stressing.{count_in, max_connections, max_steps, numb
 abbrev pub arguments : {Z : Type 0} → List (String Z) → List (List ℕ)
 arguments words = drop 1 (map string_bytes words)
 
+-- the words after the program's name are none of the three commands that read the input
+pub record ReadsNothing (words : List (List ℕ)) : Type 0 where
+  pub no_replay : ¬ (words ≡ codes "replay" ∷ [])
+  pub no_show : ¬ (words ≡ codes "show" ∷ [])
+  pub no_judge : ¬ (words ≡ codes "judge" ∷ [])
+
 -- the words after the program's name are `etcd`, this address, and the text of this limit
 abbrev pub IsServeWords : List (List ℕ) → List ℕ → ℕ → Type 0
 IsServeWords words listen limit =

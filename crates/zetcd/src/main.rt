@@ -9,8 +9,8 @@ ghost use Rattle.std.specs.Prelude.{◌≡◌, ◌≢◌, ◌⊎◌, length, Lis
 ghost use Rattle.ev_addresses.specs.Lists.{addresses_in};
 ghost use Rattle.std.specs.Process.{exit_status};
 ghost use Rattle.std.specs.Vec.Iter.{into_iter_items};
-ghost use Rattle.zetcd.specs.Arguments.{IsNoProxying, IsNoServing, IsNoStressing, IsProxying, IsServeWords, IsStressing, arguments};
-ghost use Rattle.zetcd_cmd.specs.Outcomes.{status_number, Did, Failed, IsUnharmed, Judges, RefusesWords, Replays, Shows};
+ghost use Rattle.zetcd.specs.Arguments.{IsNoProxying, IsNoServing, IsNoStressing, IsProxying, IsServeWords, IsStressing, ReadsNothing, arguments};
+ghost use Rattle.zetcd_cmd.specs.Outcomes.{status_number, DidBetween, Failed, IsUnharmed, Judges, RefusesWords, Replays, Shows};
 ghost use Rattle.zetcd_cmd.specs.Proxying.{HasNetCause, Proxies, seen_so_far};
 ghost use Rattle.zetcd_cmd.specs.Serving.{EtcdServes};
 ghost use Rattle.zetcd_cmd.specs.Stressing.{Stresses};
@@ -161,11 +161,13 @@ where
     N::Door: Send,
     requires { (N.counts net.old).accepted ≡ 0 }
     ensures untouched { IfErr result (λ e. (input.new ≡ input.old) × (out.new ≡ out.old) × (net.new ≡ net.old)) }
-    ensures replay { IfOk result (λ s. arguments (into_iter_items args) ≡ codes "replay" ∷ [] → Did (Replays s (I.ended input.new) (I.left input.new)) (I.given input.old) (I.given input.new) (I.left input.old) (I.left input.new) (O.taken out.old) (O.taken out.new)) }
-    ensures show { IfOk result (λ s. arguments (into_iter_items args) ≡ codes "show" ∷ [] → Did (Shows s (I.ended input.new) (I.left input.new)) (I.given input.old) (I.given input.new) (I.left input.old) (I.left input.new) (O.taken out.old) (O.taken out.new)) }
-    ensures judge { IfOk result (λ s. arguments (into_iter_items args) ≡ codes "judge" ∷ [] → Did (Judges s (I.ended input.new) (I.left input.new)) (I.given input.old) (I.given input.new) (I.left input.old) (I.left input.new) (O.taken out.old) (O.taken out.new)) }
-    ensures stress { IfOk result (λ s. (number : ℕ) → (connections : ℕ) → (steps : ℕ) → IsStressing (arguments (into_iter_items args)) number connections steps → Stresses s number connections steps (O.taken out.old) (O.taken out.new)) }
-    ensures etcd { IfOk result (λ s. (listen : List ℕ) → (limit : ℕ) → IsServeWords (arguments (into_iter_items args)) listen limit → EtcdServes s listen limit (N.counts net.old) (N.counts net.new) (O.taken out.old) (O.taken out.new)) }
+    ensures replay { IfOk result (λ s. arguments (into_iter_items args) ≡ codes "replay" ∷ [] → DidBetween I.ended I.given I.left O.taken (Replays s) input.old input.new out.old out.new) }
+    ensures show { IfOk result (λ s. arguments (into_iter_items args) ≡ codes "show" ∷ [] → DidBetween I.ended I.given I.left O.taken (Shows s) input.old input.new out.old out.new) }
+    ensures judge { IfOk result (λ s. arguments (into_iter_items args) ≡ codes "judge" ∷ [] → DidBetween I.ended I.given I.left O.taken (Judges s) input.old input.new out.old out.new) }
+    ensures stress { IfOk result (λ s. (number : ℕ) → (connections : ℕ) → (steps : ℕ) → IsStressing (arguments (into_iter_items args)) number connections steps →
+        Stresses s number connections steps (O.taken out.old) (O.taken out.new)) }
+    ensures etcd { IfOk result (λ s. (listen : List ℕ) → (limit : ℕ) → IsServeWords (arguments (into_iter_items args)) listen limit →
+        EtcdServes s listen limit (N.counts net.old) (N.counts net.new) (O.taken out.old) (O.taken out.new)) }
     ensures serve { IfOk result (λ s. (listen : List ℕ) → (endpoint : List ℕ) → (limit : ℕ) → IsProxying (arguments (into_iter_items args)) listen endpoint limit →
         Proxies (length (addresses_in endpoint)) s listen limit (L.failures cluster.old) (L.failures cluster.new) (P.refusals spawner.old) (P.refusals spawner.new)
         (seen_so_far (N.counts net.old) (O.taken out.old) (O.counts out.old)) (seen_so_far (N.counts net.new) (O.taken out.new) (O.counts out.new))) }
@@ -175,8 +177,9 @@ where
     ensures unless_net { IfOk result (λ s. s ≢ Status.Net → s ≢ Status.WriteFault → (N.counts net.new).door_faults ≡ (N.counts net.old).door_faults) }
     ensures offline { IfOk result (λ s. IsNoServing (arguments (into_iter_items args)) → IsNoProxying (arguments (into_iter_items args)) → net.new ≡ net.old) }
     ensures unasked { IfOk result (λ s. IsNoProxying (arguments (into_iter_items args)) → (cluster.new ≡ cluster.old) × (random.new ≡ random.old)) }
-    ensures usage { IfOk result (λ s. ¬ (arguments (into_iter_items args) ≡ codes "replay" ∷ []) → ¬ (arguments (into_iter_items args) ≡ codes "show" ∷ []) → ¬ (arguments (into_iter_items args) ≡ codes "judge" ∷ []) → IsNoStressing (arguments (into_iter_items args)) → IsNoServing (arguments (into_iter_items args)) → IsNoProxying (arguments (into_iter_items args)) → RefusesWords s (O.taken out.old) (O.taken out.new)) }
-    ensures unread { IfOk result (λ s. ¬ (arguments (into_iter_items args) ≡ codes "replay" ∷ []) → ¬ (arguments (into_iter_items args) ≡ codes "show" ∷ []) → ¬ (arguments (into_iter_items args) ≡ codes "judge" ∷ []) → input.new ≡ input.old) }
+    ensures usage { IfOk result (λ s. ReadsNothing (arguments (into_iter_items args)) → IsNoStressing (arguments (into_iter_items args)) →
+        IsNoServing (arguments (into_iter_items args)) → IsNoProxying (arguments (into_iter_items args)) → RefusesWords s (O.taken out.old) (O.taken out.new)) }
+    ensures unread { IfOk result (λ s. ReadsNothing (arguments (into_iter_items args)) → input.new ≡ input.old) }
     ensures read { IfOk result (λ s. s ≡ Status.ReadFault → Failed (I.counts input.old) (I.counts input.new)) }
     ensures unless_fault { IfOk result (λ s. s ≢ Status.ReadFault → s ≢ Status.WriteFault → s ≢ Status.Memory → IsUnharmed (I.counts input.old) (I.counts input.new)) }
     ensures show_memory { IfOk result (λ s. arguments (into_iter_items args) ≡ codes "show" ∷ [] → s ≡ Status.Memory → IsUnharmed (I.counts input.old) (I.counts input.new)) }

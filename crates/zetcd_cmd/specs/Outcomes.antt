@@ -30,6 +30,10 @@ IsShow words = IsWord (codes "show") words
 abbrev pub IsJudge : List (Bor (List ℕ)) → Type 0
 IsJudge words = IsWord (codes "judge") words
 
+-- the words are none of these three, which alone read the input
+abbrev pub UnlessReads : List (Bor (List ℕ)) → Type 0 → Type 0
+UnlessReads words P = ¬ IsReplay words → ¬ IsShow words → ¬ IsJudge words → P
+
 abbrev pub usage_text : List ℕ
 usage_text = codes "usage: zetcd replay | show | stress NUMBER CONNECTIONS STEPS | serve LISTEN ENDPOINT LIMIT | etcd LISTEN LIMIT | judge\n"
 
@@ -41,6 +45,13 @@ pub record Did (Holds : List ℕ → List ℕ → Type 0) (given given' left lef
   pub gives : Gives read given given' left left'
   pub takes : Takes output taken taken'
   pub holds : Holds read output
+
+-- What one call did, `Did`, by what its input and its output tell before and after it. `Holds` also knows whether the input has ended,
+-- and what is left of it.
+abbrev pub DidBetween : {I O : Type 0} → (I → Bool) → (I → Option (List ℕ)) → (I → Option (List ℕ)) → (O → Option (List ℕ))
+    → (Bool → Option (List ℕ) → List ℕ → List ℕ → Type 0) → I → I → O → O → Type 0
+DidBetween ended given left taken Holds input input' out out' =
+    Did (Holds (ended input') (left input')) (given input) (given input') (left input) (left input') (taken out) (taken out')
 
 -- the input has come to its end, and nothing of it is left
 pub record IsAtItsEnd (has_ended : Bool) (unread : Option (List ℕ)) : Type 0 where

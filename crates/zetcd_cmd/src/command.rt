@@ -3,7 +3,7 @@
 ghost use Rattle.std.specs.Prelude.{◌≡◌, ◌≢◌, ◌⊎◌, ℕ, IfSome, IsNone};
 ghost use Rattle.zx_outside.specs.Writing.{counts_after_write};
 ghost use Rattle.zx_outside.specs.declared.sink.Took.TheVariants.{Failed as TookFailed};
-ghost use Rattle.zetcd_cmd.specs.Outcomes.{IsJudge, IsReplay, IsShow, Did, Judges, Replays, Shows, RefusesWords, Failed, IsUnharmed};
+ghost use Rattle.zetcd_cmd.specs.Outcomes.{IsJudge, IsReplay, IsShow, DidBetween, UnlessReads, Judges, Replays, Shows, RefusesWords, Failed, IsUnharmed};
 ghost use Rattle.zetcd_cmd.specs.Commands.{IsCommand};
 ghost use Rattle.zetcd_cmd.specs.Proxying.{NamesServe};
 ghost use Rattle.zetcd_cmd.specs.Serving.{NamesEtcd};
@@ -64,11 +64,11 @@ pub fn plain<I: Source, O: Sink>(
     // Of `replay`, by the status: the transcript of a run to which exactly the lines that were read were applied. The run is one
     // run of the service, each conversation in it is lawful and fresh, and the verdict on its lines is lawful. Within the limits of a
     // transcript, what is written is read as these lines.
-    ensures replay { IsReplay words.now → IfSome result (λ s. Did (Replays s (I.ended input.new) (I.left input.new)) (I.given input.old) (I.given input.new) (I.left input.old) (I.left input.new) (O.taken out.old) (O.taken out.new)) }
+    ensures replay { IsReplay words.now → IfSome result (λ s. DidBetween I.ended I.given I.left O.taken (Replays s) input.old input.new out.old out.new) }
     // Of `show`, by the status: what is shown of the stream that was read.
-    ensures show { IsShow words.now → IfSome result (λ s. Did (Shows s (I.ended input.new) (I.left input.new)) (I.given input.old) (I.given input.new) (I.left input.old) (I.left input.new) (O.taken out.old) (O.taken out.new)) }
+    ensures show { IsShow words.now → IfSome result (λ s. DidBetween I.ended I.given I.left O.taken (Shows s) input.old input.new out.old out.new) }
     // Of `judge`, by the status: the verdict on the transcript that was read, or its first line that cannot be read.
-    ensures judge { IsJudge words.now → IfSome result (λ s. Did (Judges s (I.ended input.new) (I.left input.new)) (I.given input.old) (I.given input.new) (I.left input.old) (I.left input.new) (O.taken out.old) (O.taken out.new)) }
+    ensures judge { IsJudge words.now → IfSome result (λ s. DidBetween I.ended I.given I.left O.taken (Judges s) input.old input.new out.old out.new) }
     // Of `stress`, by the status: the summary of the run of its schedule, which is one run of the service, and whose verdict is lawful.
     ensures stress { (number connections steps : ℕ) → IsStress words.now number connections steps → IfSome result (λ s. Stresses s number connections steps (O.taken out.old) (O.taken out.new)) }
     // Of `etcd` and `serve`: no status, nothing was read, and nothing written.
@@ -79,9 +79,9 @@ pub fn plain<I: Source, O: Sink>(
     // The status of `etcd` and `serve` for the net never comes.
     ensures never_net { IfSome result (λ s. s ≢ Status.Net) }
     // Of words that are in no row: the usage line was written, or a front of it where the output has a fault.
-    ensures usage { ¬ IsReplay words.now → ¬ IsShow words.now → ¬ IsJudge words.now → ¬ NamesStress words.now → ¬ NamesEtcd words.now → ¬ NamesServe words.now → IfSome result (λ s. RefusesWords s (O.taken out.old) (O.taken out.new)) }
+    ensures usage { UnlessReads words.now (¬ NamesStress words.now → ¬ NamesEtcd words.now → ¬ NamesServe words.now → IfSome result (λ s. RefusesWords s (O.taken out.old) (O.taken out.new))) }
     // Of words other than these three: nothing was read.
-    ensures unread { ¬ IsReplay words.now → ¬ IsShow words.now → ¬ IsJudge words.now → input.new ≡ input.old }
+    ensures unread { UnlessReads words.now (input.new ≡ input.old) }
     // Status 4 has its cause in the input: one fault, or 1,000 idle turns.
     ensures read { IfSome result (λ s. s ≡ Status.ReadFault → Failed (I.counts input.old) (I.counts input.new)) }
     // Statuses 0, 2, 3, 6 and 8 pass over no fault, and there were fewer than 1,000 idle turns.

@@ -5,7 +5,7 @@ ghost use Rattle.zt_lines.specs.Outcomes.{IsFaultOf};
 ghost use Rattle.zt_lines.specs.Transcripts.{transcript};
 ghost use Rattle.zx_outside.specs.Writing.{counts_after_write};
 ghost use Rattle.zx_outside.specs.declared.sink.Took.TheVariants.{Failed as TookFailed};
-ghost use Rattle.zetcd_cmd.specs.Outcomes.{Did, Failed, IsUnharmed, Judges};
+ghost use Rattle.zetcd_cmd.specs.Outcomes.{DidBetween, Failed, IsUnharmed, Judges};
 ghost use Rattle.zetcd_cmd.specs.Judged.{Finds, numbered_text, status_on, verdict_text};
 ghost use Rattle.zetcd_cmd.specs.Judging.{IsReadWhole, TellsVerdict};
 
@@ -37,7 +37,7 @@ pub enum Reading {
 ///
 /// The time is that of [`zk_judge::judge`]; all lines of the transcript are kept, but not its text.
 pub fn judge<I: Source, O: Sink>(alloc: Global, input: &mut I, out: &mut O) -> Status
-    ensures told { Did (Judges result (I.ended input.new) (I.left input.new)) (I.given input.old) (I.given input.new) (I.left input.old) (I.left input.new) (O.taken out.old) (O.taken out.new) }
+    ensures told { DidBetween I.ended I.given I.left O.taken (Judges result) input.old input.new out.old out.new }
     ensures read { result ≡ Status.ReadFault → Failed (I.counts input.old) (I.counts input.new) }
     ensures unless_read_fault { result ≢ Status.ReadFault → IsUnharmed (I.counts input.old) (I.counts input.new) }
     ensures write { result ≡ Status.WriteFault → O.counts out.new ≡ counts_after_write TookFailed (O.counts out.old) }

@@ -5,7 +5,7 @@ ghost use Rattle.zt_text.specs.Transcripts.{transcript_text};
 ghost use Rattle.zp_verdict_laws.specs.Written.{AreTyped};
 ghost use Rattle.zx_outside.specs.Writing.{Takes, counts_after_write};
 ghost use Rattle.zx_outside.specs.declared.sink.Took.TheVariants.{Failed as TookFailed};
-ghost use Rattle.zetcd_cmd.specs.Outcomes.{Did, Replays, Failed, IsUnharmed, TakesSome};
+ghost use Rattle.zetcd_cmd.specs.Outcomes.{DidBetween, Replays, Failed, IsUnharmed, TakesSome};
 ghost use Rattle.zetcd_cmd.specs.Reporting.{HasWritten, counts_unwritten};
 ghost use Rattle.zetcd_cmd.specs.Scripting.{Appends, ScriptStands};
 ghost use Rattle.zetcd_cmd.specs.Ending.{EndsReading, EndsAll};
@@ -27,7 +27,7 @@ pub const ROOM: usize = 65_536;
 /// Reading and writing take time linear in the script and the transcript, and each ask time linear in the changes that the store
 /// keeps. One unfinished line, the world and its transcript are held in memory.
 pub fn replay<I: Source, O: Sink>(alloc: Global, input: &mut I, out: &mut O) -> Status
-    ensures told { Did (Replays result (I.ended input.new) (I.left input.new)) (I.given input.old) (I.given input.new) (I.left input.old) (I.left input.new) (O.taken out.old) (O.taken out.new) }
+    ensures told { DidBetween I.ended I.given I.left O.taken (Replays result) input.old input.new out.old out.new }
     ensures read { result ≡ Status.ReadFault → Failed (I.counts input.old) (I.counts input.new) }
     ensures unless_fault { result ≢ Status.ReadFault → result ≢ Status.WriteFault → result ≢ Status.Memory → IsUnharmed (I.counts input.old) (I.counts input.new) }
     ensures once { IsUnharmed (I.counts input.old) (I.counts input.new) ⊎ Failed (I.counts input.old) (I.counts input.new) }
@@ -80,9 +80,9 @@ fn read_script<I: Source, O: Sink>(
     ensures end { IfOk result (λ how. EndsReading how (I.ended input.new) script.new (I.given input.old) (I.given input.new) (I.left input.old) (I.left input.new)) }
     ensures written { IfOk result (λ how. how ≢ End.Stopped Stop.Memory → HasWritten written.new script.new.world.lines (O.taken out.old) (O.taken out.new)) }
     ensures refused { IfOk result (λ how. how ≡ End.Stopped Stop.Memory →
-        Did (Replays Status.Memory (I.ended input.new) (I.left input.new)) (I.given input.old) (I.given input.new) (I.left input.old) (I.left input.new) (O.taken out.old) (O.taken out.new)) }
+        DidBetween I.ended I.given I.left O.taken (Replays Status.Memory) input.old input.new out.old out.new) }
     ensures front { IfErr result (λ e.
-        Did (Replays Status.WriteFault (I.ended input.new) (I.left input.new)) (I.given input.old) (I.given input.new) (I.left input.old) (I.left input.new) (O.taken out.old) (O.taken out.new)) }
+        DidBetween I.ended I.given I.left O.taken (Replays Status.WriteFault) input.old input.new out.old out.new) }
     ensures fault { IfOk result (λ how. how ≡ End.ReadFault → Failed (I.counts input.old) (I.counts input.new)) }
     ensures unharmed { IfOk result (λ how. how ≢ End.ReadFault → IsUnharmed (I.counts input.old) (I.counts input.new)) }
     ensures begun { IfErr result (λ e. IsUnharmed (I.counts input.old) (I.counts input.new)) }

@@ -4,7 +4,7 @@ ghost use Rattle.std.specs.Prelude.{◌≡◌, ◌≢◌, ◌+◌, ◌⊎◌, []
 ghost use Rattle.zx_outside.specs.Writing.{counts_after_write};
 ghost use Rattle.zx_outside.specs.declared.sink.Took.TheVariants.{Failed as TookFailed};
 ghost use Rattle.zt_show.specs.Showing.{unshown};
-ghost use Rattle.zetcd_cmd.specs.Outcomes.{Did, Shows, Failed, IsUnharmed};
+ghost use Rattle.zetcd_cmd.specs.Outcomes.{DidBetween, Shows, Failed, IsUnharmed};
 ghost use Rattle.zetcd_cmd.specs.Streaming.{status_at, ShowPasses, Closes, ShowFinishes, counts_at};
 
 use crate::replay::ROOM;
@@ -32,7 +32,7 @@ pub enum Close {
 ///
 /// The time is linear in the stream and its text; one frame, one piece and the text of that piece are kept.
 pub fn show<I: Source, O: Sink>(alloc: Global, input: &mut I, out: &mut O) -> Status
-    ensures told { Did (Shows result (I.ended input.new) (I.left input.new)) (I.given input.old) (I.given input.new) (I.left input.old) (I.left input.new) (O.taken out.old) (O.taken out.new) }
+    ensures told { DidBetween I.ended I.given I.left O.taken (Shows result) input.old input.new out.old out.new }
     ensures read { result ≡ Status.ReadFault → Failed (I.counts input.old) (I.counts input.new) }
     ensures unless_read_fault { result ≢ Status.ReadFault → result ≢ Status.WriteFault → IsUnharmed (I.counts input.old) (I.counts input.new) }
     ensures once { IsUnharmed (I.counts input.old) (I.counts input.new) ⊎ Failed (I.counts input.old) (I.counts input.new) }
@@ -65,7 +65,7 @@ fn show_pieces<I: Source, O: Sink>(
     show: &mut Show,
 ) -> Close
     requires { show.old ≡ unshown }
-    ensures told { Did (Shows (status_at result show.new.progress.lines) (I.ended input.new) (I.left input.new)) (I.given input.old) (I.given input.new) (I.left input.old) (I.left input.new) (O.taken out.old) (O.taken out.new) }
+    ensures told { DidBetween I.ended I.given I.left O.taken (Shows (status_at result show.new.progress.lines)) input.old input.new out.old out.new }
     ensures fault { result ≡ Close.ReadFault → Failed (I.counts input.old) (I.counts input.new) }
     ensures unharmed { result ≢ Close.ReadFault → IsUnharmed (I.counts input.old) (I.counts input.new) }
     ensures count { O.counts out.new ≡ counts_at result (O.counts out.old) }

@@ -5,7 +5,7 @@ ghost use Rattle.ev_addresses.specs.Lists.{addresses_in};
 ghost use Rattle.zx_outside.specs.Counts.{one_more};
 ghost use Rattle.zx_outside.specs.Writing.{counts_after_write};
 ghost use Rattle.zx_outside.specs.declared.sink.Took.TheVariants.{Failed as TookFailed};
-ghost use Rattle.zetcd_cmd.specs.Outcomes.{IsJudge, IsReplay, IsShow, Did, Judges, Replays, Shows, RefusesWords, Failed, IsUnharmed};
+ghost use Rattle.zetcd_cmd.specs.Outcomes.{IsJudge, IsReplay, IsShow, DidBetween, UnlessReads, Judges, Replays, Shows, RefusesWords, Failed, IsUnharmed};
 ghost use Rattle.zetcd_cmd.specs.Proxying.{HasNetCause, IsServe, NamesServe, Proxies, seen_so_far, serve_status as status_of_proxy};
 ghost use Rattle.zetcd_cmd.specs.Serving.{IsEtcd, NamesEtcd, EtcdServes, etcd_status};
 ghost use Rattle.zetcd_cmd.specs.Stressing.{IsStress, NamesStress, Stresses};
@@ -84,11 +84,11 @@ where
     // Of `replay`, by the status: the transcript of a run to which exactly the lines that were read were applied. The run is one
     // run of the service, each conversation in it is lawful and fresh, and the verdict on its lines is lawful. Within the limits of a
     // transcript, what is written is read as these lines.
-    ensures replay { IsReplay words.now → Did (Replays result (I.ended input.new) (I.left input.new)) (I.given input.old) (I.given input.new) (I.left input.old) (I.left input.new) (O.taken out.old) (O.taken out.new) }
+    ensures replay { IsReplay words.now → DidBetween I.ended I.given I.left O.taken (Replays result) input.old input.new out.old out.new }
     // Of `show`, by the status: what is shown of the stream that was read.
-    ensures show { IsShow words.now → Did (Shows result (I.ended input.new) (I.left input.new)) (I.given input.old) (I.given input.new) (I.left input.old) (I.left input.new) (O.taken out.old) (O.taken out.new) }
+    ensures show { IsShow words.now → DidBetween I.ended I.given I.left O.taken (Shows result) input.old input.new out.old out.new }
     // Of `judge`, by the status: the verdict on the transcript that was read, or its first line that cannot be read.
-    ensures judge { IsJudge words.now → Did (Judges result (I.ended input.new) (I.left input.new)) (I.given input.old) (I.given input.new) (I.left input.old) (I.left input.new) (O.taken out.old) (O.taken out.new) }
+    ensures judge { IsJudge words.now → DidBetween I.ended I.given I.left O.taken (Judges result) input.old input.new out.old out.new }
     // Of `stress`, by the status: the summary of the run of its schedule, which is one run of the service, and whose verdict is lawful.
     ensures stress { (number : ℕ) → (connections : ℕ) → (steps : ℕ) → IsStress words.now number connections steps → Stresses result number connections steps (O.taken out.old) (O.taken out.new) }
     // Of `etcd`, by the status: how many connections were accepted, and what was written.
@@ -109,9 +109,9 @@ where
     // Of all words but those of `serve`: no other etcd was asked, and no random word taken.
     ensures unasked { ¬ NamesServe words.now → (cluster.new ≡ cluster.old) × (random.new ≡ random.old) }
     // Of words that are in no row: the usage line was written, or a front of it where the output has a fault.
-    ensures usage { ¬ IsReplay words.now → ¬ IsShow words.now → ¬ IsJudge words.now → ¬ NamesStress words.now → ¬ NamesEtcd words.now → ¬ NamesServe words.now → RefusesWords result (O.taken out.old) (O.taken out.new) }
+    ensures usage { UnlessReads words.now (¬ NamesStress words.now → ¬ NamesEtcd words.now → ¬ NamesServe words.now → RefusesWords result (O.taken out.old) (O.taken out.new)) }
     // Of words other than these three: nothing was read.
-    ensures unread { ¬ IsReplay words.now → ¬ IsShow words.now → ¬ IsJudge words.now → input.new ≡ input.old }
+    ensures unread { UnlessReads words.now (input.new ≡ input.old) }
     // Status 4 has its cause in the input: one fault, or 1,000 idle turns.
     ensures read { result ≡ Status.ReadFault → Failed (I.counts input.old) (I.counts input.new) }
     // Statuses 0, 2, 3, 6, 8 and 10 pass over no fault, and there were fewer than 1,000 idle turns.

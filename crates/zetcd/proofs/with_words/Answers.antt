@@ -39,8 +39,9 @@ not_stress g c none names =
     none names.0 names.1 names.2 (subst (λ (ws : List (List ℕ)). IsStressing ws names.0 names.1 names.2) (handed g c) (stress-stressing _ _ _ _ names.3))
 
 pub returns-clause-usage : goal.returns-clause-usage
-returns-clause-usage g c = λ h k l o m n.
-    c.zetcd-status.ensures.usage (λ r. h (sym (handed g c) ∙ texts-is_word _ _ r)) (λ s. k (sym (handed g c) ∙ texts-is_word _ _ s)) (λ j. l (sym (handed g c) ∙ texts-is_word _ _ j))
+returns-clause-usage g c = λ none o m n.
+    c.zetcd-status.ensures.usage (λ r. none.no_replay (sym (handed g c) ∙ texts-is_word _ _ r)) (λ s. none.no_show (sym (handed g c) ∙ texts-is_word _ _ s))
+    (λ j. none.no_judge (sym (handed g c) ∙ texts-is_word _ _ j))
     (not_stress g c o) (not_etcd g c m) (not_serve g c n)
 
 pub returns-clause-stress : goal.returns-clause-stress
@@ -55,8 +56,9 @@ pub returns-clause-unasked : goal.returns-clause-unasked
 returns-clause-unasked g c = λ n. c.zetcd-status.ensures.unasked (not_serve g c n)
 
 pub returns-clause-unread : goal.returns-clause-unread
-returns-clause-unread g c = λ h k l.
-    c.zetcd-status.ensures.unread (λ r. h (sym (handed g c) ∙ texts-is_word _ _ r)) (λ s. k (sym (handed g c) ∙ texts-is_word _ _ s)) (λ j. l (sym (handed g c) ∙ texts-is_word _ _ j))
+returns-clause-unread g c = λ none.
+    c.zetcd-status.ensures.unread (λ r. none.no_replay (sym (handed g c) ∙ texts-is_word _ _ r)) (λ s. none.no_show (sym (handed g c) ∙ texts-is_word _ _ s))
+    (λ j. none.no_judge (sym (handed g c) ∙ texts-is_word _ _ j))
 
 pub returns-clause-show_memory : goal.returns-clause-show_memory
 returns-clause-show_memory g c = λ h. c.zetcd-status.ensures.show_memory (is_word-texts _ _ (handed g c ∙ h))
