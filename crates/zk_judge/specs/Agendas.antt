@@ -5,7 +5,7 @@ use Rattle.std.specs.List.{All, Contains}
 use Rattle.std.specs.BTreeMap as tree
 use Rattle.std.specs.Ordering.{nat_cmp}
 use Rattle.zk_transcript.specs.declared.transcript.TranscriptLine.{TranscriptLine}
-use Rattle.zk_judge.specs.Staged.{IsStanding, connections}
+use Rattle.zk_judge.specs.Staged.{IsStanding, StandsAtEnd, connections}
 use Rattle.zk_judge.specs.declared.agenda.Agenda.{Agenda}
 use Rattle.zk_judge.specs.declared.agenda.Lists.{Lists}
 use Rattle.zk_judge.specs.declared.conversations.Conversation.{Conversation}
@@ -20,7 +20,7 @@ waiting_at l m = listed (tree.get nat_cmp l.lists m)
 
 -- conversations that wait for no moment up to the last
 abbrev pub AreJudged : List TranscriptLine → List Conversation → Type 0
-AreJudged lines xs = All (IsStanding lines (length lines + 1)) xs
+AreJudged lines xs = All (StandsAtEnd lines) xs
 
 -- none waits for a moment before the next one, or after the last line, and those in a moment's list wait for none before it
 pub record IsAgenda (lines : List TranscriptLine) (a : Agenda) : Type 0 where

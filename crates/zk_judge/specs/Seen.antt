@@ -1,17 +1,23 @@
 -- What the program sees, as the definitions' data.
-use Rattle.std.specs.Prelude.{◌≡◌, ◌≤◌, ℕ, ℤ, Bool, List, Option, length, drop, option_map}
+use Rattle.std.specs.Prelude.{◌≡◌, ◌≤◌, ℕ, ℤ, Bool, List, Option, length, drop, take, option_map}
 use Rattle.zk_jute.specs.Requests.{Frame, NoHeader, Unreadable, Unknown, Asks, read_request}
 use Rattle.zk_model.specs.Limits.{max_frame}
 use Rattle.zk_model.specs.Watches.{Watches}
+use Rattle.zk_model.specs.declared.reply.Body.{Body}
 use Rattle.zk_model.specs.declared.reply.Reply.{Reply}
 use Rattle.zk_service.specs.declared.update.UpdateRec.{UpdateRec}
 use Rattle.zk_transcript.specs.declared.transcript.TranscriptLine.{TranscriptLine}
 use Rattle.zk_service.specs.Answers.{Told, only, xid_of}
+use Rattle.zk_transcript.specs.History.{state_at}
 use Rattle.zk_transcript.specs.Walks.{Due, Walker, fired_above, reply_step_if, told_as_of}
+use Rattle.zk_least.specs.LeastQueues.{then_plainly, told_up_to}
+use Rattle.zk_least.specs.LeastWalk.{given, zxid_in}
+use Rattle.zk_history.specs.Commits.{response_in}
 use Rattle.zk_answers.specs.Outcomes.{told_of}
 use Rattle.zk_judge.specs.declared.frames.FrameRead.{FrameRead}
 use Rattle.zk_judge.specs.declared.frames.FrameRead.TheVariants as read
 use Rattle.zk_judge.specs.declared.frames.Said.{Said}
+use Rattle.zk_judge.specs.declared.walker.Party.{Party}
 use Rattle.zk_judge.specs.declared.walker.Walker.{Walker as Walking}
 use Rattle.zk_judge.specs.declared.walker.Step.{Step}
 use Rattle.zk_judge.specs.declared.walker.Fired.{Fired}
@@ -59,6 +65,22 @@ left_by ps s = (walker_of s.walker, drop (length s.due.items) ps)
 -- how far a reply brings the connection, and the packets that it leaves
 abbrev pub taken_by : List Due → Taken → Walker × List Due
 taken_by ps t = (walker_of t.walker, drop t.count ps)
+
+-- how far the updates up to the zxid of a reply bring the connection where their packets come next, and the packets that they leave
+abbrev pub told_given : List TranscriptLine → Walker → List Due → List ℕ → Option (Walker × List Due)
+told_given lines w ps reply = given ps (told_up_to lines w (zxid_in reply))
+
+-- how far the next frame's answer without the tree brings a connection after what it was told, and the packets that it leaves
+abbrev pub then_answered : List TranscriptLine → Party → Option (Walker × List Due) → Option (Walker × List Due)
+then_answered lines p told = then_plainly lines p.connection p.session told
+
+-- how far a reply without the tree brings the connection, with what it is told before, and the packets that these leave
+abbrev pub plainly_given : List TranscriptLine → Party → Walker → List Due → List ℕ → Option (Walker × List Due)
+plainly_given lines p w ps reply = then_answered lines p (told_given lines w ps reply)
+
+-- the body of the reply to the request that an update carried out, whose line stands at place k
+abbrev pub update_response : List TranscriptLine → ℕ → UpdateRec → Option Body
+update_response lines k u = response_in (take k lines) (state_at lines k) u.zxid u.kind
 
 -- the answer to a frame at place k that may be answered as of the moment after these lines
 abbrev pub answer_after : List TranscriptLine → ℕ → ℤ → Walker → Option (ℕ × UpdateRec) → ℕ → Frame → Option (Walker × List Due)

@@ -4,9 +4,11 @@ use Rattle.std.specs.List.{Contains}
 use Rattle.zk_model.specs.declared.connect.ConnectRequest.{ConnectRequest}
 use Rattle.zk_transcript.specs.declared.transcript.TranscriptLine.{TranscriptLine}
 use Rattle.zk_transcript.specs.declared.transcript.TranscriptLine.TheVariants.{Open}
-use Rattle.zk_transcript.specs.History.{opening, state_at}
+use Rattle.zk_transcript.specs.History.{connect, opening, state_at}
 use Rattle.zk_transcript.specs.Legal.{attach_of}
-use Rattle.zk_transcript.specs.Conversations.{IsLawfulAndFresh}
+use Rattle.zk_transcript.specs.Walks.{Due, placed_frame}
+use Rattle.zk_transcript.specs.Conversations.{IsLawfulAndFresh, IsRefused, IsWelcomed}
+use Rattle.zk_service.specs.States.{State, session_at}
 use Rattle.zk_service.specs.Answers.{may_refuse}
 use Rattle.zk_judge.specs.Faults.{IsBelow, IsFault}
 use Rattle.zk_judge.specs.Waiting.{IsWaiting, is_walked}
@@ -15,10 +17,19 @@ use Rattle.zk_judge.specs.declared.conversations.Stage.{Stage}
 use Rattle.zk_judge.specs.declared.conversations.Stage.TheVariants as stage
 use Rattle.zk_judge.specs.declared.waits.Walked.{Walked}
 use Rattle.zk_judge.specs.declared.waits.Walked.TheVariants as walk
+use Rattle.zk_judge.specs.declared.walker.Party.{Party}
 
 -- the state at some moment from `first` to `last` lets the connect be refused
 abbrev pub MayBeRefused : List TranscriptLine → ℕ → ℕ → ConnectRequest → Type 0
 MayBeRefused lines first last r = (m : ℕ) × (first ≤ m) × (m ≤ last) × IsTrue (may_refuse r (state_at lines m))
+
+-- a packet, the only one that its connection is sent, is the refusal of the connect
+abbrev pub IsRefusalOf : List TranscriptLine → ℕ → Due → Type 0
+IsRefusalOf lines c p = IsRefused lines c p (placed_frame c 0 lines) (connect c lines)
+
+-- the first packet of a connection is the welcome to its session, which stands in this state, and comes after the line at `place`
+abbrev pub IsWelcomeTo : List TranscriptLine → Party → ℕ → Due → State → Type 0
+IsWelcomeTo lines x place p s = IsWelcomed lines x.connection place x.session p (connect x.connection lines) (session_at x.session s)
 
 -- the stage decides P, and waits for no moment before `from`; a stage that waits for an attachment is none of these
 abbrev pub IsDeciding : List TranscriptLine → ℕ → Type 0 → Stage → Type 0
@@ -34,6 +45,10 @@ IsStaged lines from c (stage.Walks w) = IsDeciding lines from (IsLawfulAndFresh 
 
 abbrev pub IsStanding : List TranscriptLine → ℕ → Conversation → Type 0
 IsStanding lines from x = IsStaged lines from x.connection x.stage
+
+-- a conversation, once every moment was looked at
+abbrev pub StandsAtEnd : List TranscriptLine → Conversation → Type 0
+StandsAtEnd lines = IsStanding lines (length lines + 1)
 
 -- the moment that a stage waits for, where it waits for one
 abbrev pub awaited_by : Walked → Option ℕ
@@ -65,3 +80,7 @@ lesser_of (Some n) c = if nat_le n c then Some n else Some c
 pub record IsLeastOf (P : ℕ → Type 0) (cs : List ℕ) (found : Option ℕ) : Type 0 where
   pub fails : IsFault P found
   pub passes : (d : ℕ) → Contains cs d → IsBelow d found → P d
+
+-- the least of these connections whose conversation is not lawful and fresh, if there is one
+abbrev pub IsLeastUnlawful : List TranscriptLine → List ℕ → Option ℕ → Type 0
+IsLeastUnlawful lines = IsLeastOf (IsLawfulAndFresh lines)

@@ -4,7 +4,7 @@ ghost use Rattle.std.specs.Prelude.{◌≡◌, ◌==◌, ◌⊎◌, ◌+◌, ◌
 ghost use Rattle.std.specs.List.{All, Contains};
 ghost use Rattle.zk_transcript.specs.declared.transcript.TranscriptLine.{TranscriptLine as AnyLine};
 ghost use Rattle.zk_judge.specs.Agendas.{AreJudged, HasConversation, IsAgenda, waiting_at};
-ghost use Rattle.zk_judge.specs.Staged.{IsStanding, awaited as awaited_of, connections};
+ghost use Rattle.zk_judge.specs.Staged.{IsStanding, StandsAtEnd, awaited as awaited_of, connections};
 
 use crate::conversations::Conversation;
 use crate::index::Index;
@@ -98,7 +98,7 @@ impl Agenda {
 
     /// The agenda with a conversation that is judged.
     fn with_judged(self, conversation: Conversation) -> Result<Agenda, Memory>
-        ensures agenda { IfOk result (λ a. (lines : List AnyLine) → IsAgenda lines self → IsStanding lines (length lines + 1) conversation → IsAgenda lines a) }
+        ensures agenda { IfOk result (λ a. (lines : List AnyLine) → IsAgenda lines self → StandsAtEnd lines conversation → IsAgenda lines a) }
         ensures next { IfOk result (λ a. a.next ≡ self.next) }
         ensures kept { IfOk result (λ a. (c : ℕ) → HasConversation self c → HasConversation a c) }
         ensures has { IfOk result (λ a. HasConversation a conversation.connection) }

@@ -6,7 +6,7 @@ ghost use Rattle.zk_model.specs.declared.reply.Reply.TheVariants as reply;
 ghost use Rattle.zk_transcript.specs.History.{after};
 ghost use Rattle.zk_service.specs.States.{session_at};
 ghost use Rattle.zk_jute.specs.Requests.{Frame};
-ghost use Rattle.zk_service.specs.Answers.{owned_limit_in, only, plain_reply as plain_reply_of, session_refusal as session_refusal_of};
+ghost use Rattle.zk_service.specs.Answers.{only, plain_reply as plain_reply_of, session_refusal as session_refusal_of};
 ghost use Rattle.zk_transcript.specs.Walks.{closes_session as closes_session_of, looked as looked_of, response_at as response_at_of, told_as_of as told_as_of_of, told_by_state as told_by_state_of};
 ghost use Rattle.zk_model.specs.Limits.{max_owned};
 ghost use Rattle.zk_machine.specs.Faults.{IsWhole};

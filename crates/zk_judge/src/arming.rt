@@ -1,6 +1,6 @@
 //! What the tree answers to a request, beside watches that are armed already and are not copied.
 
-ghost use Rattle.std.specs.Prelude.{◌≡◌, ◌&&◌, pos, option_map, IfOk};
+ghost use Rattle.std.specs.Prelude.{◌≡◌, pos, option_map, IfOk};
 ghost use Rattle.zk_service.specs.Answers.{tree_reply as tree_reply_of};
 ghost use Rattle.zk_model.specs.Limits.{max_owned};
 ghost use Rattle.zk_answers.specs.Fits.{FitsRequest};

@@ -2,10 +2,9 @@
 
 ghost use Rattle.std.specs.Prelude.{◌≡◌, ◌+◌, ◌<◌, ◌↔◌, length, option_map, IfOk, IsTrue};
 ghost use Rattle.zk_jute.specs.Packets.{connect_packet};
-ghost use Rattle.zk_transcript.specs.History.{connect as connect_of, state_at};
-ghost use Rattle.zk_service.specs.States.{session_at};
-ghost use Rattle.zk_transcript.specs.Conversations.{IsWelcomed};
+ghost use Rattle.zk_transcript.specs.History.{state_at};
 ghost use Rattle.zk_service.specs.Answers.{is_other_session as is_other_session_of, may_refuse as may_refuse_of, refusal, welcome};
+ghost use Rattle.zk_judge.specs.Staged.{IsWelcomeTo};
 
 use crate::index::Index;
 use crate::walker::Party;
@@ -88,7 +87,7 @@ pub fn is_welcomed(
     bytes: &[u8],
 ) -> Result<bool, Memory>
     requires { state.now ≡ state_at index.now.lines.now (place + 1) }
-    ensures { IfOk result (λ b. IsTrue b ↔ IsWelcomed index.now.lines.now party.connection place party.session (first, bytes.now) (connect_of party.connection index.now.lines.now) (session_at party.session state.now)) }
+    ensures { IfOk result (λ b. IsTrue b ↔ IsWelcomeTo index.now.lines.now party place (first, bytes.now) state.now) }
 {
     let Some(request) = index.connect(alloc, party.connection)? else {
         return Ok(false);

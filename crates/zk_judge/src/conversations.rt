@@ -2,12 +2,11 @@
 
 ghost use Rattle.std.specs.Prelude.{◌≡◌, ◌<◌, ◌≤◌, ◌+◌, ◌↔◌, ℕ, List, None, Some, length, IfOk, IsTrue};
 ghost use Rattle.zk_transcript.specs.declared.transcript.TranscriptLine.{TranscriptLine as AnyLine};
-ghost use Rattle.zk_transcript.specs.History.{connect as connect_of, state_at};
+ghost use Rattle.zk_transcript.specs.History.{state_at};
 ghost use Rattle.zk_transcript.specs.Legal.{attach_of as attach_of_of};
-ghost use Rattle.zk_transcript.specs.Walks.{placed_frame as placed_frame_of};
-ghost use Rattle.zk_transcript.specs.Conversations.{IsLawfulAndFresh, IsRefused, are_before_close as are_before_close_of};
+ghost use Rattle.zk_transcript.specs.Conversations.{IsLawfulAndFresh, are_before_close as are_before_close_of};
 ghost use Rattle.zk_legal.specs.Faults.{history_fault};
-ghost use Rattle.zk_judge.specs.Staged.{IsDeciding, IsStaged, IsStanding, MayBeRefused, awaited as awaited_of};
+ghost use Rattle.zk_judge.specs.Staged.{IsDeciding, IsRefusalOf, IsStaged, IsStanding, MayBeRefused, StandsAtEnd, awaited as awaited_of};
 ghost use Rattle.zk_judge.specs.Waiting.{IsWaiting, is_walked};
 
 use crate::connects::{is_welcomed, may_refuse, refusal_packet};
@@ -75,7 +74,7 @@ fn refusal(
     bytes: &[u8],
 ) -> Result<Stage, Memory>
     requires { place < length index.now.lines.now }
-    ensures { IfOk result (λ s. IsDeciding index.now.lines.now 0 (IsRefused index.now.lines.now connection (place, bytes.now) (placed_frame_of connection 0 index.now.lines.now) (connect_of connection index.now.lines.now)) s) }
+    ensures { IfOk result (λ s. IsDeciding index.now.lines.now 0 (IsRefusalOf index.now.lines.now connection (place, bytes.now)) s) }
 {
     let Some((asked, _)) = index.placed_frame(connection, 0) else {
         return Ok(Stage::Walks(Walked::Ends(false)));
@@ -317,7 +316,7 @@ impl Conversation {
 
     /// Whether the conversation is lawful and fresh, once every moment was looked at.
     pub fn is_lawful(&self) -> bool
-        ensures { (lines : List AnyLine) → IsStanding lines (length lines + 1) self.now → (IsTrue result ↔ IsLawfulAndFresh lines self.now.connection) }
+        ensures { (lines : List AnyLine) → StandsAtEnd lines self.now → (IsTrue result ↔ IsLawfulAndFresh lines self.now.connection) }
     {
         match &self.stage {
             Stage::Attached { .. } => false,

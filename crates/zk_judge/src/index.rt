@@ -1,6 +1,6 @@
 //! The lines of a transcript, with tables of what they show and of what its updates did.
 
-ghost use Rattle.std.specs.Prelude.{◌≡◌, ◌+◌, ◌<◌, ◌≤◌, ℕ, ℤ, List, None, Some, length, option_map, slice_get, take, IfOk, IfSome};
+ghost use Rattle.std.specs.Prelude.{◌≡◌, ◌+◌, ◌<◌, ◌≤◌, ℕ, ℤ, List, None, Some, length, option_map, slice_get, IfOk, IfSome};
 ghost use Rattle.zk_service.specs.declared.update.UpdateRec.{UpdateRec as Updated};
 ghost use Rattle.zk_transcript.specs.declared.transcript.TranscriptLine.TheVariants.{Update};
 ghost use Rattle.zk_transcript.specs.History.{connect as connect_of, first_place, open_shown, state_at};
@@ -10,9 +10,9 @@ ghost use Rattle.zk_transcript.specs.Conversations.{close_shown as close_shown_o
 ghost use Rattle.zk_model.specs.Limits.{max_frame};
 ghost use Rattle.zk_legal.specs.Faults.{history_fault};
 ghost use Rattle.zk_legal.specs.Passwords.{OfferPasswords};
-ghost use Rattle.zk_history.specs.Commits.{response_in};
 ghost use Rattle.zk_history.specs.Pasts.{lines_of};
 ghost use Rattle.zk_history.specs.Shown.{placed_attachment, placed_bytes};
+ghost use Rattle.zk_judge.specs.Seen.{update_response};
 ghost use Rattle.zk_judge.specs.Sent.{AreSent, packets_in};
 
 use crate::sent::{Packets, Sent};
@@ -169,7 +169,7 @@ impl<'a> Index<'a> {
     /// The body of the reply to the create, create2, delete, setData or multi that the update at a place carried out.
     pub fn response(&self, place: usize) -> Option<&Body>
         requires { place < length self.now.lines.now }
-        ensures { (u : Updated) → slice_get self.now.lines.now place ≡ Some (Update u) → option_map (λ b. b.now) result ≡ response_in (take place self.now.lines.now) (state_at self.now.lines.now place) u.zxid u.kind }
+        ensures { (u : Updated) → slice_get self.now.lines.now place ≡ Some (Update u) → option_map (λ b. b.now) result ≡ update_response self.now.lines.now place u }
     {
         self.effects.response(place)
     }

@@ -2,14 +2,14 @@
 //! for the conversations.
 
 ghost use Rattle.std.specs.Prelude.{◌≡◌, ◌+◌, ◌<◌, ◌≤◌, ◌++◌, ◌∷◌, [], ℕ, List, None, length, IfOk};
-ghost use Rattle.std.specs.List.{All, Contains};
+ghost use Rattle.std.specs.List.{Contains};
 ghost use Rattle.zk_transcript.specs.declared.transcript.TranscriptLine.{TranscriptLine as AnyLine};
 ghost use Rattle.zk_transcript.specs.History.{state_at};
 ghost use Rattle.zk_transcript.specs.Conversations.{IsLawfulAndFresh};
 ghost use Rattle.zk_legal.specs.Faults.{history_fault as history_fault_of};
 ghost use Rattle.zk_judge.specs.Faults.{IsLeastFault};
 ghost use Rattle.zk_judge.specs.Agendas.{AreJudged, HasConversation, IsAgenda};
-ghost use Rattle.zk_judge.specs.Staged.{AreOpened, IsLeastOf, IsStanding, connections, lesser_of, opened_by as opened_by_of};
+ghost use Rattle.zk_judge.specs.Staged.{AreOpened, IsLeastUnlawful, StandsAtEnd, connections, lesser_of, opened_by as opened_by_of};
 ghost use Rattle.zk_judge.specs.Verdicts.{IsVerdict};
 
 use crate::agenda::Agenda;
@@ -136,7 +136,7 @@ fn lesser(found: Option<u32>, connection: u32) -> Option<u32>
 
 /// The least connection found so far whose conversation is not lawful and fresh, with one more conversation looked at.
 fn with_verdict(found: Option<u32>, conversation: &Conversation) -> Option<u32>
-    ensures { (lines : List AnyLine) (cs : List ℕ) → IsStanding lines (length lines + 1) conversation.now → IsLeastOf (IsLawfulAndFresh lines) cs found → IsLeastOf (IsLawfulAndFresh lines) (cs ++ conversation.now.connection ∷ []) result }
+    ensures { (lines : List AnyLine) (cs : List ℕ) → StandsAtEnd lines conversation.now → IsLeastUnlawful lines cs found → IsLeastUnlawful lines (cs ++ conversation.now.connection ∷ []) result }
 {
     if conversation.is_lawful() {
         found
@@ -147,7 +147,7 @@ fn with_verdict(found: Option<u32>, conversation: &Conversation) -> Option<u32>
 
 /// The least connection whose conversation is not lawful and fresh, once every moment was looked at.
 fn least_unlawful(conversations: &[Conversation]) -> Option<u32>
-    ensures { (lines : List AnyLine) → AreJudged lines conversations.now → IsLeastOf (IsLawfulAndFresh lines) (connections conversations.now) result }
+    ensures { (lines : List AnyLine) → AreJudged lines conversations.now → IsLeastUnlawful lines (connections conversations.now) result }
 {
     let mut found = None;
     for conversation in conversations {

@@ -1,6 +1,6 @@
 //! The packets that are due, and those that a connection was sent.
 
-ghost use Rattle.std.specs.Prelude.{◌≡◌, ◌&&◌, ◌++◌, ◌∷◌, [], ℕ, List, bytes_eq, drop, length, nat_le, take, if◌then◌else◌, slice_get, slice_index, Some, None, option_map, IfOk, IsTrue, OnOk, ◌≤◌};
+ghost use Rattle.std.specs.Prelude.{◌≡◌, ◌&&◌, ◌++◌, [], ℕ, List, bytes_eq, drop, length, nat_le, take, if◌then◌else◌, slice_get, slice_index, Some, None, option_map, IfOk, IsTrue, OnOk, ◌≤◌};
 ghost use Rattle.std.specs.Int.{from_be_bytes, w32, w64};
 ghost use Rattle.std.specs.List.{All};
 ghost use Rattle.zk_jute.specs.Packets.{CanBeSent, NoticeCanBeSent, notice_packet as notice_packet_of, reply_packet as reply_packet_of};

@@ -1,12 +1,11 @@
 //! The updates that a client is told of before a reply that its frame gets without the tree.
 
-ghost use Rattle.std.specs.Prelude.{◌≡◌, ◌<◌, ◌≤◌, Some, drop, length, option_map, IfOk, IfSome};
-ghost use Rattle.zk_least.specs.LeastQueues.{told_through as told_through_of, told_up_to as told_up_to_of, then_plainly};
-ghost use Rattle.zk_transcript.specs.Walks.{Plain, move};
-ghost use Rattle.zk_least.specs.LeastWalk.{given as given_of, zxid_in as zxid_in_of};
+ghost use Rattle.std.specs.Prelude.{◌≡◌, ◌<◌, ◌≤◌, Some, length, option_map, IfOk, IfSome};
+ghost use Rattle.zk_least.specs.LeastQueues.{told_through as told_through_of, told_up_to as told_up_to_of};
+ghost use Rattle.zk_least.specs.LeastWalk.{zxid_in as zxid_in_of};
 ghost use Rattle.zk_judge.specs.Fronts.{IsTold};
 ghost use Rattle.zk_judge.specs.Sent.{packets_in};
-ghost use Rattle.zk_judge.specs.Seen.{left_by, step_of, taken_by, walker_of};
+ghost use Rattle.zk_judge.specs.Seen.{left_by, plainly_given, step_of, taken_by, then_answered, told_given as told_given_of, walker_of};
 
 use crate::firing::{fire_above, then_fire};
 use crate::index::Index;
@@ -92,7 +91,7 @@ fn told_given(
 ) -> Result<Option<Step>, Memory>
     requires told { IsTold index.now.lines.now (walker_of walker) }
     ensures within { IfOk result (λ o. IfSome o (λ s. length s.due.items ≤ length (packets_in packets.entry))) }
-    ensures step { IfOk result (λ o. option_map (left_by (packets_in packets.entry)) o ≡ given_of (packets_in packets.entry) (told_up_to_of index.now.lines.now (walker_of walker) (zxid_in_of reply.now))) }
+    ensures step { IfOk result (λ o. option_map (left_by (packets_in packets.entry)) o ≡ told_given_of index.now.lines.now (walker_of walker) (packets_in packets.entry) reply.now) }
 {
     let told = told_up_to(alloc, index, walker, reply)?;
     Ok(given(told, packets))
@@ -108,7 +107,7 @@ fn answered_plainly(
 ) -> Result<Option<Taken>, Memory>
     requires within { length told.due.items ≤ length (packets_in packets) }
     ensures within { IfOk result (λ o. IfSome o (λ t. t.count ≤ length (packets_in packets.entry))) }
-    ensures taken { IfOk result (λ o. option_map (taken_by (packets_in packets.entry)) o ≡ given_of (drop (length told.due.items) (packets_in packets.entry)) (move index.now.lines.now party.connection party.session (walker_of told.walker) Plain)) }
+    ensures taken { IfOk result (λ o. option_map (taken_by (packets_in packets.entry)) o ≡ then_answered index.now.lines.now party (Some (left_by (packets_in packets.entry) told))) }
 {
     let count = told.due.len();
     let answer = answer_plainly(alloc, index, party, told.walker)?;
@@ -132,7 +131,7 @@ pub fn plain_reply_given(
 ) -> Result<Option<Taken>, Memory>
     requires told { IsTold index.now.lines.now (walker_of walker) }
     ensures within { IfOk result (λ o. IfSome o (λ t. t.count ≤ length (packets_in packets.entry))) }
-    ensures taken { IfOk result (λ o. option_map (taken_by (packets_in packets.entry)) o ≡ then_plainly index.now.lines.now party.connection party.session (given_of (packets_in packets.entry) (told_up_to_of index.now.lines.now (walker_of walker) (zxid_in_of reply.now)))) }
+    ensures taken { IfOk result (λ o. option_map (taken_by (packets_in packets.entry)) o ≡ plainly_given index.now.lines.now party (walker_of walker) (packets_in packets.entry) reply.now) }
 {
     match told_given(alloc, index, walker, packets, reply)? {
         Some(told) => answered_plainly(alloc, index, party, told, packets),

@@ -3,11 +3,11 @@
 ghost use Rattle.std.specs.Prelude.{◌≡◌, ◌&&◌, ◌+◌, ◌<◌, ◌++◌, ◌∷◌, ◌^◌, [], Some, option_map, IfOk};
 ghost use Rattle.zk_service.specs.Answers.{only, xid_of as xid_of_of, has_header as has_header_of, is_auth_refusal as is_auth_refusal_of};
 ghost use Rattle.zk_transcript.specs.History.{after, state_at};
-ghost use Rattle.zk_transcript.specs.Walks.{Answer, Plain, after_update as after_update_of, answer_as_of as answer_as_of_of, answer_plainly as answer_plainly_of, due_notices, later_of as later_of_of, may_answer_at, move, placed_frame as placed_frame_of, plain_answer as plain_answer_of, reply_step as reply_step_of, reply_step_if as reply_step_if_of, told_as_of as told_as_of_of};
+ghost use Rattle.zk_transcript.specs.Walks.{Answer, Plain, after_update as after_update_of, answer_plainly as answer_plainly_of, due_notices, later_of as later_of_of, may_answer_at, move, plain_answer as plain_answer_of, reply_step as reply_step_of};
 ghost use Rattle.zk_judge.specs.Fronts.{IsFront, IsTold};
 ghost use Rattle.std.specs.List.{All};
 ghost use Rattle.zk_jute.specs.Packets.{CanBeSent, NoticeCanBeSent};
-ghost use Rattle.zk_judge.specs.NextFrames.{IsNextFrame, before_frame};
+ghost use Rattle.zk_judge.specs.NextFrames.{IsNextFrame, answered_after, answered_as_of, before_frame};
 ghost use Rattle.zk_judge.specs.Sendable.{CanBeTold};
 ghost use Rattle.zk_judge.specs.Seen.{ending_of, frame_as, step_of, walker_of};
 ghost use Rattle.zk_answers.specs.Outcomes.{told_of};
@@ -229,7 +229,7 @@ fn answer_fired(
     requires front { IsFront past.now index.now.lines.now }
     requires state { state.now ≡ after past.now }
     requires asked { IsNextFrame index.now.lines.now party.connection asked.now }
-    ensures { IfOk result (λ o. option_map step_of o ≡ reply_step_if_of past.now (before_frame asked.now.index) asked.now.place (xid_of_of (frame_as asked.now.read)) fired.due.items (told_as_of_of past.now party.connection party.session (frame_as asked.now.read) fired.watches asked.now.own)) }
+    ensures { IfOk result (λ o. option_map step_of o ≡ answered_after past.now party asked.now fired) }
 {
     let Fired { watches, due } = fired;
     match told_as_of(alloc, index, past, state, party, asked, watches)? {
@@ -257,7 +257,7 @@ fn answer_asked(
     requires state { state.now ≡ after past.now }
     requires asked { IsNextFrame index.now.lines.now party.connection asked.now }
     requires next { asked.now.index ≡ walker.next }
-    ensures { IfOk result (λ o. option_map step_of o ≡ answer_as_of_of past.now party.connection party.session (walker_of walker) asked.now.own (placed_frame_of party.connection walker.next index.now.lines.now)) }
+    ensures { IfOk result (λ o. option_map step_of o ≡ answered_as_of index.now.lines.now past.now party (walker_of walker) asked.now.own) }
 {
     if !may_answer(past, state, &walker, &asked.read) {
         return Ok(None);

@@ -1,14 +1,13 @@
 //! A conversation as far as it is judged: the replies that need no state were gone over, and the next one waits for a moment.
 
-ghost use Rattle.std.specs.Prelude.{◌≡◌, ◌⊎◌, ◌+◌, ◌-◌, ◌<◌, ◌≤◌, ◌<ℤ◌, ◌∷◌, pos, None, drop, length, option_to_list, IfOk, IfSome};
+ghost use Rattle.std.specs.Prelude.{◌≡◌, ◌⊎◌, ◌+◌, ◌-◌, ◌<◌, ◌≤◌, ◌<ℤ◌, ◌∷◌, pos, None, length, option_to_list, IfOk, IfSome};
 ghost use Rattle.zk_transcript.specs.History.{state_at};
 ghost use Rattle.zk_transcript.specs.Walks.{packets};
-ghost use Rattle.zk_least.specs.LeastSteps.{is_least};
 ghost use Rattle.zk_legal.specs.Faults.{history_fault};
 ghost use Rattle.zk_judge.specs.Fronts.{IsTold};
 ghost use Rattle.zk_judge.specs.Seen.{walker_of};
 ghost use Rattle.zk_judge.specs.Staged.{awaited_by};
-ghost use Rattle.zk_judge.specs.Waiting.{IsEarliest, IsNotBefore, IsWait, IsWaiting, goes_on, is_walked, left_of, tried as tried_of, tries_of};
+ghost use Rattle.zk_judge.specs.Waiting.{IsEarliest, IsNotBefore, IsWait, IsWaiting, gives_rest, gives_rest_from, is_walked, left_of, next_tried, tries_of};
 ghost use Rattle.zk_judge.specs.declared.waits.Walked.TheVariants as walk;
 
 use crate::firing::fire_above;
@@ -69,7 +68,7 @@ fn wait_between(
     requires told { IsTold index.now.lines.now (walker_of walker) }
     requires within { taken ≤ length (packets party.connection index.now.lines.now) }
     requires rises { IsNotBefore first second }
-    ensures walked { is_walked index.now.lines.now result ≡ goes_on index.now.lines.now party.connection party.session (walker_of walker) (drop taken (packets party.connection index.now.lines.now)) (first ∷ option_to_list second) }
+    ensures walked { is_walked index.now.lines.now result ≡ gives_rest_from index.now.lines.now party (walker_of walker) taken (first ∷ option_to_list second) }
     ensures waits { IsWaiting index.now.lines.now from result }
     ensures fewer { left_of index.now.lines.now result ≤ length (packets party.connection index.now.lines.now) - taken }
 {
@@ -108,7 +107,7 @@ fn wait_for_tries(
     requires told { IsTold index.now.lines.now (walker_of walker) }
     requires within { taken ≤ length (packets party.connection index.now.lines.now) }
     requires rises { IfSome tries (λ t. IsNotBefore t.0 t.1) }
-    ensures walked { is_walked index.now.lines.now result ≡ goes_on index.now.lines.now party.connection party.session (walker_of walker) (drop taken (packets party.connection index.now.lines.now)) (tries_of tries) }
+    ensures walked { is_walked index.now.lines.now result ≡ gives_rest_from index.now.lines.now party (walker_of walker) taken (tries_of tries) }
     ensures waits { IsWaiting index.now.lines.now from result }
     ensures fewer { left_of index.now.lines.now result ≤ length (packets party.connection index.now.lines.now) - taken }
 {
@@ -133,7 +132,7 @@ pub fn settle(
     requires above { pos 0 <ℤ walker.zxid }
     requires told { IsTold index.now.lines.now (walker_of walker) }
     requires within { taken ≤ length (packets party.connection index.now.lines.now) }
-    ensures walked { IfOk result (λ r. is_walked index.now.lines.now r ≡ is_least index.now.lines.now party.connection party.session (walker_of walker) (drop taken (packets party.connection index.now.lines.now))) }
+    ensures walked { IfOk result (λ r. is_walked index.now.lines.now r ≡ gives_rest index.now.lines.now party (walker_of walker) taken) }
     ensures waits { IfOk result (λ r. IsWaiting index.now.lines.now from r) }
     ensures fewer { IfOk result (λ r. left_of index.now.lines.now r ≤ length (packets party.connection index.now.lines.now) - taken) }
 {
@@ -163,7 +162,7 @@ pub fn settle(
 /// Waits for the second moment, where the first failed.
 fn retry(index: &Index, wait: Wait) -> Walked
     requires stands { IsWait index.now.lines.now wait.first wait }
-    requires failed { None ≡ tried_of index.now.lines.now wait.party.connection wait.party.session (walker_of wait.walker) (drop wait.taken (packets wait.party.connection index.now.lines.now)) wait.first }
+    requires failed { None ≡ next_tried index.now.lines.now wait }
     ensures walked { is_walked index.now.lines.now result ≡ is_walked index.now.lines.now (walk.Waits wait) }
     ensures waits { IsWaiting index.now.lines.now (wait.first + 1) result }
 {

@@ -6,13 +6,13 @@ ghost use Rattle.zk_jute.specs.Packets.{CanBeSent, reply_packet as reply_packet_
 ghost use Rattle.zk_model.specs.Codes.{session_expired};
 ghost use Rattle.zk_service.specs.Answers.{asks_of_watches as asks_of_watches_of, xid_of as xid_of_of};
 ghost use Rattle.zk_transcript.specs.History.{state_at};
-ghost use Rattle.zk_transcript.specs.Walks.{later_of as later_of_of, own_update as own_update_of, placed_frame as placed_frame_of};
-ghost use Rattle.zk_least.specs.LeastMoments.{code_in as code_in_of, lapsed_from as lapsed_from_of, moments_for, moments_to_try};
+ghost use Rattle.zk_transcript.specs.Walks.{later_of as later_of_of, placed_frame as placed_frame_of};
+ghost use Rattle.zk_least.specs.LeastMoments.{code_in as code_in_of, lapsed_from as lapsed_from_of, moments_to_try};
 ghost use Rattle.zk_least.specs.LeastWalk.{given as given_of, is_answer, is_watch_answer, repeats as repeats_of, zxid_in as zxid_in_of};
 ghost use Rattle.zk_judge.specs.Fronts.{IsTold};
 ghost use Rattle.zk_judge.specs.Sent.{packets_in};
 ghost use Rattle.zk_judge.specs.Seen.{frame_as, left_by, step_of, walker_of};
-ghost use Rattle.zk_judge.specs.Waiting.{IsNotBefore, tried, tries_of};
+ghost use Rattle.zk_judge.specs.Waiting.{IsNotBefore, moments_at, moments_of, tried, tries_of};
 
 use crate::frames::{FrameRead, asks_of_watches, frame_of, plain_reply, xid_of};
 use crate::index::Index;
@@ -189,7 +189,7 @@ fn frame_moments(
     place: usize,
 ) -> (usize, Option<usize>)
     requires { place < length index.now.lines.now }
-    ensures tries { (result.0 ∷ option_to_list result.1) ≡ moments_to_try index.now.lines.now party.session (walker_of walker.now) place reply.now (own_update_of party.connection walker.now.next index.now.lines.now) }
+    ensures tries { (result.0 ∷ option_to_list result.1) ≡ moments_at index.now.lines.now party (walker_of walker.now) place reply.now }
     ensures rises { IsNotBefore result.0 result.1 }
 {
     match index.own_update(party.connection, walker.next) {
@@ -205,7 +205,7 @@ pub fn moments(
     walker: &Walker,
     reply: &[u8],
 ) -> Option<(usize, Option<usize>)>
-    ensures tries { tries_of result ≡ moments_for index.now.lines.now party.connection party.session (walker_of walker.now) reply.now (placed_frame_of party.connection walker.now.next index.now.lines.now) }
+    ensures tries { tries_of result ≡ moments_of index.now.lines.now party (walker_of walker.now) reply.now }
     ensures rises { IfSome result (λ t. IsNotBefore t.0 t.1) }
 {
     match index.placed_frame(party.connection, walker.next) {

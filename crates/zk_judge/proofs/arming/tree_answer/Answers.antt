@@ -4,7 +4,7 @@ use Rattle.zk_model.specs.Limits.{max_owned}
 use Rattle.zk_model.specs.Watches.{Watches, no_watches}
 use Rattle.zk_service.specs.Answers.{Told, tree_reply}
 use Rattle.zk_answers.specs.Outcomes.{told_of}
-use Rattle.zk_judge.specs.Arming.{is_set_watches, with_armed}
+use Rattle.zk_judge.specs.Arming.{with_armed}
 use Rattle.zk_judge.proofs.ArmedReads.{tree-arms}
 use Rattle.zk_judge.proofs.arming.tree_answer.Goals as goal
 

@@ -1,4 +1,4 @@
-use Rattle.std.proofs.Common.{◌≡◌, ◌+◌, Bool, List, [], pos, ap, sym, ◌∙◌, drop, subst, rules, refl}
+use Rattle.std.proofs.Common.{◌≡◌, ◌+◌, Bool, [], pos, ap, sym, ◌∙◌, drop, subst, rules, refl}
 use Rattle.std.specs.Prelude.{◌<ℤ◌, ◌↔◌, IsTrue}
 use Rattle.std.proofs.lemmas.Result.{IfOk-weaker}
 use Rattle.zk_service.specs.States.{State, session_at}
@@ -7,7 +7,6 @@ use Rattle.zk_transcript.specs.Walks.{Due, Walker, at_start, packets}
 use Rattle.zk_transcript.specs.Conversations.{IsLawfulAndFresh, IsWelcomed}
 use Rattle.zk_least.specs.LeastSteps.{is_least}
 use Rattle.zk_judge.specs.Fronts.{IsTold}
-use Rattle.zk_judge.specs.Sent.{packets_in}
 use Rattle.zk_judge.specs.Seen.{walker_of}
 use Rattle.zk_judge.specs.Waiting.{IsEarliest, is_walked}
 use Rattle.zk_judge.proofs.Lawful.{silent-lawful}

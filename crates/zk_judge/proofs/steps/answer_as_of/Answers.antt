@@ -1,4 +1,4 @@
-use Rattle.std.proofs.Common.{◌≡◌, List, Option, take, refl, subst, sym, ap, ◌∙◌, IfOk}
+use Rattle.std.proofs.Common.{◌≡◌, List, Option, take, refl, subst, sym, IfOk}
 use Rattle.std.specs.Prelude.{option_map}
 use Rattle.zk_transcript.specs.Walks.{Due, Walker}
 use Rattle.zk_judge.specs.Seen.{step_of, walker_of}

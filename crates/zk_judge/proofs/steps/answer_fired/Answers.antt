@@ -1,6 +1,6 @@
-use Rattle.std.proofs.Common.{◌≡◌, Bool, List, Some, None, ap, sym, ◌∙◌}
+use Rattle.std.proofs.Common.{◌≡◌, List, Some, None, ap, sym, ◌∙◌}
 use Rattle.std.specs.Prelude.{option_map}
-use Rattle.zk_service.specs.Answers.{Told, xid_of}
+use Rattle.zk_service.specs.Answers.{xid_of}
 use Rattle.zk_transcript.specs.Walks.{Due, Walker, reply_step_if, told_as_of}
 use Rattle.zk_judge.specs.NextFrames.{before_frame}
 use Rattle.zk_judge.specs.Seen.{IsShortFrame, ending_of, frame_as}

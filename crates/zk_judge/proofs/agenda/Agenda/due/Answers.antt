@@ -1,4 +1,4 @@
-use Rattle.std.proofs.Common.{List, inl, inr, refl, ap, sym, ◌∙◌, subst}
+use Rattle.std.proofs.Common.{List, inl, inr, refl, sym, subst}
 use Rattle.std.specs.List.{All, Contains}
 use Rattle.zk_judge.specs.Staged.{IsStanding, connections}
 use Rattle.zk_judge.specs.declared.conversations.Conversation.{Conversation}
