@@ -1,8 +1,8 @@
 -- Packets that are the front of a queue, packet by packet.
-use Rattle.std.proofs.Common.{◌≡◌, ◌≢◌, ℕ, suc, ◌-◌, Bool, true, false, ◌&&◌, List, [], ◌∷◌, length, take, drop, refl, sym, arith}
-use Rattle.std.specs.Prelude.{◌==◌, bytes_eq, nat_le}
+use Rattle.std.proofs.Common.{◌≡◌, ◌≢◌, ℕ, suc, ◌+◌, ◌-◌, ◌<◌, Bool, true, false, ◌&&◌, List, [], ◌∷◌, length, take, drop, refl, ap, sym, ◌∙◌, arith}
+use Rattle.std.specs.Prelude.{◌==◌, bytes_eq, get_or, nat_le}
 use Rattle.std.proofs.lemmas.Bool.Decides.{nat_tests}
-use Rattle.std.proofs.lemmas.List.{length-drop, take_all}
+use Rattle.std.proofs.lemmas.List.{at_drop_more, length-drop, take_all}
 use Rattle.zk_transcript.specs.Walks.{Due}
 use Rattle.zk_least.specs.LeastQueues.{is_apart, is_front}
 
@@ -38,6 +38,12 @@ not-empty n = grind (arith, nat_tests)
 pub front-over : (ps : List Due) → is_front ps [] ≡ (length ps == 0)
 front-over [] = refl
 front-over (p ∷ ps) = sym (not-empty (length ps))
+
+-- the packet at the head of those that are left is compared with the entry at a place of the queue
+pub next-due : (b : Bool) (queue qs ps : List Due) (at : ℕ) (d p : Due) → b ≡ is_front qs (drop at queue) → qs ≡ p ∷ ps → at < length queue → d ≡ get_or queue at d
+    → b ≡ is_front (p ∷ ps) (d ∷ drop (at + 1) queue)
+next-due b queue qs ps at d p is first more here =
+    is ∙ ap (λ (xs : List Due). is_front xs (drop at queue)) first ∙ at_drop_more (is_front (p ∷ ps)) queue at d more ∙ ap (λ (e : Due). is_front (p ∷ ps) (e ∷ drop (at + 1) queue)) (sym here)
 
 -- the entries after the one at a place, as a slice to the end has them
 pub later : (ds : List Due) (k : ℕ) → take (length ds - k) (drop k ds) ≡ drop k ds

@@ -19,4 +19,5 @@ pub mod PlainAnswers
 pub mod Running
 pub mod Sendable
 pub mod Telling
+pub mod Trying
 pub mod WatchAnswers

@@ -9,11 +9,11 @@ use Rattle.zk_model.specs.Znodes.{Tree}
 use Rattle.zk_model.specs.declared.request.Request.{Request}
 use Rattle.zk_model.specs.declared.request.Request.TheVariants as req
 use Rattle.zk_jute.specs.Records.{contents_of}
-use Rattle.zk_jute.specs.Requests.{Asks}
+use Rattle.zk_jute.specs.Requests.{Frame, NoHeader, Unreadable, Unknown, Asks}
 use Rattle.zk_transcript.specs.declared.transcript.TranscriptLine.{TranscriptLine}
 use Rattle.zk_transcript.specs.declared.transcript.TranscriptLine.TheVariants.{Update, Open, Frame as FrameLine, Send, Lapse, Close}
 use Rattle.zk_service.specs.States.{State}
-use Rattle.zk_transcript.specs.History.{after, frame_shown, open_shown, opening, when}
+use Rattle.zk_transcript.specs.History.{after, asked_in, frame_shown, open_shown, opening, when}
 use Rattle.zk_transcript.specs.Walks.{placed_frame}
 use Rattle.zk_transcript.proofs.Histories.{first_shown-push}
 use Rattle.zk_transcript.proofs.Lookups.{first_shown-new}
@@ -80,8 +80,12 @@ request-looks t limit session (req.Multi parts) whole small = (whole.within, par
 request-looks t limit session r whole small = whole.within
 
 -- a request that is read from a frame no longer than it may be
-pub asked-looks : (t : Tree) (limit : ℕ) (session xid : ℤ) (r : Request) → IsWhole t → IsShortFrame (Asks xid r) → FitsRequest t limit session r (pos 0) 0
-asked-looks t limit session xid r whole frame = request-looks t limit session r whole (asked-short frame.bytes xid r frame.short frame.reads)
+pub asked-looks : (t : Tree) (limit : ℕ) (session : ℤ) (x : Frame) (r : Request) → IsWhole t → IsShortFrame x → Some r ≡ asked_in x → FitsRequest t limit session r (pos 0) 0
+asked-looks t limit session (Asks xid q) r whole frame is =
+    subst (λ (p : Request). FitsRequest t limit session p (pos 0) 0) (sym (some_is is)) (request-looks t limit session q whole (asked-short frame.bytes xid q frame.short frame.reads))
+asked-looks t limit session NoHeader r whole frame is = absurd (cc)
+asked-looks t limit session (Unreadable xid place) r whole frame is = absurd (cc)
+asked-looks t limit session (Unknown xid kind) r whole frame is = absurd (cc)
 
 -- ---- passwords
 

@@ -66,17 +66,13 @@ left_by ps s = (walker_of s.walker, drop (length s.due.items) ps)
 abbrev pub taken_by : List Due → Taken → Walker × List Due
 taken_by ps t = (walker_of t.walker, drop t.count ps)
 
--- how far the updates up to the zxid of a reply bring the connection where their packets come next, and the packets that they leave
-abbrev pub told_given : List TranscriptLine → Walker → List Due → List ℕ → Option (Walker × List Due)
-told_given lines w ps reply = given ps (told_up_to lines w (zxid_in reply))
-
 -- how far the next frame's answer without the tree brings a connection after what it was told, and the packets that it leaves
 abbrev pub then_answered : List TranscriptLine → Party → Option (Walker × List Due) → Option (Walker × List Due)
 then_answered lines p told = then_plainly lines p.connection p.session told
 
 -- how far a reply without the tree brings the connection, with what it is told before, and the packets that these leave
 abbrev pub plainly_given : List TranscriptLine → Party → Walker → List Due → List ℕ → Option (Walker × List Due)
-plainly_given lines p w ps reply = then_answered lines p (told_given lines w ps reply)
+plainly_given lines p w ps reply = then_answered lines p (given ps (told_up_to lines w (zxid_in reply)))
 
 -- the body of the reply to the request that an update carried out, whose line stands at place k
 abbrev pub update_response : List TranscriptLine → ℕ → UpdateRec → Option Body

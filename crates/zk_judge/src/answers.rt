@@ -17,7 +17,7 @@ ghost use Rattle.zk_judge.specs.Seen.{IsShortFrame, ending_of, frame_as};
 
 use crate::arming::tree_answer;
 use crate::bodies::copy_of_body;
-use crate::frames::{FrameRead, plain_reply};
+use crate::frames::{FrameRead, asked, plain_reply};
 use crate::index::Index;
 use crate::next_frame::NextFrame;
 use crate::walker::Party;
@@ -81,11 +81,9 @@ fn looked(
     if plain_reply(alloc, frame)?.is_some() {
         return Ok(None);
     }
-    match frame {
-        FrameRead::Asks { request, .. } => { tree_answer(alloc, state, party, watches, request) }
-        FrameRead::NoHeader => Ok(None),
-        FrameRead::Unreadable { .. } => Ok(None),
-        FrameRead::Unknown { .. } => Ok(None),
+    match asked(frame) {
+        Some(request) => tree_answer(alloc, state, party, watches, request),
+        None => Ok(None),
     }
 }
 

@@ -4,6 +4,7 @@ ghost use Rattle.std.specs.Prelude.{◌≡◌, ℤ, false, Some, option_map, IfO
 ghost use Rattle.zk_model.specs.Watches.{no_watches};
 ghost use Rattle.zk_jute.specs.Requests.{Asks, read_request as read_request_of};
 ghost use Rattle.zk_service.specs.Answers.{asks_of_watches as asks_of_watches_of, told_of_watches, plain_reply as plain_reply_of, plain_request as plain_request_of, xid_of as xid_of_of, has_header as has_header_of};
+ghost use Rattle.zk_transcript.specs.History.{asked_in};
 ghost use Rattle.zk_judge.specs.Seen.{frame_as, reply_in, said_of};
 
 use std::alloc::Global;
@@ -48,6 +49,18 @@ pub fn xid_of(frame: &FrameRead) -> i32
         FrameRead::Unreadable { xid, .. } => *xid,
         FrameRead::Unknown { xid, .. } => *xid,
         FrameRead::Asks { xid, .. } => *xid,
+    }
+}
+
+/// The request of a frame, where it can be read.
+pub fn asked(frame: &FrameRead) -> Option<&Request>
+    ensures { option_map (λ r. r.now) result ≡ asked_in (frame_as frame.now) }
+{
+    match frame {
+        FrameRead::Asks { request, .. } => Some(request),
+        FrameRead::NoHeader => None,
+        FrameRead::Unreadable { .. } => None,
+        FrameRead::Unknown { .. } => None,
     }
 }
 

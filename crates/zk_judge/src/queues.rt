@@ -5,7 +5,7 @@ ghost use Rattle.zk_least.specs.LeastQueues.{told_through as told_through_of, to
 ghost use Rattle.zk_least.specs.LeastWalk.{zxid_in as zxid_in_of};
 ghost use Rattle.zk_judge.specs.Fronts.{IsTold};
 ghost use Rattle.zk_judge.specs.Sent.{packets_in};
-ghost use Rattle.zk_judge.specs.Seen.{left_by, plainly_given, step_of, taken_by, then_answered, told_given as told_given_of, walker_of};
+ghost use Rattle.zk_judge.specs.Seen.{left_by, plainly_given, step_of, taken_by, then_answered, walker_of};
 
 use crate::firing::{fire_above, then_fire};
 use crate::index::Index;
@@ -81,22 +81,6 @@ pub struct Taken {
     pub count: usize,
 }
 
-/// What a client is told up to the zxid of a reply, where these packets come next.
-fn told_given(
-    alloc: Global,
-    index: &Index,
-    walker: Walker,
-    packets: Packets<'_>,
-    reply: &[u8],
-) -> Result<Option<Step>, Memory>
-    requires told { IsTold index.now.lines.now (walker_of walker) }
-    ensures within { IfOk result (λ o. IfSome o (λ s. length s.due.items ≤ length (packets_in packets.entry))) }
-    ensures step { IfOk result (λ o. option_map (left_by (packets_in packets.entry)) o ≡ told_given_of index.now.lines.now (walker_of walker) (packets_in packets.entry) reply.now) }
-{
-    let told = told_up_to(alloc, index, walker, reply)?;
-    Ok(given(told, packets))
-}
-
 /// The next frame's answer without the tree, where it comes next after what the client was told.
 fn answered_plainly(
     alloc: Global,
@@ -133,7 +117,8 @@ pub fn plain_reply_given(
     ensures within { IfOk result (λ o. IfSome o (λ t. t.count ≤ length (packets_in packets.entry))) }
     ensures taken { IfOk result (λ o. option_map (taken_by (packets_in packets.entry)) o ≡ plainly_given index.now.lines.now party (walker_of walker) (packets_in packets.entry) reply.now) }
 {
-    match told_given(alloc, index, walker, packets, reply)? {
+    let told = told_up_to(alloc, index, walker, reply)?;
+    match given(told, packets) {
         Some(told) => answered_plainly(alloc, index, party, told, packets),
         None => Ok(None),
     }

@@ -6,14 +6,16 @@ ghost use Rattle.zk_transcript.specs.Walks.{packets};
 ghost use Rattle.zk_legal.specs.Faults.{history_fault};
 ghost use Rattle.zk_judge.specs.Fronts.{IsTold};
 ghost use Rattle.zk_judge.specs.Seen.{walker_of};
+ghost use Rattle.zk_judge.specs.Sent.{packets_in};
 ghost use Rattle.zk_judge.specs.Staged.{awaited_by};
-ghost use Rattle.zk_judge.specs.Waiting.{IsEarliest, IsNotBefore, IsWait, IsWaiting, gives_rest, gives_rest_from, is_walked, left_of, next_tried, tries_of};
+ghost use Rattle.zk_judge.specs.Waiting.{IsEarliest, IsNotBefore, IsWait, IsWaiting, gives_rest, gives_rest_from, is_walked, left_of, next_tried, packets_after, tries_of};
 ghost use Rattle.zk_judge.specs.declared.waits.Walked.TheVariants as walk;
 
 use crate::firing::fire_above;
 use crate::index::Index;
 use crate::packets::{is_front, next_reply};
 use crate::queues::plain_reply_given;
+use crate::sent::Packets;
 use crate::walker::{Party, Step, Walker};
 use crate::walks::{allowed, moments, repeats};
 use std::alloc::Global;
@@ -51,6 +53,14 @@ impl Walked {
             Walked::Waits(wait) => Some(wait.first),
         }
     }
+}
+
+/// The packets of a connection that are left after the first ones, of which there are `taken`.
+fn packets_left<'a>(index: &'a Index, party: Party, taken: usize) -> Packets<'a>
+    requires { taken ≤ length (packets party.connection index.now.lines.now) }
+    ensures { packets_in result ≡ packets_after index.now.lines.now party taken }
+{
+    index.packets_of(party.connection).rest_after(taken)
 }
 
 /// Waits for the first of two moments that is neither before `from` nor after the last line.
@@ -138,9 +148,8 @@ pub fn settle(
 {
     let mut walker = walker;
     let mut taken = taken;
-    let packets = index.packets_of(party.connection);
     'replies: loop {
-        let left = packets.rest_after(taken);
+        let left = packets_left(index, party, taken);
         let Some(reply) = next_reply(left) else {
             let fired = fire_above(alloc, index, index.lines, walker)?;
             return Ok(Walked::Ends(is_front(left, &fired.due)));
@@ -159,93 +168,22 @@ pub fn settle(
     }
 }
 
-/// Waits for the second moment, where the first failed.
-fn retry(index: &Index, wait: Wait) -> Walked
-    requires stands { IsWait index.now.lines.now wait.first wait }
-    requires failed { None ≡ next_tried index.now.lines.now wait }
-    ensures walked { is_walked index.now.lines.now result ≡ is_walked index.now.lines.now (walk.Waits wait) }
-    ensures waits { IsWaiting index.now.lines.now (wait.first + 1) result }
+/// What is left to be tried for a reply where the moment that is tried next fails: its second one, with a copy of what is armed.
+fn second_try(index: &Index, wait: &Wait) -> Result<Walked, Memory>
+    requires { IsWait index.now.lines.now wait.now.first wait.now }
+    ensures walked { IfOk result (λ r. None ≡ next_tried index.now.lines.now wait.now → is_walked index.now.lines.now r ≡ is_walked index.now.lines.now (walk.Waits wait.now)) }
+    ensures waits { IfOk result (λ r. IsWaiting index.now.lines.now (wait.now.first + 1) r) }
 {
     let moment = wait.first;
     match wait.second {
-        Some(second) if moment < second && second <= index.lines.len() => Walked::Waits(Wait {
+        Some(second) if moment < second && second <= index.lines.len() => Ok(Walked::Waits(Wait {
             party: wait.party,
-            walker: wait.walker,
+            walker: wait.walker.copy()?,
             taken: wait.taken,
             first: second,
             second: None,
-        }),
-        _ => Walked::Ends(false),
-    }
-}
-
-/// Tries the next reply as of its only moment; `state` is the state then.
-fn try_only(alloc: Global, index: &Index, state: &State, wait: Wait) -> Result<Walked, Memory>
-    requires run { history_fault index.now.lines.now ≡ None }
-    requires stands { IsWait index.now.lines.now wait.first wait }
-    requires only { wait.second ≡ None }
-    requires state { state.now ≡ state_at index.now.lines.now wait.first }
-    ensures walked { IfOk result (λ r. is_walked index.now.lines.now r ≡ is_walked index.now.lines.now (walk.Waits wait)) }
-    ensures waits { IfOk result (λ r. IsWaiting index.now.lines.now wait.first r) }
-    ensures fewer { IfOk result (λ r. IsWaiting index.now.lines.now (wait.first + 1) r ⊎ (left_of index.now.lines.now r < left_of index.now.lines.now (walk.Waits wait))) }
-{
-    let moment = wait.first;
-    let tried = allowed(
-        alloc,
-        index,
-        state,
-        wait.party,
-        wait.walker,
-        index
-            .packets_of(wait.party.connection)
-            .rest_after(wait.taken),
-        moment,
-    )?;
-    match tried {
-        Some(Step { walker, due }) => settle(
-            alloc,
-            index,
-            moment,
-            wait.party,
-            walker,
-            wait.taken + due.len(),
-        ),
-        None => Ok(Walked::Ends(false)),
-    }
-}
-
-/// Tries the next reply as of the first of its two moments; `state` is the state then. What is armed is copied for the second.
-fn try_first(alloc: Global, index: &Index, state: &State, wait: Wait) -> Result<Walked, Memory>
-    requires run { history_fault index.now.lines.now ≡ None }
-    requires stands { IsWait index.now.lines.now wait.first wait }
-    requires state { state.now ≡ state_at index.now.lines.now wait.first }
-    ensures walked { IfOk result (λ r. is_walked index.now.lines.now r ≡ is_walked index.now.lines.now (walk.Waits wait)) }
-    ensures waits { IfOk result (λ r. IsWaiting index.now.lines.now wait.first r) }
-    ensures fewer { IfOk result (λ r. IsWaiting index.now.lines.now (wait.first + 1) r ⊎ (left_of index.now.lines.now r < left_of index.now.lines.now (walk.Waits wait))) }
-{
-    let moment = wait.first;
-    let walker = wait.walker.copy()?;
-    let tried = allowed(
-        alloc,
-        index,
-        state,
-        wait.party,
-        walker,
-        index
-            .packets_of(wait.party.connection)
-            .rest_after(wait.taken),
-        moment,
-    )?;
-    match tried {
-        Some(Step { walker, due }) => settle(
-            alloc,
-            index,
-            moment,
-            wait.party,
-            walker,
-            wait.taken + due.len(),
-        ),
-        None => Ok(retry(index, wait)),
+        })),
+        _ => Ok(Walked::Ends(false)),
     }
 }
 
@@ -260,9 +198,20 @@ fn try_next(alloc: Global, index: &Index, state: &State, wait: Wait) -> Result<W
     ensures waits { IfOk result (λ r. IsWaiting index.now.lines.now wait.first r) }
     ensures fewer { IfOk result (λ r. IsWaiting index.now.lines.now (wait.first + 1) r ⊎ (left_of index.now.lines.now r < left_of index.now.lines.now (walk.Waits wait))) }
 {
-    match wait.second {
-        Some(_) => try_first(alloc, index, state, wait),
-        None => try_only(alloc, index, state, wait),
+    let failed = second_try(index, &wait)?;
+    let moment = wait.first;
+    let left = packets_left(index, wait.party, wait.taken);
+    let tried = allowed(alloc, index, state, wait.party, wait.walker, left, moment)?;
+    match tried {
+        Some(Step { walker, due }) => settle(
+            alloc,
+            index,
+            moment,
+            wait.party,
+            walker,
+            wait.taken + due.len(),
+        ),
+        None => Ok(failed),
     }
 }
 

@@ -1,14 +1,18 @@
-use Rattle.std.proofs.Common.{◌≡◌, true, false, Option, ap, sym, ◌∙◌, subst, IfOk}
+use Rattle.std.proofs.Common.{◌≡◌, true, false, Option, Some, None, ap, sym, ◌∙◌, subst, IfOk}
 use Rattle.std.specs.Prelude.{is_some, option_and_then, option_map}
 use Rattle.zk_model.specs.Limits.{max_owned}
+use Rattle.zk_model.specs.declared.request.Request.{Request}
 use Rattle.zk_service.specs.Answers.{Told, tree_reply}
 use Rattle.zk_transcript.specs.History.{asked_in}
 use Rattle.zk_answers.specs.Outcomes.{told_of}
-use Rattle.zk_judge.specs.Seen.{IsShortFrame, frame_as}
-use Rattle.zk_judge.specs.declared.frames.FrameRead.{FrameRead}
+use Rattle.zk_judge.specs.Seen.{frame_as}
 use Rattle.zk_judge.proofs.PlainAnswers.{looked-plain, looked-tree}
 use Rattle.zk_judge.proofs.Running.{asked-looks}
 use Rattle.zk_judge.proofs.answers.looked.Goals as goal
+use denote.Ref.{Bor}
+
+request_of : Option (Bor Request) → Option Request
+request_of o = option_map {U = Request} (λ r. r.now) o
 
 pub returns-then-is_some : goal.returns-then-is_some
 returns-then-is_some c =
@@ -16,38 +20,25 @@ returns-then-is_some c =
     looked-plain c.args.state.now max_owned c.args.party.session c.args.watches (frame_as c.args.frame.now) c.in_ok-plain_reply.field-0 c.in_ok-plain_reply.ensures some
 
 pub tree_answer-requires : goal.tree_answer-requires
-tree_answer-requires c = asked-looks c.args.state.now.tree _ _ _ _ c.requires.whole (subst (λ (f : FrameRead). IsShortFrame (frame_as f)) c.in-Asks.is c.requires.short)
+tree_answer-requires c =
+    let asks : Some c.in-Some.request.now ≡ asked_in (frame_as c.args.frame.now) = ap request_of (sym c.in-Some.is) ∙ c.asked.ensures in
+    asked-looks c.args.state.now.tree _ _ (frame_as c.args.frame.now) c.in-Some.request.now c.requires.whole c.requires.short asks
 
-pub returns-in-Asks : goal.returns-in-Asks
-returns-in-Asks c =
+pub returns-in-Some : goal.returns-in-Some
+returns-in-Some c =
     let s = c.args.state.now in
     let id = c.args.party.session in
+    let x = frame_as c.args.frame.now in
     let none : is_some c.in_ok-plain_reply.field-0 ≡ false = cc in
-    let same =
-    ap (λ (f : FrameRead). option_and_then (tree_reply s.tree max_owned id c.args.watches) (asked_in (frame_as f))) (sym c.in-Asks.is)
-    ∙ looked-tree s max_owned id c.args.watches (frame_as c.args.frame.now) c.in_ok-plain_reply.field-0 c.in_ok-plain_reply.ensures none in
+    let asks : Some c.in-Some.request.now ≡ asked_in x = ap request_of (sym c.in-Some.is) ∙ c.asked.ensures in
+    let same = ap (option_and_then (tree_reply s.tree max_owned id c.args.watches)) asks ∙ looked-tree s max_owned id c.args.watches x c.in_ok-plain_reply.field-0 c.in_ok-plain_reply.ensures none in
     subst (λ (y : Option Told). IfOk c.tree_answer.result (λ o. option_map told_of o ≡ y)) same c.tree_answer.ensures
 
-pub returns-in-NoHeader : goal.returns-in-NoHeader
-returns-in-NoHeader c =
+pub returns-in-None : goal.returns-in-None
+returns-in-None c =
     let s = c.args.state.now in
     let id = c.args.party.session in
+    let x = frame_as c.args.frame.now in
     let none : is_some c.in_ok-plain_reply.field-0 ≡ false = cc in
-    ap (λ (f : FrameRead). option_and_then (tree_reply s.tree max_owned id c.args.watches) (asked_in (frame_as f))) (sym c.in-NoHeader.is)
-    ∙ looked-tree s max_owned id c.args.watches (frame_as c.args.frame.now) c.in_ok-plain_reply.field-0 c.in_ok-plain_reply.ensures none
-
-pub returns-in-Unreadable : goal.returns-in-Unreadable
-returns-in-Unreadable c =
-    let s = c.args.state.now in
-    let id = c.args.party.session in
-    let none : is_some c.in_ok-plain_reply.field-0 ≡ false = cc in
-    ap (λ (f : FrameRead). option_and_then (tree_reply s.tree max_owned id c.args.watches) (asked_in (frame_as f))) (sym c.in-Unreadable.is)
-    ∙ looked-tree s max_owned id c.args.watches (frame_as c.args.frame.now) c.in_ok-plain_reply.field-0 c.in_ok-plain_reply.ensures none
-
-pub returns-in-Unknown : goal.returns-in-Unknown
-returns-in-Unknown c =
-    let s = c.args.state.now in
-    let id = c.args.party.session in
-    let none : is_some c.in_ok-plain_reply.field-0 ≡ false = cc in
-    ap (λ (f : FrameRead). option_and_then (tree_reply s.tree max_owned id c.args.watches) (asked_in (frame_as f))) (sym c.in-Unknown.is)
-    ∙ looked-tree s max_owned id c.args.watches (frame_as c.args.frame.now) c.in_ok-plain_reply.field-0 c.in_ok-plain_reply.ensures none
+    let asks : None ≡ asked_in x = ap request_of (sym c.in-None.is) ∙ c.asked.ensures in
+    ap (option_and_then (tree_reply s.tree max_owned id c.args.watches)) asks ∙ looked-tree s max_owned id c.args.watches x c.in_ok-plain_reply.field-0 c.in_ok-plain_reply.ensures none

@@ -17,8 +17,8 @@ use Rattle.zk_judge.proofs.waits.settle.Goals as goal
 pub returns-in_default-clause-walked : goal.returns-in_default-clause-walked
 returns-in_default-clause-walked c =
     let w = walker_of c.replies.walker in
-    let ps = packets_in c.rest_after-left.result in
-    let here = c.rest_after-left.ensures ∙ ap (λ (ds : List Due). drop c.replies.taken ds) c.packets_of-packets.ensures in
+    let ps = packets_in c.packets_left-left.result in
+    let here = c.packets_left-left.ensures in
     let lines = c.args.index.now.lines.now in
     let conn = c.args.party.connection in
     let id = c.args.party.session in
@@ -32,8 +32,8 @@ returns-in_default-clause-walked c =
 pub returns-then-not-branch-clause-walked : goal.returns-then-not-branch-clause-walked
 returns-then-not-branch-clause-walked c =
     let w = walker_of c.replies.walker in
-    let ps = packets_in c.rest_after-left.result in
-    let here = c.rest_after-left.ensures ∙ ap (λ (ds : List Due). drop c.replies.taken ds) c.packets_of-packets.ensures in
+    let ps = packets_in c.packets_left-left.result in
+    let here = c.packets_left-left.ensures in
     let lines = c.args.index.now.lines.now in
     let conn = c.args.party.connection in
     let id = c.args.party.session in
@@ -48,8 +48,8 @@ returns-then-not-branch-clause-walked c =
 pub replies-smaller : goal.replies-smaller
 replies-smaller c =
     let w = walker_of c.replies.walker in
-    let ps = packets_in c.rest_after-left.result in
-    let here = c.rest_after-left.ensures ∙ ap (λ (ds : List Due). drop c.replies.taken ds) c.packets_of-packets.ensures in
+    let ps = packets_in c.packets_left-left.result in
+    let here = c.packets_left-left.ensures in
     let lines = c.args.index.now.lines.now in
     let conn = c.args.party.connection in
     let id = c.args.party.session in
@@ -62,8 +62,8 @@ replies-smaller c =
 pub replies-preserved : goal.replies-preserved
 replies-preserved c =
     let w = walker_of c.replies.walker in
-    let ps = packets_in c.rest_after-left.result in
-    let here = c.rest_after-left.ensures ∙ ap (λ (ds : List Due). drop c.replies.taken ds) c.packets_of-packets.ensures in
+    let ps = packets_in c.packets_left-left.result in
+    let here = c.packets_left-left.ensures in
     let lines = c.args.index.now.lines.now in
     let conn = c.args.party.connection in
     let id = c.args.party.session in
@@ -92,8 +92,8 @@ replies-preserved c =
 pub returns-in-None-clause-walked : goal.returns-in-None-clause-walked
 returns-in-None-clause-walked c =
     let w = walker_of c.replies.walker in
-    let ps = packets_in c.rest_after-left.result in
-    let here = c.rest_after-left.ensures ∙ ap (λ (ds : List Due). drop c.replies.taken ds) c.packets_of-packets.ensures in
+    let ps = packets_in c.packets_left-left.result in
+    let here = c.packets_left-left.ensures in
     let lines = c.args.index.now.lines.now in
     let conn = c.args.party.connection in
     let id = c.args.party.session in
