@@ -12,7 +12,7 @@ use Rattle.ev_types.specs.declared.route.Route.{Route}
 use Rattle.ev_types.specs.declared.route.Route.TheVariants as route
 use Rattle.ev_fields.specs.declared.field.Field.{Field}
 use Rattle.ev_fields.specs.declared.field.Field.TheVariants as field
-use Rattle.ev_fields.specs.Kinds.{known, message_of, has, count_in, lease_in, flag_in, bytes_in, key_in, positive_count, positive_lease, word_in, word_or_none, message_in, without, list_in}
+use Rattle.ev_fields.specs.Kinds.{◌>>=◌, known, message_of, has, count_in, lease_in, flag_in, bytes_in, key_in, positive_count, positive_lease, word_in, word_or_none, message_in, without, list_in}
 
 -- a compare: its target is MOD, and its result EQUAL or left out. It is of one key: etcd would compare a whole range where there is
 -- a `range_end`

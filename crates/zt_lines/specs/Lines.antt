@@ -8,7 +8,7 @@ use Rattle.zk_service.specs.declared.update.UpdateKind.{UpdateKind}
 use Rattle.zk_service.specs.declared.update.UpdateKind.TheVariants as kind
 use Rattle.zk_transcript.specs.declared.transcript.TranscriptLine.{TranscriptLine}
 use Rattle.zk_transcript.specs.declared.transcript.TranscriptLine.TheVariants as line
-use Rattle.zt_text.specs.Scripts.{hex, max_line, number, one_word, password, pieces, session_id, three_words, two_words, four_words}
+use Rattle.zt_text.specs.Scripts.{hex, max_line, number, one_word, password, pieces, session_id, three_words, two_words, four_words, ◌>>=◌}
 use Rattle.zt_lines.specs.Words.{length_word, long, place}
 
 abbrev pub Words : Type 0
