@@ -1,4 +1,4 @@
--- What an update shows is short: each path has at most 1,024 bytes, and the reply to a multi at most 24 results.
+-- What an update shows is short: each path has at most 1,024 bytes, and the reply to a multi at most `max_parts` results.
 use Rattle.std.specs.Prelude.{◌≤◌, ⊤, List, length}
 use Rattle.std.specs.List.{AllByRecursion}
 use Rattle.zk_model.specs.Limits.{max_parts, max_path}

@@ -27,7 +27,7 @@ use Rattle.zn_updates.specs.KeysRead.{start_keys}
 use Rattle.zn_multi.specs.Reading.{AreRead, each_new, with_new}
 use Rattle.zn_multi.proofs.ReadKeys.{follows_to, read_from, read_to, start_left}
 
--- ---- a multi of at most 24 parts is not answered by its form
+-- ---- a multi of at most `max_parts` parts is not answered by its form
 
 multi_plain : (parts : List Part) (b : Bool) → nat_lt max_parts (length parts) ≡ b → plain_request no_watches (req.Multi parts) ≡ (if b then told no_watches (reply.Refused bad_arguments) else None)
 unfolding plain_request

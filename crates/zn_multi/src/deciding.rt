@@ -106,7 +106,7 @@ fn decide_by_session(
 /// Decides a multi of these parts on a view that lacks nothing that it reads: [`needs_multi`](crate::needs_multi) names nothing
 /// of that view. `now` is in milliseconds since 1970, below 2^62; the session's number is at least 1.
 ///
-/// More than 24 parts are refused with BadArguments. The session has expired where the record of its life is not there, and has
+/// More than [`MAX_PARTS`] parts are refused with BadArguments. The session has expired where the record of its life is not there, and has
 /// moved where that was put at another revision than `who.mine`. Otherwise the parts are carried out in turn. A plan carries the
 /// update out, guards what the multi reads and writes each key once; on a view of a sound state it is small enough for an etcd.
 pub fn decide_multi(

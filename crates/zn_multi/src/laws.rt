@@ -29,7 +29,7 @@ pub fn refusals_do_not_depend_on_the_time()
     ensures { RefusalsDoNotDependOnTheTime }
 {}
 
-/// On a view that shows a sound state with the session open, and lacks nothing that at most 24 parts read, what each part looks at
+/// On a view that shows a sound state with the session open, and lacks nothing that at most `max_parts` parts read, what each part looks at
 /// was looked up or was written by the parts before it: the premise of [`parts_are_carried_out_in_turn`].
 pub fn what_parts_look_at_was_seen()
     ensures { WhatPartsLookAtWasSeen }

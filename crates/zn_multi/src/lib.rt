@@ -4,8 +4,9 @@
 //! after a part that is refused. [`decide_multi`] decides a multi on a view that lacks nothing. Its parts are chosen one after
 //! the other, as single requests are (`zn_updates`), each on the view over which the keys are laid that the earlier parts wrote.
 //! So each part sees the earlier ones, and each key is written once, with its last record; a key that was absent and is absent
-//! again is not written. A multi with a refused part changes nothing, and its reply says which part. A multi has at most 24
-//! parts. Their data, and the paths of the nodes that each touched session owned before, have at most 1,000,000 bytes together.
+//! again is not written. A multi with a refused part changes nothing, and its reply says which part. A multi has at most
+//! `MAX_PARTS` parts (`zk_model::limit`). Their data, and the paths of the nodes that each touched session owned before, have at
+//! most 1,000,000 bytes together.
 //!
 //! The keys that were laid over a view are looked up one after the other: the time grows with the square of the parts. The data
 //! of a part is copied once, into the node's value.

@@ -12,7 +12,7 @@ use zk_model::limit::MAX_FRAME;
 use zp_script::Flight;
 use zt_text::Why;
 
-/// A connection lags where more entries than this follow its cursor.
+/// A connection lags where more entries than this follow its cursor (`max_kept` of `zn_layout`).
 pub(crate) const MAX_KEPT: u64 = 4_096;
 
 impl World {
