@@ -64,7 +64,7 @@ abbrev pub RefusalsDoNotDependOnTheTime : Type 0
 RefusalsDoNotDependOnTheTime = (t : Tree) (limit : ℕ) (id : ℤ) (parts : List Part) (z y : ℤ) (now other : ℕ) (place : ℕ) (code : ℤ)
     → parts_of t limit id parts z now ≡ StoppedAt place code → parts_of t limit id parts y other ≡ StoppedAt place code
 
--- on a view that shows a sound state with the session open, and lacks nothing that at most 24 parts read, what each part looks at
+-- on a view that shows a sound state with the session open, and lacks nothing that at most `max_parts` parts read, what each part looks at
 -- was looked up or was written by the parts before it
 abbrev pub WhatPartsLookAtWasSeen : Type 0
 WhatPartsLookAtWasSeen = (who : Who) (now : ℕ) (v : View) (parts : List Part) (s : State) (z : ℤ) (x : Session) (c : Carried)
