@@ -1,5 +1,5 @@
--- A reply that is tried as of a moment: how the connection goes on after its answer.
-use Rattle.std.proofs.Common.{◌≡◌, pos, ◌+◌, ◌-◌, ◌<◌, ◌≤◌, List, ◌∷◌, length, length-drop, drop, Option, Some, None, ap, sym, ◌∙◌, subst, arith}
+-- A reply that is tried as of a moment: how the connection goes on after its answer, and what is left to be tried without one.
+use Rattle.std.proofs.Common.{◌≡◌, ℕ, pos, ◌+◌, ◌-◌, ◌<◌, ◌≤◌, List, ◌∷◌, length, length-drop, drop, Option, Some, None, ap, sym, ◌∙◌, subst, arith}
 use Rattle.std.specs.Prelude.{◌<ℤ◌, IfSome, option_map, option_to_list}
 use Rattle.zk_transcript.specs.declared.transcript.TranscriptLine.{TranscriptLine}
 use Rattle.zk_transcript.specs.Walks.{Due, packets}
@@ -7,10 +7,13 @@ use Rattle.zk_least.specs.LeastSteps.{is_least}
 use Rattle.zk_legal.specs.Faults.{history_fault}
 use Rattle.zk_judge.specs.Fronts.{IsTold}
 use Rattle.zk_judge.specs.Seen.{left_by, walker_of}
-use Rattle.zk_judge.specs.Waiting.{IsEarliest, IsWait, gives_rest, goes_on, is_walked, next_tried, packets_after, tried}
+use Rattle.zk_judge.specs.Waiting.{IsEarliest, IsNotBefore, IsWait, IsWaiting, gives_rest, goes_on, is_walked, next_tried, packets_after, tried}
 use Rattle.zk_judge.specs.declared.waits.Wait.{Wait}
+use Rattle.zk_judge.specs.declared.waits.Walked.{Walked}
 use Rattle.zk_judge.specs.declared.waits.Walked.TheVariants as walk
+use Rattle.zk_judge.specs.declared.walker.Party.{Party}
 use Rattle.zk_judge.specs.declared.walker.Step.{Step}
+use Rattle.zk_judge.specs.declared.walker.Walker.{Walker as Walking}
 use Rattle.zk_judge.proofs.RestAfter.{drop-both}
 use Rattle.zk_judge.proofs.Replied.{answer-on, goes-first}
 
@@ -51,3 +54,22 @@ tried-answers lines x ps o s run stands here is gives within =
 pub tried-misses : (lines : List TranscriptLine) (x : Wait) (ps : List Due) (o : Option Step) → ps ≡ packets_after lines x.party x.taken → o ≡ None
     → option_map (left_by ps) o ≡ tried lines x.party.connection x.party.session (walker_of x.walker) ps x.first → None ≡ next_tried lines x
 tried-misses lines x ps o here is gives = ap (option_map (left_by ps)) (sym is) ∙ gives ∙ ap (λ (ds : List Due). tried lines x.party.connection x.party.session (walker_of x.walker) ds x.first) here
+
+-- ---- the second moment
+
+pub second-waits : (lines : List TranscriptLine) (x y : Wait) → IsWait lines x.first x → x.first < y.first → y.first ≤ length lines → y.second ≡ None → y.party ≡ x.party → y.taken ≡ x.taken → y.walker ≡ x.walker → IsWait lines (x.first + 1) y
+second-waits lines x y stands more within none party taken walker = record {
+  first = omega (arith, more);
+  last = within;
+  second = subst (λ (o : Option ℕ). IsNotBefore y.first o) (sym none) tt;
+  above = subst (λ (v : Walking). pos 0 <ℤ v.zxid) (sym walker) stands.above;
+  told = subst (λ (v : Walking). IsTold lines (walker_of v)) (sym walker) stands.told;
+  taken = subst (λ (p : Party). y.taken ≤ length (packets p.connection lines)) (sym party) (subst (λ (n : ℕ). n ≤ length (packets x.party.connection lines)) (sym taken) stands.taken);
+}
+
+-- what waits for a moment after this one waits for none before it
+pub still-waits : (lines : List TranscriptLine) (m : ℕ) (r : Walked) → IsWaiting lines (m + 1) r → IsWaiting lines m r
+still-waits lines m (walk.Ends b) waits = waits
+still-waits lines m (walk.Waits x) waits =
+    let first = waits.first in
+    record { first = omega (arith, first); last = waits.last; second = waits.second; above = waits.above; told = waits.told; taken = waits.taken }

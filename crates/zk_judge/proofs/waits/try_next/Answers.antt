@@ -1,9 +1,9 @@
-use Rattle.std.proofs.Common.{◌≡◌, ◌+◌, Bool, inr, ap, ◌∙◌, length, subst, rules, IfOk, arith}
+use Rattle.std.proofs.Common.{◌≡◌, ◌+◌, Bool, inl, inr, ap, ◌∙◌, length, subst, rules, IfOk, arith}
 use Rattle.zk_judge.specs.Sent.{packets_in}
 use Rattle.zk_judge.specs.Seen.{walker_of}
 use Rattle.zk_judge.specs.Waiting.{gives_rest, is_walked}
 use Rattle.zk_judge.proofs.Replied.{if-ok}
-use Rattle.zk_judge.proofs.Trying.{tried-answers, tried-misses}
+use Rattle.zk_judge.proofs.Trying.{still-waits, tried-answers, tried-misses}
 use Rattle.zk_judge.proofs.waits.try_next.Goals as goal
 
 pub settle-requires-clause-early : goal.settle-requires-clause-early
@@ -46,3 +46,9 @@ returns-in-Some-clause-fewer c =
 pub returns-in-None-clause-walked : goal.returns-in-None-clause-walked
 returns-in-None-clause-walked c =
     c.in_ok-failed.ensures.walked (tried-misses c.args.index.now.lines.now c.args.wait (packets_in c.packets_left-left.result) _ c.packets_left-left.ensures c.in-None.is c.in_ok-tried.ensures.step)
+
+pub returns-in-None-clause-waits : goal.returns-in-None-clause-waits
+returns-in-None-clause-waits c = still-waits c.args.index.now.lines.now c.args.wait.first c.in_ok-failed.failed c.in_ok-failed.ensures.waits
+
+pub returns-in-None-clause-fewer : goal.returns-in-None-clause-fewer
+returns-in-None-clause-fewer c = inl c.in_ok-failed.ensures.waits
