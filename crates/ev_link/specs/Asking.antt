@@ -3,7 +3,6 @@ use Rattle.std.specs.Prelude.{◌≡◌, ◌⊎◌, ℕ, ◌≤◌, ◌++◌, Bo
 use Rattle.std.specs.Global.{Vec}
 use Rattle.ev_types.specs.declared.answer.Answer.{Answer}
 use Rattle.ev_types.specs.declared.ask.Ask.{Ask}
-use Rattle.zx_outside.specs.Counts.{InputCounts, OutputCounts}
 use Rattle.ev_fields.specs.declared.fault.JsonFault.TheVariants as json
 use Rattle.ev_json.specs.Answers.{answer_in}
 use Rattle.ev_json.specs.Bodies.{FaultOf, message_body, reads}
@@ -15,7 +14,7 @@ use Rattle.ev_http.specs.Body.{ReadsBody}
 use Rattle.ev_http.specs.Messages.{HoldsResponse, ResponseAnswer}
 use Rattle.ev_http.specs.Sending.{Sends, request_head}
 use Rattle.ev_http.specs.Sinks.{SinkTold}
-use Rattle.ev_http.specs.Taking.{Told, Took, failed, fresh, told}
+use Rattle.ev_http.specs.Taking.{Told, Took, failed, fresh}
 use Rattle.ev_call.specs.declared.etcd.CallFault.{CallFault}
 use Rattle.ev_call.specs.declared.etcd.CallFault.TheVariants as fault
 use Rattle.ev_link.specs.declared.failure.LinkFailure.{LinkFailure}
@@ -30,14 +29,6 @@ use Rattle.ev_link.specs.declared.http_link.State.TheVariants as state
 abbrev pub SendsAsk : Result (Unit {0}) HttpFault → List ℕ → Ask → SinkTold → SinkTold → Type 0
 SendsAsk result host q sink sink' =
     Sends result (request_head host (route_of q) (length (ask_text q)) ++ ask_text q) sink.taken sink'.taken sink.counts sink'.counts sink.name sink'.name
-
--- This holds of the two ends of a connection: of what a source and a sink tell before and after.
-abbrev pub OfBothEnds : {S K : Type 0} → (Told → Told → SinkTold → SinkTold → Type 0)
-    → (S → Option (List ℕ)) → (S → Option (List ℕ)) → (S → InputCounts) → (S → Bool) → (S → ℕ)
-    → (K → Option (List ℕ)) → (K → OutputCounts) → (K → ℕ) → S → S → K → K → Type 0
-OfBothEnds holds given left counts ended name taken written label source source' sink sink' =
-    holds (told given left counts ended name source) (told given left counts ended name source')
-    (sink_told taken written label sink) (sink_told taken written label sink')
 
 -- The next response was read, or there is a fault. Where the source holds a whole response, it is that one.
 pub record Receives (result : Result (Vec ℕ) HttpFault) (source source' : Told) : Type 0 where

@@ -1,4 +1,5 @@
 pub mod Outcomes
 pub mod Fits
+pub mod Forms
 pub mod Kinds
 pub mod Reads

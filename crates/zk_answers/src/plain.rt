@@ -1,15 +1,12 @@
 //! Answers that need no tree.
 
-ghost use Rattle.std.specs.Prelude.{◌≡◌, ℤ, ◌&&◌, not, Some, None, if◌then◌else◌, option_map, IfOk};
-ghost use Rattle.zx_base.specs.Maps.{Bytes, same};
+ghost use Rattle.std.specs.Prelude.{◌≡◌, Some, option_map, IfOk};
 ghost use Rattle.zk_model.specs.declared.reply.Body.TheVariants as body;
 ghost use Rattle.zk_model.specs.declared.reply.Reply.TheVariants as reply;
 ghost use Rattle.zk_service.specs.Answers.{has_valid_form, plain_request, told, told_of_path, told_of_watches, told_refusal};
-ghost use Rattle.zk_model.specs.Codes.{bad_arguments, invalid_acl};
-ghost use Rattle.zk_model.specs.Paths.{is_path, is_sequence_prefix, root};
-ghost use Rattle.zk_model.specs.declared.request.Part.TheVariants as part;
-ghost use Rattle.zk_model.specs.Single.{form_refusal, or_else, path_refusal, is_create_mode, is_sequential};
-ghost use Rattle.zk_model.specs.Access.{is_open_acl};
+ghost use Rattle.zk_model.specs.Paths.{is_path};
+ghost use Rattle.zk_model.specs.Single.{path_refusal};
+ghost use Rattle.zk_answers.specs.Forms.{create_refusal, delete_refusal};
 ghost use Rattle.zk_answers.specs.Outcomes.{told_of};
 
 use crate::told::{Told, good, refused};
@@ -38,8 +35,7 @@ fn create_refusal(
     acl: &[Acl],
     flags: i32,
 ) -> Result<Option<i32>, Memory>
-    ensures { IfOk result (λ o. o ≡ or_else (path_refusal (if is_sequential flags then is_sequence_prefix text.now else is_path text.now))
-        (if not (is_create_mode flags) then Some bad_arguments else if not (is_open_acl acl.now) then Some invalid_acl else None)) }
+    ensures { IfOk result (λ o. o ≡ create_refusal text.now acl.now flags) }
 {
     if read_path(alloc, text, is_sequential(flags))?.is_none() {
         return Ok(Some(BAD_ARGUMENTS));
@@ -54,7 +50,7 @@ fn create_refusal(
 }
 
 fn delete_refusal(alloc: Global, text: &[u8]) -> Result<Option<i32>, Memory>
-    ensures { IfOk result (λ o. o ≡ path_refusal (is_path text.now && not (same text.now root))) }
+    ensures { IfOk result (λ o. o ≡ delete_refusal text.now) }
 {
     match read_path(alloc, text, false)? {
         Some(path) if path.bytes() != b"/".as_slice() => Ok(None),
@@ -79,7 +75,6 @@ fn told_of_path(alloc: Global, watches: &Watches, text: &[u8]) -> Result<Option<
 }
 
 /// The answer to a create, with or without Stat, where its form is not valid.
-#[tactic(auto, unfolding(zk_model::specs::Single::form_refusal))]
 fn told_of_create(
     alloc: Global,
     watches: &Watches,
@@ -87,16 +82,15 @@ fn told_of_create(
     acl: &[Acl],
     flags: i32,
 ) -> Result<Option<Told>, Memory>
-    ensures { IfOk result (λ o. (content : Bytes) → option_map told_of o ≡ told_refusal watches.now (form_refusal (part.Create text.now content acl.now flags))) }
+    ensures { IfOk result (λ o. option_map told_of o ≡ told_refusal watches.now (create_refusal text.now acl.now flags)) }
 {
     let code = create_refusal(alloc, text, acl, flags)?;
     Ok(told_refusal(alloc, watches, code)?)
 }
 
 /// The answer to a delete where its form is not valid.
-#[tactic(auto, unfolding(zk_model::specs::Single::form_refusal))]
 fn told_of_delete(alloc: Global, watches: &Watches, text: &[u8]) -> Result<Option<Told>, Memory>
-    ensures { IfOk result (λ o. (version : ℤ) → option_map told_of o ≡ told_refusal watches.now (form_refusal (part.Delete text.now version))) }
+    ensures { IfOk result (λ o. option_map told_of o ≡ told_refusal watches.now (delete_refusal text.now)) }
 {
     let code = delete_refusal(alloc, text)?;
     Ok(told_refusal(alloc, watches, code)?)

@@ -20,6 +20,7 @@ use Rattle.zk_service.specs.declared.update.UpdateRec.{UpdateRec}
 use Rattle.zk_transcript.proofs.Choices.{choices-append}
 use Rattle.zk_least.proofs.Firing.{after-line}
 use Rattle.zn_view.specs.declared.plan.Who.{Who}
+use Rattle.zp_step.proofs.Sending.{sends-append}
 use Rattle.zp_step.specs.declared.action.Action.{Action}
 use Rattle.zp_step.specs.Replies.{Is, stage_after}
 use Rattle.zp_step.specs.Stages.{Core, Stage, Unconnected, Connecting, Ready, KeepingAlive, Checking, Reading, Committing, Waiting, Shut}

@@ -21,6 +21,7 @@ use Rattle.zn_view.specs.Seen.{View}
 use Rattle.zn_view.specs.Views.{Agrees, WasPut}
 use Rattle.zn_view.specs.declared.plan.Plan.{Plan}
 use Rattle.zn_view.specs.declared.plan.Who.{Who}
+use Rattle.zp_step.specs.Looking.{IsForTree}
 use Rattle.zp_step.specs.Replies.{is_due}
 use Rattle.zn_view.specs.Keeping.{IsKeepable}
 use Rattle.zp_step.specs.Stages.{Core, KeptViews, Pending, Stage, Unconnected, Connecting, Ready, Checking, Reading, Committing, Waiting, seen_by, waits_from}

@@ -5,6 +5,7 @@ use Rattle.ev_types.specs.Store.{Store}
 use Rattle.ev_types.specs.declared.ask.Ask.{Ask}
 use Rattle.zk_transcript.specs.Walks.{Choice, Due, Walker, are_fresh, are_in_turn, walk}
 use Rattle.zk_transcript.specs.declared.transcript.TranscriptLine.{TranscriptLine}
+use Rattle.zp_step.specs.Ending.{sends}
 use Rattle.zp_step.specs.Stages.{Core, Stage, Unconnected, Connecting, Waiting, Shut, asked_of, is_open}
 use Rattle.zp_step.specs.Steps.{Steps}
 use Rattle.zp_step.specs.declared.action.Action.{Action}
