@@ -17,6 +17,6 @@ stat_beyond t path given content acl flags e same beyond =
 
 pub returns-in_err-stat-clause-beyond : goal.returns-in_err-stat-clause-beyond
 returns-in_err-stat-clause-beyond c =
-    let p = err_from_is_err_and c.from_residual-in_err-stat.result c.from_residual-in_err-stat.ensures.1 in
+    let p = err_from_is_err_and c.from_residual.result c.from_residual.ensures.1 in
     rw (p.1, p.2)
     (stat_beyond c.args.tree.now c.args.path c.as_slice.result.now c.args.content c.args.acl c.args.flags c.in_err-stat.field-0.0 c.as_slice.ensures c.in_err-stat.ensures.beyond)
