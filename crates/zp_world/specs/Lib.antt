@@ -1,7 +1,7 @@
 pub mod Flying
 pub mod Leaving
 pub mod Activities
-pub mod Places
+pub mod Slots
 pub mod Doing
 pub mod Adding
 pub mod Framing

@@ -9,7 +9,7 @@ ghost use Rattle.zp_step.specs.Stages.{new_core};
 ghost use Rattle.zp_world.specs.Activities.{AreWithin, open_numbers};
 
 use crate::activity::Activity;
-use crate::place::Place;
+use crate::slot::Slot;
 use std::alloc::Global;
 use std::collections::BTreeMap;
 use std::marker::Model;
@@ -20,7 +20,7 @@ use zx_base::Memory;
 #[derive(Drop)]
 pub struct Activities {
     alloc: Global,
-    by_number: BTreeMap<u32, Place>,
+    by_number: BTreeMap<u32, Slot>,
 }
 
 impl Model for Activities {
@@ -58,8 +58,8 @@ impl Activities {
         let _ = &self.by_number;
     }
 
-    /// The activity of a number. None: the number was never used, or its activity was taken out.
-    pub fn get(&self, number: u32) -> Option<&Place>
+    /// What is kept under a number. None: the number was never used, or its activity was taken out.
+    pub fn get(&self, number: u32) -> Option<&Slot>
         ensures { option_map (λ x. x.now) result ≡ get self.now number }
     {
         self.by_number.get(&number)
@@ -71,7 +71,7 @@ impl Activities {
         ensures left { self.new ≡ remove self.old number }
     {
         let taken = self.by_number.remove(&number);
-        whole(self.alloc, taken)
+        activity_in(self.alloc, taken)
     }
 
     /// Puts a connection that has opened at a proxy under its number. `fresh` is what a new session would be made with.
@@ -79,8 +79,8 @@ impl Activities {
         requires { pos 1 ≤ℤ fresh.id }
         ensures { OnOk result (self.new ≡ insert self.old number (new_conn proxy (Connection (new_core fresh)))) }
     {
-        let place = Place::opened(proxy, fresh);
-        self.by_number.insert(number, place)?;
+        let slot = Slot::opened(proxy, fresh);
+        self.by_number.insert(number, slot)?;
         Ok(())
     }
 
@@ -89,8 +89,8 @@ impl Activities {
         ensures { OnOk result (self.new ≡ insert self.old number activity) }
     {
         activity.know();
-        let place = Place::taken(self.alloc, activity)?;
-        self.by_number.insert(number, place)?;
+        let slot = Slot::full(self.alloc, activity)?;
+        self.by_number.insert(number, slot)?;
         Ok(())
     }
 
@@ -99,8 +99,8 @@ impl Activities {
         ensures { IfOk result (λ numbers. numbers.items ≡ open_numbers proxy self.now) }
     {
         let mut numbers = Vec::new(alloc);
-        for (number, activity) in self.by_number.iter() {
-            if activity.is_open_at(proxy) {
+        for (number, slot) in self.by_number.iter() {
+            if slot.is_open_at(proxy) {
                 numbers.push(*number)?;
             }
         }
@@ -108,12 +108,12 @@ impl Activities {
     }
 }
 
-/// What was taken out, with its core.
-fn whole(alloc: Global, taken: Option<Place>) -> Option<Activity>
+/// What stood in a slot that was taken out.
+fn activity_in(alloc: Global, taken: Option<Slot>) -> Option<Activity>
     ensures { result ≡ taken }
 {
     match taken {
-        Some(place) => Some(place.whole(alloc)),
+        Some(slot) => Some(slot.into_activity(alloc)),
         None => None,
     }
 }

@@ -175,7 +175,7 @@ impl World {
         ensures { result ≡ is_open_conn (conn_at connection self.now) }
     {
         match self.activities.get(connection) {
-            Some(activity) => !activity.is_closed(),
+            Some(slot) => !slot.is_closed(),
             None => false,
         }
     }

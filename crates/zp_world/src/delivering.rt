@@ -214,7 +214,7 @@ impl World {
         ensures { (x : Conn) → conn_at connection self.now ≡ Some x → result ≡ counted_up (x.stream.place + length x.stream.rest) }
     {
         match self.activities.get(connection) {
-            Some(activity) => activity.end(),
+            Some(slot) => slot.end(),
             None => 0,
         }
     }

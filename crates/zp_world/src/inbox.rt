@@ -98,7 +98,8 @@ impl Inbox {
         })
     }
 
-    /// These bytes come. While they make no frame whole, the time is that of these bytes alone, however many came before them.
+    /// These bytes come. While they make no frame whole they are added to the list of what came before, in amortized time linear in
+    /// these bytes alone: only where the list grows, which at least doubles it, is what came before copied.
     pub fn with(self, bytes: &[u8]) -> Result<Cut, Memory>
         ensures cuts { IfOk result (λ cut. CutsFrames self bytes.now cut.frames.items cut.bad cut.inbox) }
         ensures short { IfOk result (λ cut. All (λ frame. length frame ≤ max_frame) cut.frames.items) }

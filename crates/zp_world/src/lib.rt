@@ -14,7 +14,7 @@
 //! found by its number in the logarithm of their count. Bytes that come in pieces are kept as they come, and cut once their frame
 //! is whole. A connection to which nothing has come is kept without a core.
 //!
-//! In `specs/`: `Applying` (what `apply` answers), `Activities` and `Places` (a number's activity as `zp_script` sees it), `Flying`
+//! In `specs/`: `Applying` (what `apply` answers), `Activities` and `Slots` (what is kept under a number, as `zp_script` sees it), `Flying`
 //! (what is known of an ask until its answer is delivered), `Doing` (a step of what is held apart from its world). The others say
 //! what one function of this crate hands to the next.
 //!
@@ -33,9 +33,9 @@ mod frames;
 mod head;
 mod inbox;
 mod lines;
-mod place;
 mod refusals;
 mod settling;
+mod slot;
 mod strays;
 mod world;
 

@@ -43,10 +43,10 @@ impl World {
         match self.frame_why(connection, bytes.len()) {
             Some(why) => Err(refused(why)),
             None => {
-                let Some(activity) = self.activities.get(connection) else {
+                let Some(slot) = self.activities.get(connection) else {
                     return Err(refused(Why::NoSuchConnection));
                 };
-                let cut = activity.framed(self.alloc, bytes)?;
+                let cut = slot.framed(self.alloc, bytes)?;
                 self.arrive(connection, cut)?;
                 Ok(())
             }

@@ -32,7 +32,7 @@ impl World {
     {
         match self.activities.get(number) {
             None => Some(Why::NoSuchConnection),
-            Some(activity) if activity.is_closed() => Some(Why::ConnectionClosed),
+            Some(slot) if slot.is_closed() => Some(Why::ConnectionClosed),
             Some(_) => None,
         }
     }
@@ -43,8 +43,8 @@ impl World {
     {
         match self.activities.get(number) {
             None => Some(Why::NoSuchConnection),
-            Some(activity) if activity.is_closed() => Some(Why::ConnectionClosed),
-            Some(activity) if activity.is_reaper() => Some(Why::NotAConnection),
+            Some(slot) if slot.is_closed() => Some(Why::ConnectionClosed),
+            Some(slot) if slot.is_reaper() => Some(Why::NotAConnection),
             Some(_) => None,
         }
     }
@@ -57,7 +57,7 @@ impl World {
             return Some(why);
         }
         match self.activities.get(number) {
-            Some(activity) if activity.has_part() => Some(Why::FrameOpen),
+            Some(slot) if slot.has_part() => Some(Why::FrameOpen),
             Some(_) | None => {
                 if MAX_FRAME < size {
                     Some(Why::TooLong)
@@ -74,8 +74,8 @@ impl World {
     {
         match self.activities.get(number) {
             None => Some(Why::NoSuchConnection),
-            Some(activity) if activity.is_closed() => Some(Why::ConnectionClosed),
-            Some(activity) => match activity.flight() {
+            Some(slot) if slot.is_closed() => Some(Why::ConnectionClosed),
+            Some(slot) => match slot.flight() {
                 None => Some(Why::NoRequestOut),
                 Some(_) => None,
             },
@@ -88,8 +88,8 @@ impl World {
     {
         match self.activities.get(number) {
             None => Some(Why::NoSuchConnection),
-            Some(activity) if activity.is_closed() => Some(Why::ConnectionClosed),
-            Some(activity) => match activity.flight() {
+            Some(slot) if slot.is_closed() => Some(Why::ConnectionClosed),
+            Some(slot) => match slot.flight() {
                 None => Some(Why::NoRequestOut),
                 Some(Flight::Out(_)) => None,
                 Some(Flight::Carried(_) | Flight::Denied) => Some(Why::AlreadyCarriedOut),
@@ -103,8 +103,8 @@ impl World {
     {
         match self.activities.get(number) {
             None => Some(Why::NoSuchConnection),
-            Some(activity) if activity.is_closed() => Some(Why::ConnectionClosed),
-            Some(activity) => match activity.flight() {
+            Some(slot) if slot.is_closed() => Some(Why::ConnectionClosed),
+            Some(slot) => match slot.flight() {
                 None => Some(Why::NoRequestOut),
                 Some(Flight::Out(_)) => Some(Why::NotCarriedOut),
                 Some(Flight::Carried(_) | Flight::Denied) => None,
@@ -141,7 +141,7 @@ impl World {
         ensures { result ≡ cursor_at number self.now }
     {
         match self.activities.get(number) {
-            Some(activity) => activity.cursor(),
+            Some(slot) => slot.cursor(),
             None => None,
         }
     }
@@ -151,7 +151,7 @@ impl World {
         ensures { result ≡ is_some (flight_at number self.now) }
     {
         match self.activities.get(number) {
-            Some(activity) => activity.flight().is_some(),
+            Some(slot) => slot.flight().is_some(),
             None => false,
         }
     }

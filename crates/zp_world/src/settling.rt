@@ -54,17 +54,17 @@ impl World {
     fn settling(&self, connection: u32) -> Option<Move>
         ensures { option_map (line_of connection) result ≡ settling connection self.now }
     {
-        let Some(activity) = self.activities.get(connection) else {
+        let Some(slot) = self.activities.get(connection) else {
             return None;
         };
-        if activity.is_closed() {
+        if slot.is_closed() {
             return None;
         }
-        match activity.flight() {
+        match slot.flight() {
             Some(Flight::Out(_)) => Some(Move::Execute),
             Some(Flight::Carried(_) | Flight::Denied) => Some(Move::Deliver),
             None => {
-                if activity.is_waiting() && self.has_entry(connection) {
+                if slot.is_waiting() && self.has_entry(connection) {
                     Some(Move::Enter)
                 } else {
                     None
@@ -87,7 +87,7 @@ impl World {
         ensures { result ≡ counted_up (asks_at (conn_at connection self.now)) }
     {
         match self.activities.get(connection) {
-            Some(activity) => activity.max_asks(),
+            Some(slot) => slot.max_asks(),
             None => 0,
         }
     }

@@ -15,12 +15,12 @@ invariant_of-self c = subst (λ (es : List (ℕ × Conn)). AreWithin (from_entri
 pub invariant_of-self-2 : goal.invariant_of-self-2
 invariant_of-self-2 c =
     let none : 0 < max_count = omega arith in
-    let within = subst (λ (x : Conn). x.frames < max_count) (sym c.opened-place.ensures) none in
-    subst AreWithin (sym (from_entries-update nat_cmp_total exact_unsigned c.self.inside.by_number.entries c.insert.new.self.entries c.args.number c.opened-place.result c.in_ok-insert.ensures.updates.0))
-    (within-inserted (from_entries c.self.inside.by_number.entries) c.args.number c.opened-place.result within c.self.invariant)
+    let within = subst (λ (x : Conn). x.frames < max_count) (sym c.opened-slot.ensures) none in
+    subst AreWithin (sym (from_entries-update nat_cmp_total exact_unsigned c.self.inside.by_number.entries c.insert.new.self.entries c.args.number c.opened-slot.result c.in_ok-insert.ensures.updates.0))
+    (within-inserted (from_entries c.self.inside.by_number.entries) c.args.number c.opened-slot.result within c.self.invariant)
 
 pub returns : goal.returns
 returns c =
-    from_entries-update nat_cmp_total exact_unsigned c.self.inside.by_number.entries c.insert.new.self.entries c.args.number c.opened-place.result c.in_ok-insert.ensures.updates.0
-    ∙ ap (λ m. insert m c.args.number c.opened-place.result) c.self.view_is
-    ∙ ap (λ (x : Conn). insert c.args.self.now c.args.number x) c.opened-place.ensures
+    from_entries-update nat_cmp_total exact_unsigned c.self.inside.by_number.entries c.insert.new.self.entries c.args.number c.opened-slot.result c.in_ok-insert.ensures.updates.0
+    ∙ ap (λ m. insert m c.args.number c.opened-slot.result) c.self.view_is
+    ∙ ap (λ (x : Conn). insert c.args.self.now c.args.number x) c.opened-slot.ensures

@@ -14,12 +14,12 @@ invariant_of-self c = subst (λ (es : List (ℕ × Conn)). AreWithin (from_entri
 
 pub invariant_of-self-2 : goal.invariant_of-self-2
 invariant_of-self-2 c =
-    let within = subst (λ (x : Conn). x.frames < max_count) (sym c.in_ok-place.ensures) c.know.ensures.within in
-    subst AreWithin (sym (from_entries-update nat_cmp_total exact_unsigned c.self.inside.by_number.entries c.insert.new.self.entries c.args.number c.in_ok-place.place c.in_ok-insert.ensures.updates.0))
-    (within-inserted (from_entries c.self.inside.by_number.entries) c.args.number c.in_ok-place.place within c.self.invariant)
+    let within = subst (λ (x : Conn). x.frames < max_count) (sym c.in_ok-slot.ensures) c.know.ensures.within in
+    subst AreWithin (sym (from_entries-update nat_cmp_total exact_unsigned c.self.inside.by_number.entries c.insert.new.self.entries c.args.number c.in_ok-slot.slot c.in_ok-insert.ensures.updates.0))
+    (within-inserted (from_entries c.self.inside.by_number.entries) c.args.number c.in_ok-slot.slot within c.self.invariant)
 
 pub returns : goal.returns
 returns c =
-    from_entries-update nat_cmp_total exact_unsigned c.self.inside.by_number.entries c.insert.new.self.entries c.args.number c.in_ok-place.place c.in_ok-insert.ensures.updates.0
-    ∙ ap (λ m. insert m c.args.number c.in_ok-place.place) c.self.view_is
-    ∙ ap (λ (x : Conn). insert c.args.self.now c.args.number x) c.in_ok-place.ensures
+    from_entries-update nat_cmp_total exact_unsigned c.self.inside.by_number.entries c.insert.new.self.entries c.args.number c.in_ok-slot.slot c.in_ok-insert.ensures.updates.0
+    ∙ ap (λ m. insert m c.args.number c.in_ok-slot.slot) c.self.view_is
+    ∙ ap (λ (x : Conn). insert c.args.self.now c.args.number x) c.in_ok-slot.ensures

@@ -14,7 +14,7 @@ invariant_of-self c =
 
 pub returns-clause-taken : goal.returns-clause-taken
 returns-clause-taken c =
-    c.whole.ensures ∙ c.remove-taken.ensures.value ∙ sym (get-lookup nat_cmp_total c.self.inside.by_number.entries c.args.number) ∙ ap (λ m. get m c.args.number) c.self.view_is
+    c.activity_in.ensures ∙ c.remove-taken.ensures.value ∙ sym (get-lookup nat_cmp_total c.self.inside.by_number.entries c.args.number) ∙ ap (λ m. get m c.args.number) c.self.view_is
 
 pub returns-clause-left : goal.returns-clause-left
 returns-clause-left c =

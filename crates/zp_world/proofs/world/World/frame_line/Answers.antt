@@ -12,9 +12,9 @@ returns-in-Some c =
 pub returns-in_ok-arrive-in-None : goal.returns-in_ok-arrive-in-None
 returns-in_ok-arrive-in-None c =
     let size : c.len.result ≡ length c.args.bytes = search rules in
-    let there : conn_at c.args.connection c.args.self.now ≡ Some c.in-Some-get.activity.now = search rules in
+    let there : conn_at c.args.connection c.args.self.now ≡ Some c.in-Some-get.slot.now = search rules in
     record {
       possible = frame-of c.args.self.now c.args.connection c.len.result c.args.bytes size ∙ sym c.frame_why.ensures ∙ c.in-None.is;
-      effect = c.in_ok-arrive-in-None.ensures c.in-Some-get.activity.now (with_length c.args.bytes) there
+      effect = c.in_ok-arrive-in-None.ensures c.in-Some-get.slot.now (with_length c.args.bytes) there
           c.in_ok-cut-in-None.ensures.cuts;
     }

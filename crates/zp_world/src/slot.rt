@@ -1,4 +1,4 @@
-//! What answers to a number, as a world keeps it.
+//! What a world keeps under a number.
 
 ghost use Rattle.std.specs.Prelude.{◌≡◌, ◌+◌, ◌≤◌, ◌≤ℤ◌, pos, length, Some, All, IfOk};
 ghost use Rattle.std.specs.Option.{option_map};
@@ -21,23 +21,23 @@ use zp_script::Flight;
 use zp_step::Fresh;
 use zx_base::{Bytes, Memory};
 
-/// How far what answers to a number has come.
+/// What stands in a slot.
 #[derive(Drop)]
-pub enum Held {
+pub enum Content {
     /// A connection that has opened at a proxy, and to which nothing has come. It has no core yet, since there may be very many of
     /// them, and a core is large.
     Opened { proxy: u32, fresh: Fresh },
-    /// Any other, open or closed.
-    Taken(Box<Activity>),
+    /// Any other connection or a reaper, open or closed.
+    Full(Box<Activity>),
 }
 
-/// What answers to a number. Contracts see a connection or a reaper.
+/// What is kept under a number. Contracts see a connection or a reaper.
 #[derive(Drop)]
-pub struct Place {
-    held: Held,
+pub struct Slot {
+    content: Content,
 }
 
-impl Model for Place {
+impl Model for Slot {
     ghost use Rattle.std.specs.Coded.{codes};
     ghost use Rattle.zk_model.specs.PathSets.{coded_watches};
     ghost use Rattle.zp_script.specs.Worlds.{Conn};
@@ -46,62 +46,62 @@ impl Model for Place {
 
     ghost coded = { Prim.hlevel (codes, coded_watches) };
 
-    ghost use Rattle.zp_world.specs.Places.{IsOffered, conn_of};
+    ghost use Rattle.zp_world.specs.Slots.{IsOffered, conn_of};
 
-    ghost view = { λ p. conn_of p.held };
+    ghost view = { λ s. conn_of s.content };
 
-    ghost invariant = { λ p. IsOffered p.held };
+    ghost invariant = { λ s. IsOffered s.content };
 }
 
-impl Place {
+impl Slot {
     /// A connection that has opened at a proxy. `fresh` is what a new session would be made with.
-    pub fn opened(proxy: u32, fresh: Fresh) -> Place
+    pub fn opened(proxy: u32, fresh: Fresh) -> Slot
         requires { pos 1 ≤ℤ fresh.id }
         ensures { result ≡ new_conn proxy (worlds.Connection (new_core fresh)) }
     {
-        Place {
-            held: Held::Opened { proxy, fresh },
+        Slot {
+            content: Content::Opened { proxy, fresh },
         }
     }
 
     /// What a connection or a reaper has come to.
-    pub fn taken(alloc: Global, activity: Activity) -> Result<Place, Memory>
-        ensures { IfOk result (λ place. place ≡ activity) }
+    pub fn full(alloc: Global, activity: Activity) -> Result<Slot, Memory>
+        ensures { IfOk result (λ slot. slot ≡ activity) }
     {
-        Ok(Place {
-            held: Held::Taken(Box::new(alloc, activity)?),
+        Ok(Slot {
+            content: Content::Full(Box::new(alloc, activity)?),
         })
     }
 
-    /// The same with its core, also where nothing has come.
-    pub fn whole(self, alloc: Global) -> Activity
+    /// The same, taken out of the slot. A connection to which nothing has come gets its core.
+    pub fn into_activity(self, alloc: Global) -> Activity
         ensures { result ≡ self }
     {
-        match self.held {
-            Held::Opened { proxy, fresh } => Activity {
+        match self.content {
+            Content::Opened { proxy, fresh } => Activity {
                 seat: Seat::new(alloc, proxy),
                 actor: Actor::Connection(Core::new(alloc, fresh)),
                 flight: None,
             },
-            Held::Taken(activity) => Box::into_inner(activity),
+            Content::Full(activity) => Box::into_inner(activity),
         }
     }
 
     pub fn is_closed(&self) -> bool
         ensures { result ≡ worlds.is_closed_actor self.now.actor }
     {
-        match &self.held {
-            Held::Opened { .. } => false,
-            Held::Taken(activity) => activity.is_closed(),
+        match &self.content {
+            Content::Opened { .. } => false,
+            Content::Full(activity) => activity.is_closed(),
         }
     }
 
     pub fn is_reaper(&self) -> bool
         ensures { result ≡ worlds.is_reaper self.now.actor }
     {
-        match &self.held {
-            Held::Opened { .. } => false,
-            Held::Taken(activity) => activity.is_reaper(),
+        match &self.content {
+            Content::Opened { .. } => false,
+            Content::Full(activity) => activity.is_reaper(),
         }
     }
 
@@ -109,9 +109,9 @@ impl Place {
     pub fn flight(&self) -> Option<&Flight>
         ensures { option_map (λ f. f.now) result ≡ self.now.flight }
     {
-        match &self.held {
-            Held::Opened { .. } => None,
-            Held::Taken(activity) => activity.flight(),
+        match &self.content {
+            Content::Opened { .. } => None,
+            Content::Full(activity) => activity.flight(),
         }
     }
 
@@ -122,9 +122,9 @@ impl Place {
         ensures cuts { IfOk result (λ cut. CutsFrames self.now.stream (with_length bytes) cut.frames.items cut.bad cut.inbox) }
         ensures short { IfOk result (λ cut. All (λ frame. length frame ≤ max_frame) cut.frames.items) }
     {
-        match &self.held {
-            Held::Opened { .. } => Inbox::new(alloc).with_frame(bytes),
-            Held::Taken(activity) => activity.inbox().with_frame(bytes),
+        match &self.content {
+            Content::Opened { .. } => Inbox::new(alloc).with_frame(bytes),
+            Content::Full(activity) => activity.inbox().with_frame(bytes),
         }
     }
 
@@ -132,9 +132,9 @@ impl Place {
     pub fn has_part(&self) -> bool
         ensures { result ≡ has_part (Some self.now) }
     {
-        match &self.held {
-            Held::Opened { .. } => false,
-            Held::Taken(activity) => activity.has_part(),
+        match &self.content {
+            Content::Opened { .. } => false,
+            Content::Full(activity) => activity.has_part(),
         }
     }
 
@@ -142,9 +142,9 @@ impl Place {
     pub fn end(&self) -> u64
         ensures { result ≡ counted_up (self.now.stream.place + length self.now.stream.rest) }
     {
-        match &self.held {
-            Held::Opened { .. } => 0,
-            Held::Taken(activity) => activity.end(),
+        match &self.content {
+            Content::Opened { .. } => 0,
+            Content::Full(activity) => activity.end(),
         }
     }
 
@@ -152,9 +152,9 @@ impl Place {
     pub fn is_open_at(&self, proxy: u32) -> bool
         ensures { result ≡ is_open_at proxy self.now }
     {
-        match &self.held {
-            Held::Opened { proxy: own, .. } => *own == proxy,
-            Held::Taken(activity) => activity.is_open_at(proxy),
+        match &self.content {
+            Content::Opened { proxy: own, .. } => *own == proxy,
+            Content::Full(activity) => activity.is_open_at(proxy),
         }
     }
 
@@ -162,9 +162,9 @@ impl Place {
     pub fn max_asks(&self) -> u64
         ensures { result ≡ counted_up (asks_at (Some self.now)) }
     {
-        match &self.held {
-            Held::Opened { .. } => 64,
-            Held::Taken(activity) => activity.max_asks(),
+        match &self.content {
+            Content::Opened { .. } => 64,
+            Content::Full(activity) => activity.max_asks(),
         }
     }
 
@@ -172,9 +172,9 @@ impl Place {
     pub fn cursor(&self) -> Option<i64>
         ensures { result ≡ cursor_of self.now.actor }
     {
-        match &self.held {
-            Held::Opened { .. } => None,
-            Held::Taken(activity) => activity.cursor(),
+        match &self.content {
+            Content::Opened { .. } => None,
+            Content::Full(activity) => activity.cursor(),
         }
     }
 
@@ -182,9 +182,9 @@ impl Place {
     pub fn is_waiting(&self) -> bool
         ensures { result ≡ is_waiting self.now.actor }
     {
-        match &self.held {
-            Held::Opened { .. } => false,
-            Held::Taken(activity) => activity.is_waiting(),
+        match &self.content {
+            Content::Opened { .. } => false,
+            Content::Full(activity) => activity.is_waiting(),
         }
     }
 }
