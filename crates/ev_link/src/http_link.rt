@@ -207,7 +207,8 @@ impl<S: Source + Drop, K: Sink + Drop> Etcd for HttpLink<S, K> {
     ghost use Rattle.ev_call.specs.Fitting.{Fits};
     ghost use Rattle.ev_http.specs.Taking.{told};
     ghost use Rattle.ev_json.specs.Ranges.{AnswerFits};
-    ghost use Rattle.ev_link.specs.Asking.{Calls, sink_told};
+    ghost use Rattle.ev_link.specs.Asking.{Calls};
+    ghost use Rattle.ev_http.specs.Sinks.{sink_told};
 
     ghost failures = { λ l. l.failures };
 
