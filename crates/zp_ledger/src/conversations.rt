@@ -214,4 +214,3 @@ fn copy_of_end(alloc: Global, end: &Ended) -> Result<Ended, Memory>
         Ended::Gone { rev } => Ok(Ended::Gone { rev: *rev }),
     }
 }
-
