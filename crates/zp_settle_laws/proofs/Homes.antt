@@ -23,7 +23,7 @@ use Rattle.zn_view.specs.declared.plan.Who.{Who}
 use Rattle.zs_session.specs.Sessions.{life_key}
 use Rattle.zx_base.proofs.Options.{none_some, some_is}
 use Rattle.zp_laws.proofs.Deciding.{attached-then}
-use Rattle.ev_types.proofs.Revisions.{since}
+use Rattle.ev_types.proofs.Revisions.{since as since-at}
 use Rattle.zp_laws.specs.Standing.{IsMoment, Matches}
 use Rattle.zp_step.specs.Stages.{Core}
 use Rattle.zp_world_laws.proofs.Commits.{stands-now}
@@ -52,7 +52,7 @@ life-since s who n rises h le since = go (at (store_at s (length s.revisions)) (
   where
     go : (o : Option Kv) → at (store_at s (length s.revisions)) (life_key who.session) ≡ o → HasLife s who n
     go None e = absurd (let zero_is : pos 0 ≡ who.mine = sym (ap mod_of e) ∙ h in omega (arith, ints, rises, zero_is))
-    go (Some kv) e = elim (since s n (length s.revisions) (key_bytes (life_key who.session)) kv le e) [
+    go (Some kv) e = elim (since-at s n (length s.revisions) (key_bytes (life_key who.session)) kv le e) [
       | inl p ↦ absurd (let put : who.mine ≡ pos p.0 = sym h ∙ ap mod_of e ∙ p.2 in omega (arith, ints, put, since, p.1, length-take-le n s.revisions le))
       | inr f ↦ ap mod_of f ∙ sym (ap mod_of e) ∙ h
     ]
