@@ -20,11 +20,13 @@ returns-then-is_some c =
     looked-plain c.args.state.now max_owned c.args.party.session c.args.watches (frame_as c.args.frame.now) c.in_ok-plain_reply.field-0 c.in_ok-plain_reply.ensures some
 
 pub tree_answer-requires : goal.tree_answer-requires
+unfolding request_of
 tree_answer-requires c =
     let asks : Some c.in-Some.request.now ≡ asked_in (frame_as c.args.frame.now) = ap request_of (sym c.in-Some.is) ∙ c.asked.ensures in
     asked-looks c.args.state.now.tree _ _ (frame_as c.args.frame.now) c.in-Some.request.now c.requires.whole c.requires.short asks
 
 pub returns-in-Some : goal.returns-in-Some
+unfolding request_of
 returns-in-Some c =
     let s = c.args.state.now in
     let id = c.args.party.session in
@@ -35,6 +37,7 @@ returns-in-Some c =
     subst (λ (y : Option Told). IfOk c.tree_answer.result (λ o. option_map told_of o ≡ y)) same c.tree_answer.ensures
 
 pub returns-in-None : goal.returns-in-None
+unfolding request_of
 returns-in-None c =
     let s = c.args.state.now in
     let id = c.args.party.session in
