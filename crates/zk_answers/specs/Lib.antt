@@ -1,5 +1,4 @@
 pub mod Outcomes
 pub mod Fits
 pub mod Forms
-pub mod Kinds
 pub mod Reads

@@ -9,7 +9,7 @@ ghost use Rattle.zk_model.specs.Znodes.{Tree as Nodes};
 ghost use Rattle.zk_machine.specs.Faults.{BeyondUnless};
 ghost use Rattle.zk_machine.specs.Outcomes.{outcome_of, several_as};
 ghost use Rattle.zk_answers.specs.Fits.{FitsRequest};
-ghost use Rattle.zk_answers.specs.Kinds.{is_update};
+ghost use Rattle.zk_model.specs.Kinds.{is_update};
 ghost use Rattle.zk_answers.specs.Outcomes.{seen_of, told_of};
 
 use crate::reads::{exists, get_acl, get_children, get_children2, get_data};

@@ -1,6 +1,6 @@
 //! The packets that are due, and those that a connection was sent.
 
-ghost use Rattle.std.specs.Prelude.{◌≡◌, ◌&&◌, ◌++◌, [], ℕ, List, bytes_eq, drop, length, nat_le, take, if◌then◌else◌, slice_get, slice_index, Some, None, option_map, IfOk, IsTrue, OnOk, ◌≤◌};
+ghost use Rattle.std.specs.Prelude.{◌≡◌, ◌&&◌, ◌++◌, [], ℕ, List, bytes_eq, drop, length, nat_le, take, if◌then◌else◌, slice_get, Some, None, option_map, IfOk, IsTrue, OnOk, ◌≤◌};
 ghost use Rattle.std.specs.Int.{from_be_bytes, w32, w64};
 ghost use Rattle.std.specs.List.{All};
 ghost use Rattle.zk_jute.specs.Packets.{CanBeSent, NoticeCanBeSent, notice_packet as notice_packet_of, reply_packet as reply_packet_of};
@@ -14,7 +14,7 @@ ghost use Rattle.zk_least.specs.LeastQueues.{is_apart as is_apart_of, is_front a
 use crate::sent::Packets;
 use std::alloc::Global;
 use zk_model::{Notice, Reply};
-use zk_wire::{write_notice, write_reply};
+use zk_wire::{byte_at, write_notice, write_reply};
 use zx_base::{Bytes, Memory};
 
 /// A packet that is due, and the first place where its line may stand.
@@ -60,17 +60,6 @@ pub fn add_notices(
         due.push((place, notice_packet(alloc, notice)?))?;
     }
     Ok(())
-}
-
-/// The byte at a place of a packet, or 0 after its end.
-fn byte_at(packet: &[u8], place: usize) -> u8
-    ensures { result ≡ slice_index packet.now place }
-{
-    if place < packet.len() {
-        packet[place]
-    } else {
-        0
-    }
 }
 
 /// The eight bytes after a packet's length and its xid.

@@ -1,4 +1,5 @@
 pub mod Limits
+pub mod Kinds
 pub mod Access
 pub mod Paths
 pub mod PathFaults

@@ -4,8 +4,8 @@
 //! The types are those of `zookeeper.jute` (release 3.4, and create2, checkWatches and removeWatches of release 3.5) and of
 //! the Programmer's Guide, with the fields that a client sees. Contracts see them as they are declared, with [`zx_base::Seq`] fields as lists.
 //!
-//! The definitions, in reading order: `Limits`, `Codes`, `Access`, `Paths`, `PathFaults`, `Znodes`, `Single`, `Multi`,
-//! `Loads`, `Watches`. They are the machine: what each request does to a tree of znodes, and what watches see of it.
+//! The definitions, in reading order: `Limits`, `Codes`, `Kinds`, `Access`, `Paths`, `PathFaults`, `Znodes`, `Single`,
+//! `Multi`, `Loads`, `Watches`. They are the machine: what each request does to a tree of znodes, and what watches see of it.
 #![tactic(auto)]
 
 pub mod access;

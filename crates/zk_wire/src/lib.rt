@@ -28,6 +28,7 @@
 //! runs it beside the same work in plain Rust.
 #![tactic(auto)]
 
+mod byte_at;
 mod connects;
 mod cutter;
 mod fault;
@@ -42,6 +43,7 @@ mod sink;
 mod stat_bytes;
 mod writer;
 
+pub use byte_at::byte_at;
 pub use connects::read_connect;
 pub use cutter::{CutFault, Cutter};
 pub use fault::WireFault;

@@ -19,7 +19,7 @@ use Rattle.zn_layout.specs.Listing.{HasValidPaths}
 use Rattle.zn_ops.specs.Forms.{is_single}
 use Rattle.zn_ops.proofs.SingleRequests.{read-otherwise}
 use Rattle.zn_reads.specs.Deciding.{is_read}
-use Rattle.zn_updates.specs.Deciding.{is_update}
+use Rattle.zk_model.specs.Kinds.{is_update}
 use Rattle.zn_view.specs.declared.plan.Arm.{Arm}
 use Rattle.zn_view.specs.declared.plan.Decision.{Decision}
 use Rattle.zn_view.specs.declared.plan.Decision.TheVariants.{Answered, Planned, Expired, Moved}

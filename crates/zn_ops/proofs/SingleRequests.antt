@@ -7,7 +7,7 @@ use Rattle.zk_service.specs.Answers.{Told, plain_request}
 use Rattle.zx_base.proofs.Options.{none_some}
 use Rattle.zn_ops.specs.Forms.{is_single}
 use Rattle.zn_reads.specs.Deciding.{is_read}
-use Rattle.zn_updates.specs.Deciding.{is_update}
+use Rattle.zk_model.specs.Kinds.{is_update}
 use Rattle.zn_view.specs.declared.plan.Who.{Who}
 use Rattle.zn_view.specs.declared.want.Want.{Want}
 use Rattle.zn_view.specs.Needs.{AreNeeds}

@@ -6,7 +6,7 @@ use Rattle.zk_model.specs.Watches.{no_watches}
 use Rattle.zk_service.specs.Answers.{plain_request, tree_reply}
 use Rattle.zk_service.specs.States.{State, Session, IsSound, limit_of, session_at}
 use Rattle.zn_layout.specs.Listing.{HasValidPaths}
-use Rattle.zn_updates.specs.Deciding.{is_update}
+use Rattle.zk_model.specs.Kinds.{is_update}
 use Rattle.zn_view.specs.declared.plan.Decision.{Decision}
 use Rattle.zn_view.specs.declared.plan.Who.{Who}
 use Rattle.zn_view.specs.Seen.{View}

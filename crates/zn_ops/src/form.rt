@@ -77,8 +77,8 @@ fn unwatched(alloc: Global, text: &[u8], kind: i32) -> Result<Reply, Memory>
 }
 
 /// The answer to a request that its form decides: a ping, an `auth`, or a request that is refused for its form (an invalid path,
-/// flags or access list, a delete of the root, or a multi of more than 24 parts). To a checkWatches or removeWatches it is the
-/// answer where nothing is armed: a connection that has watches armed answers these by them. `None` where the session and the tree
+/// flags or access list, a delete of the root, or a multi of more than `MAX_PARTS` parts). To a checkWatches or removeWatches it is
+/// the answer where nothing is armed: a connection that has watches armed answers these by them. `None` where the session and the tree
 /// decide.
 #[tactic(auto, unfolding(zk_service::specs::Answers::plain_request, zk_model::specs::Single::form_refusal))]
 pub fn plain_reply(alloc: Global, request: &Request) -> Result<Option<Reply>, Memory>

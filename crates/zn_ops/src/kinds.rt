@@ -4,7 +4,8 @@ ghost use Rattle.std.specs.Prelude.{◌≡◌, ◌≤◌, ◌↔◌, length, IsT
 ghost use Rattle.zk_model.specs.Limits.{max_frame};
 ghost use Rattle.zn_ops.specs.Forms.{is_single};
 ghost use Rattle.zn_reads.specs.Deciding.{is_read};
-ghost use Rattle.zn_updates.specs.Deciding.{content_in, is_update};
+ghost use Rattle.zk_model.specs.Kinds.{is_update};
+ghost use Rattle.zn_updates.specs.Deciding.{content_in};
 
 use zk_model::Request;
 use zk_model::limit::MAX_FRAME;

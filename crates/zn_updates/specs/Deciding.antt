@@ -1,5 +1,5 @@
 -- What a decision on an update is worth, and the plan that a choice makes.
-use Rattle.std.specs.Prelude.{◌≡◌, ℕ, ℤ, nat_abs, map, Option, Some, None}
+use Rattle.std.specs.Prelude.{◌≡◌, ℕ, ℤ, nat_abs, pos, map, Bool, true, List, [], if◌then◌else◌, Option, Some, None}
 use Rattle.ev_types.specs.declared.answer.Kv.{Kv}
 use Rattle.zk_model.specs.declared.reply.PartResult.{PartResult}
 use Rattle.zk_model.specs.declared.reply.Reply.TheVariants as reply
@@ -7,7 +7,6 @@ use Rattle.zk_model.specs.declared.request.Request.{Request}
 use Rattle.zk_model.specs.declared.request.Request.TheVariants as req
 use Rattle.zk_model.specs.declared.node.Trigger.{Trigger}
 use Rattle.zk_model.specs.Watches.{no_watches}
-use Rattle.std.specs.Prelude.{List, [], Bool, true, false, pos, if◌then◌else◌}
 use Rattle.zk_service.specs.Answers.{plain_request, tree_reply}
 use Rattle.zk_service.specs.States.{State, Session, IsSound, limit_of, response_of, session_at}
 use Rattle.zn_layout.specs.Changes.{KeyChange, update_acts}
@@ -33,14 +32,6 @@ use Rattle.zn_updates.specs.declared.seen.SeenCounts.{SeenCounts}
 use Rattle.zn_updates.specs.Choices.{Choice, Refuse, Make, set_data_choice, delete_choice, create_choice}
 use Rattle.zn_updates.specs.KeysRead.{set_data_keys, delete_keys, create_keys}
 use Rattle.zn_updates.specs.Making.{IsDataSeen, IsCountsSeen, IsPathsSeen, has_found}
-
--- whether a request is a create, with or without Stat, a delete or a setData
-abbrev pub is_update : Request → Bool
-is_update (req.Create p d a f) = true
-is_update (req.Create2 p d a f) = true
-is_update (req.Delete p v) = true
-is_update (req.SetData p d v) = true
-is_update _ = false
 
 -- the view saw the record of the session's life, last put at the revision at which this connection was attached
 abbrev pub IsAttached : Who → View → Type 0

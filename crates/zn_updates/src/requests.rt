@@ -4,7 +4,8 @@ ghost use Rattle.std.specs.Prelude.{◌^◌, ◌<◌, ◌≡◌, ◌≤◌, ◌�
 ghost use Rattle.zk_model.specs.Limits.{max_frame};
 ghost use Rattle.zn_view.specs.Needs.{AreNeeds, IsWhole};
 ghost use Rattle.zn_view.specs.Deciding.{IfPlanned, IsToldByForm, is_by_tree};
-ghost use Rattle.zn_updates.specs.Deciding.{content_in, is_update, IsBySound, IsGuarded};
+ghost use Rattle.zk_model.specs.Kinds.{is_update};
+ghost use Rattle.zn_updates.specs.Deciding.{content_in, IsBySound, IsGuarded};
 ghost use Rattle.zn_updates.specs.Writing.{WritesAs};
 
 use crate::asked::asked;

@@ -1,9 +1,10 @@
 //! What the lines of a transcript say of a client and its replies.
 
-ghost use Rattle.std.specs.Prelude.{◌≡◌, ◌≤◌, slice_index};
+ghost use Rattle.std.specs.Prelude.{◌≡◌, ◌≤◌};
 ghost use Rattle.zp_clients.specs.Sent.{awaited_by, awaits_reply, int_at, is_notice, is_refusal, is_reply};
 
 use zk_transcript::TranscriptLine;
+use zk_wire::byte_at;
 
 /// The xid of a notification, -1, as an unsigned number.
 const NOTICE_XID: u32 = 4_294_967_295;
@@ -12,17 +13,6 @@ const NOTICE_XID: u32 = 4_294_967_295;
 const XID_PLACE: usize = 4;
 
 const CODE_PLACE: usize = 16;
-
-/// The byte at a place of a packet, or 0 after its end.
-fn byte_at(packet: &[u8], place: usize) -> u8
-    ensures { result ≡ slice_index packet.now place }
-{
-    if place < packet.len() {
-        packet[place]
-    } else {
-        0
-    }
-}
 
 /// The int at a place of a packet, as an unsigned number.
 fn int_at(packet: &[u8], place: usize) -> u32

@@ -1,5 +1,5 @@
 -- A setData is chosen alike for each connection.
-use Rattle.std.proofs.Common.{◌≡◌, ℤ, sym, subst, w32, rules}
+use Rattle.std.proofs.Common.{ℤ, sym, subst, w32, rules}
 use Rattle.std.specs.Prelude.{IfOk}
 use Rattle.std.proofs.lemmas.Int.{to_z-of_z}
 use mir.Val.{SFits}
