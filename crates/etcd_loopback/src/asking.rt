@@ -1,6 +1,6 @@
 //! Asks an etcd what lines spell.
 
-ghost use Rattle.std.specs.Prelude.{◌≡◌, ◌≢◌, IfOk, IfSome};
+ghost use Rattle.std.specs.Prelude.{◌≢◌, IfSome};
 ghost use Rattle.ev_call.specs.Asks.{IsGrantable};
 ghost use Rattle.ev_types.specs.declared.route.Route.TheVariants as routes;
 

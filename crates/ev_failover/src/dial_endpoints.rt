@@ -126,11 +126,9 @@ fn replaced<S: Source + Drop, K: Sink + Drop>(
 impl<N: Net + Drop> Endpoints for DialEndpoints<N> {
     ghost use Rattle.std.specs.Prelude.{◌≡◌, ◌+◌, ◌<◌, ◌≤◌, ◌∷◌, Some, IfOk, map, option_map, string_bytes, unwrap_or, vec_len};
     ghost use Rattle.ev_addresses.specs.Lists.{local};
-    ghost use Rattle.ev_call.specs.Asks.{IsGrantable};
     ghost use Rattle.ev_call.specs.Calls.{calls_of};
-    ghost use Rattle.ev_call.specs.Fitting.{Fits};
     ghost use Rattle.ev_failover.specs.Dialling.{AsksAt};
-    ghost use Rattle.ev_failover.specs.Endpoints.{IsSentBy, faults_after, sent_of};
+    ghost use Rattle.ev_failover.specs.Endpoints.{sent_of};
 
     ghost size = { λ s. vec_len s.others + 1 };
 

@@ -1,6 +1,6 @@
 //! A link over several endpoints.
 
-ghost use Rattle.std.specs.Prelude.{◌≡◌, ℕ, ◌<◌, ◌≤◌, ◌+◌, [], ◌∷◌, ◌++◌, length, All, List, true, IfOk};
+ghost use Rattle.std.specs.Prelude.{◌≡◌, ◌<◌, ◌≤◌, ◌+◌, [], ◌∷◌, ◌++◌, length, All, true, IfOk};
 ghost use Rattle.ev_call.specs.Asks.{IsGrantable};
 ghost use Rattle.ev_call.specs.Calls.{calls_of, failures_after};
 ghost use Rattle.ev_call.specs.Fitting.{Fits};

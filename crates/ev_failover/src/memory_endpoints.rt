@@ -109,7 +109,7 @@ impl Endpoints for MemEndpoints {
     ghost use Rattle.std.specs.Prelude.{◌≡◌, ◌≤◌, ◌<◌, Some, IfOk};
     ghost use Rattle.ev_call.specs.Asks.{IsGrantable};
     ghost use Rattle.ev_call.specs.Fitting.{Fits};
-    ghost use Rattle.ev_failover.specs.Endpoints.{IsSentBy, faults_after, sent_of};
+    ghost use Rattle.ev_failover.specs.Endpoints.{sent_of};
     ghost use Rattle.ev_failover.specs.Memory.{CarriesAt};
 
     ghost size = { λ s. s.size };

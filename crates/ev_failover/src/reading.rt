@@ -1,7 +1,6 @@
 //! Asks that only read.
 
 ghost use Rattle.std.specs.Prelude.{◌≡◌, ◌&&◌, true, Some};
-ghost use Rattle.std.specs.List.{list_all};
 ghost use Rattle.ev_types.specs.Denials.{carry};
 ghost use Rattle.ev_types.specs.Store.{Store};
 ghost use Rattle.ev_types.specs.declared.answer.Answer.{Answer as SomeAnswer};

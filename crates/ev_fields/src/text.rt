@@ -6,7 +6,7 @@ ghost use Rattle.base64.specs.Engines.{standard};
 ghost use Rattle.base64.specs.GeneralPurpose.{encode_of};
 ghost use Rattle.json.specs.Print.{print, IsPrintable};
 ghost use Rattle.json.specs.Reads.{token_of};
-ghost use Rattle.json.specs.Token.{begin_object, end_object, begin_array, end_array, key, string};
+ghost use Rattle.json.specs.Token.{begin_array, end_array, key, string};
 ghost use Rattle.ev_fields.specs.Members.{none, number, number_if, bytes, bytes_if, true_if, text};
 ghost use Rattle.ev_fields.specs.Names.{snake};
 ghost use Rattle.ev_fields.specs.Open.{IsOpen, Adds, Closes};

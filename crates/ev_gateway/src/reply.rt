@@ -1,6 +1,6 @@
 //! What an ask over HTTP is answered.
 
-ghost use Rattle.std.specs.Prelude.{◌≡◌, ◌≢◌, ◌<◌, ◌^◌, IfOk};
+ghost use Rattle.std.specs.Prelude.{◌≡◌, ◌≢◌, ◌<◌, IfOk};
 ghost use Rattle.ev_types.specs.declared.route.Route.TheVariants as routes;
 ghost use Rattle.ev_call.specs.Asks.{IsGrantable};
 ghost use Rattle.ev_gateway.specs.Serving.{Replies, Settles, denied_text, unreadable_text};

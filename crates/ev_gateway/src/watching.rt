@@ -1,6 +1,6 @@
 //! The stream that a watch is answered by.
 
-ghost use Rattle.std.specs.Prelude.{◌≡◌, ◌<◌, ◌≤◌, ◌+◌, ◌≤ℤ◌, ◌<ℤ◌, ◌^◌, ◌++◌, ◌∷◌, [], pos, nat_abs, length, IfOk};
+ghost use Rattle.std.specs.Prelude.{◌≡◌, ◌<◌, ◌≤◌, ◌+◌, ◌≤ℤ◌, ◌<ℤ◌, ◌^◌, ◌++◌, ◌∷◌, [], pos, nat_abs, IfOk};
 ghost use Rattle.ev_http.specs.Chunked.{last_chunk};
 ghost use Rattle.ev_http.specs.Taking.{told};
 ghost use Rattle.ev_json.specs.Messages.{canceled_text, line_text};

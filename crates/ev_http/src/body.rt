@@ -1,7 +1,7 @@
 //! The body of a message, taken piece by piece.
 
 ghost use Rattle.std.specs.Prelude.{◌⊎◌, ◌+◌, ◌≡◌, ◌≢◌, ◌<◌, ◌≤◌, ◌++◌, [], ◌∷◌, false, List, ℕ, length, take, IsTrue, IfOk, IfErr, IfSome};
-ghost use Rattle.ev_http.specs.Body.{TakesBytes, StaysAtEnd, TakesPart, PartAnswer, first_part, after_content, IsOpen, rank, work, HasSize, SizeAnswer, TrailerAnswer, BodyAnswer, announced};
+ghost use Rattle.ev_http.specs.Body.{TakesBytes, StaysAtEnd, TakesPart, first_part, after_content, rank, work, HasSize, SizeAnswer, TrailerAnswer, BodyAnswer, announced};
 ghost use Rattle.ev_http.specs.Taking.{Took, told, failed, IsLine};
 ghost use Rattle.httparse.specs.Grammar.{LineEnd, print_end, NeverHasChunkLine};
 

@@ -1,6 +1,6 @@
 //! Sends a response whose body comes in chunks, as a watch's does.
 
-ghost use Rattle.std.specs.Prelude.{◌≡◌, ◌<◌, ◌++◌, List, ℕ, length, IfOk, string_bytes};
+ghost use Rattle.std.specs.Prelude.{◌≡◌, ◌<◌, length, IfOk, string_bytes};
 ghost use Rattle.ev_http.specs.Chunked.{stream_head, chunk, chunk_line, last_chunk};
 ghost use Rattle.ev_http.specs.Sending.{Wrote, Sends};
 

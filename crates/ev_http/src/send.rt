@@ -1,8 +1,6 @@
 //! Sends messages.
 
-ghost use Rattle.std.specs.Prelude.{◌≡◌, ◌++◌, List, ℕ, length, IfOk, IfSome, string_bytes};
-ghost use Rattle.http.specs.StatusCode.{reason_phrase};
-ghost use Rattle.zx_outside.specs.Counts.{OutputCounts};
+ghost use Rattle.std.specs.Prelude.{◌≡◌, ◌++◌, length, IfOk, string_bytes};
 ghost use Rattle.ev_http.specs.Sending.{request_head, response_head, Wrote, Sends, phrase_of, text_of};
 
 use crate::fault::HttpFault;

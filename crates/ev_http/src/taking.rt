@@ -1,6 +1,6 @@
 //! Takes bytes from a source, and no more than are asked for.
 
-ghost use Rattle.std.specs.Prelude.{◌≡◌, ◌<◌, ◌≤◌, ◌^◌, List, ℕ, length, IfErr};
+ghost use Rattle.std.specs.Prelude.{◌≡◌, ◌<◌, ◌≤◌, List, ℕ, length, IfErr};
 ghost use Rattle.ev_http.specs.Taking.{Took, told, failed, bytes_in, byte_in, Fits, AtEnd, Stopped, TakesLine};
 
 use crate::fault::HttpFault;

@@ -1,6 +1,6 @@
 //! Answers read from JSON values.
 
-ghost use Rattle.std.specs.Prelude.{◌≡◌, List, Result, map, Ok};
+ghost use Rattle.std.specs.Prelude.{◌≡◌, Result, Ok};
 ghost use Rattle.std.specs.Bool.{MatchBool};
 ghost use Rattle.serde_json.specs.Data.{Data, Items, no_items, item};
 ghost use Rattle.ev_fields.specs.Places.{data_at, items_at};

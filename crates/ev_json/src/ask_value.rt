@@ -1,9 +1,9 @@
 //! Asks read from JSON values.
 
-ghost use Rattle.std.specs.Prelude.{◌≡◌, Result, map, Ok, codes};
+ghost use Rattle.std.specs.Prelude.{Result, Ok};
 ghost use Rattle.ev_fields.specs.Places.{data_at};
 ghost use Rattle.ev_json.specs.Asks.{guard_in, range_in, put_in, delete_in, range_act_in, act_in, txn_in, range_ask_in, txn_ask_in, grant_in, alive_in, ask_in, watch_in};
-ghost use Rattle.ev_fields.specs.Gives.{Gives, GivesAs};
+ghost use Rattle.ev_fields.specs.Gives.{Gives};
 
 use crate::list::{Read, list};
 use ev_fields::fault::JsonFault;

@@ -1,6 +1,6 @@
 //! The lines of a watch read from JSON values.
 
-ghost use Rattle.std.specs.Prelude.{◌≡◌, ◌++◌, List, Result, map, Ok, IfOk, codes};
+ghost use Rattle.std.specs.Prelude.{◌≡◌, Result, Ok, IfOk, codes};
 ghost use Rattle.serde_json.specs.Find.{get};
 ghost use Rattle.ev_fields.specs.Places.{data_at};
 ghost use Rattle.ev_json.specs.Answers.{deletion_in, kv_needed, event_in, puts_of, news_in, change_in, line_in};

@@ -1,6 +1,6 @@
 //! Lists of messages that are read.
 
-ghost use Rattle.std.specs.Prelude.{◌≡◌, List, Result};
+ghost use Rattle.std.specs.Prelude.{Result};
 ghost use Rattle.serde_json.specs.Data.{Data};
 ghost use Rattle.ev_fields.specs.Places.{data_at, items_at};
 ghost use Rattle.ev_fields.specs.Gives.{Gives, GivesAs};

@@ -1,6 +1,6 @@
 //! Reads messages from bodies. A body is parsed once into a list of tokens, and each key and value is decoded once from there.
 
-ghost use Rattle.std.specs.Prelude.{◌≡◌, ◌≢◌, Some, None, IfOk, IfErr, IsUtf8};
+ghost use Rattle.std.specs.Prelude.{◌≡◌, ◌≢◌, IfOk, IfErr};
 ghost use Rattle.ev_types.specs.declared.route.Route.TheVariants as routes;
 ghost use Rattle.ev_json.specs.Answers.{answer_in, line_in};
 ghost use Rattle.ev_json.specs.Asks.{ask_in, watch_in};

@@ -36,7 +36,7 @@ impl<R: Wait + Drop, C: Clock + Drop> SharedLink<R, C> {
 impl<R: Wait + Drop, C: Clock + Drop> Etcd for SharedLink<R, C> {
     ghost use Rattle.std.specs.Prelude.{◌≡◌, None, IfOk};
     ghost use Rattle.ev_call.specs.Asks.{IsGrantable};
-    ghost use Rattle.ev_call.specs.Calls.{failures_after, with_call};
+    ghost use Rattle.ev_call.specs.Calls.{failures_after};
     ghost use Rattle.ev_call.specs.Fitting.{Fits};
 
     ghost failures = { λ l. l.failures };

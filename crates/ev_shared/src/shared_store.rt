@@ -1,6 +1,6 @@
 //! An etcd in memory that many threads share.
 
-ghost use Rattle.std.specs.Prelude.{◌≡◌, ◌≤◌, ◌<◌, ◌^◌, IfOk};
+ghost use Rattle.std.specs.Prelude.{◌≤◌, ◌<◌, ◌^◌, IfOk};
 ghost use Rattle.ev_call.specs.Asks.{IsGrantable};
 ghost use Rattle.ev_call.specs.Fitting.{Fits};
 ghost use Rattle.ev_shared.specs.Watching.{IsNext};

@@ -1,6 +1,6 @@
 //! Ranges: the keys between two, in the order of their bytes.
 
-ghost use Rattle.std.specs.Prelude.{◌≡◌, ◌<◌, ◌≤◌, ◌<ℤ◌, ◌≤ℤ◌, ◌^◌, ◌+◌, pos, true, List, [], length, map, take, vec_capacity, IfOk, OnOk, Option};
+ghost use Rattle.std.specs.Prelude.{◌≡◌, ◌<◌, ◌≤◌, ◌<ℤ◌, ◌≤ℤ◌, ◌^◌, ◌+◌, pos, true, List, [], length, map, take, vec_capacity, IfOk, OnOk};
 ghost use Rattle.std.specs.BTreeMap as tree;
 ghost use Rattle.std.specs.FinMap.{empty};
 ghost use Rattle.std.specs.List.{list_all};

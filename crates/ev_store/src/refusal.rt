@@ -1,9 +1,9 @@
 //! The tests that deny an ask before any of it is carried out, in the order of `specs/FirstDenial`.
 
-ghost use Rattle.std.specs.Prelude.{◌≡◌, length, IfErr, OnOk, None};
+ghost use Rattle.std.specs.Prelude.{◌≡◌, IfErr, OnOk, None};
 ghost use Rattle.std.specs.Option.{option_copied};
 ghost use Rattle.std.specs.Result.{result_err};
-ghost use Rattle.ev_types.specs.Denials.{max_operations, writes as writes_key, puts as puts_key};
+ghost use Rattle.ev_types.specs.Denials.{writes as writes_key, puts as puts_key};
 ghost use Rattle.std.specs.List.{list_any};
 ghost use Rattle.ev_store.specs.FirstDenial.{too_many, written_again as again, first_again, twice, range_denial, lease_denial, act_denial, acts_denial, long_list, form_denial, Names};
 

@@ -1,6 +1,6 @@
 //! Transactions.
 
-ghost use Rattle.std.specs.Prelude.{◌≡◌, IfOk, IfErr, OnErr, Option};
+ghost use Rattle.std.specs.Prelude.{◌≡◌, IfOk, IfErr, OnErr};
 ghost use Rattle.ev_types.specs.Store as etcd;
 ghost use Rattle.ev_types.specs.Denials.{carry};
 ghost use Rattle.ev_store.specs.FirstDenial.{first_denial, Names};

@@ -1,6 +1,6 @@
 //! A net whose addresses say what comes of a dial.
 
-ghost use Rattle.std.specs.Prelude.{◌≡◌, Some};
+ghost use Rattle.std.specs.Prelude.{Some};
 ghost use Rattle.zx_net.specs.Nets.{IsFreshSource, IsFreshSink};
 
 use row_files::push_word;

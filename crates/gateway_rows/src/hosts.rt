@@ -1,6 +1,6 @@
 //! A net of which one address can be dialled.
 
-ghost use Rattle.std.specs.Prelude.{◌≡◌, Some};
+ghost use Rattle.std.specs.Prelude.{Some};
 ghost use Rattle.zx_net.specs.Nets.{IsFreshSource, IsFreshSink};
 
 use std::alloc::Global;

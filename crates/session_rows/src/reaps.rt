@@ -1,6 +1,6 @@
 //! Reaps.
 
-ghost use Rattle.std.specs.Prelude.{◌≡◌, option_copied};
+ghost use Rattle.std.specs.Prelude.{option_copied};
 ghost use Rattle.zs_reap.specs.Steps.{MayStepReaper};
 
 use crate::answers::answer_of;

@@ -1,6 +1,6 @@
 //! Reads the next piece of a source, and writes a whole piece to a sink.
 
-ghost use Rattle.std.specs.Prelude.{◌≡◌, ◌≢◌, ◌<◌, ℕ, length, IsTrue, true, false};
+ghost use Rattle.std.specs.Prelude.{◌≡◌, ◌≢◌, ◌<◌, length, IsTrue, true, false};
 ghost use Rattle.zx_outside.specs.Counts.{InputCounts};
 ghost use Rattle.zx_outside.specs.Writing.{Takes, counts_after_write};
 ghost use Rattle.zx_outside.specs.declared.sink.Took.TheVariants.{Failed as TookFailed};

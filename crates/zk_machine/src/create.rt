@@ -1,6 +1,6 @@
 //! Creates (Programmer's Guide, "ZNodes", "Ephemeral Nodes", "Sequence Nodes -- Unique Naming").
 
-ghost use Rattle.std.specs.Prelude.{◌≡◌, ◌∷◌, [], ◌||◌, ◌&&◌, pos, ◌+ℤ◌, ◌≤ℤ◌, nat_le, length, None, Some, if◌then◌else◌, IfOk, IfErr, IsTrue};
+ghost use Rattle.std.specs.Prelude.{◌≡◌, ◌∷◌, [], ◌||◌, ◌&&◌, pos, ◌+ℤ◌, ◌≤ℤ◌, nat_le, length, None, Some, IfOk, IfErr, IsTrue};
 ghost use Rattle.std.specs.Ordering.{int_eq};
 ghost use Rattle.std.specs.FinMap.{get, insert};
 ghost use Rattle.zk_model.specs.declared.reply.PartResult.TheVariants as results;

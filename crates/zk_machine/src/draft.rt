@@ -1,6 +1,6 @@
 //! A tree with the writes of a transaction's earlier parts laid over it.
 
-ghost use Rattle.std.specs.Prelude.{◌≡◌, ◌<◌, ◌^◌, length, option_map, IfOk};
+ghost use Rattle.std.specs.Prelude.{◌≡◌, ◌<◌, ◌^◌, length, option_map};
 ghost use Rattle.std.specs.FinMap.{get};
 ghost use Rattle.zk_model.specs.Znodes.{is_owner, num_children, owned};
 ghost use Rattle.zk_machine.specs.Tallies.{tallied, tallied_all, found_after, is_child_now, is_own, is_owned_now, was_child, was_owned};

@@ -1,6 +1,6 @@
 //! Several requests as one transaction (`multi` of the ZooKeeper API).
 
-ghost use Rattle.std.specs.Prelude.{◌≡◌, ◌∷◌, [], ◌+◌, ◌++◌, ◌<◌, ℕ, length, nat_lt, sum_by, IfOk, IfErr};
+ghost use Rattle.std.specs.Prelude.{◌≡◌, [], ◌+◌, ◌<◌, ℕ, length, nat_lt, sum_by, IfOk, IfErr};
 ghost use Rattle.std.specs.FinMap.{get};
 ghost use Rattle.std.specs.Option.{option_to_list};
 ghost use Rattle.zk_model.specs.Multi.{load, several, parts_of, then_parts, touched_by, owner_list};

@@ -1,6 +1,5 @@
 //! Reading the first frame of a connection.
 
-ghost use Rattle.std.specs.Prelude.{◌≡◌};
 ghost use Rattle.zk_jute.specs.Connects.{connect_at, read_only_at, read_connect as read_as};
 ghost use Rattle.zk_wire.specs.Giving.{Gives};
 ghost use Rattle.zk_wire.specs.Outcomes.{IsConnectReadAs};

@@ -1,7 +1,7 @@
 //! Reading replies.
 #![tactic(auto, unfolding(zk_jute::specs::JuteReading::values_at), using(zk_jute::proofs::Stats::stat_back))]
 
-ghost use Rattle.std.specs.Prelude.{◌≡◌, Some};
+ghost use Rattle.std.specs.Prelude.{Some};
 ghost use Rattle.zk_jute.specs.JuteReading.{values_at};
 ghost use Rattle.zk_jute.specs.Records.{stat_fields, stat_values};
 ghost use Rattle.zk_jute.specs.ReplyReading.{reply_body_at, reply_at, read_reply as read_as};

@@ -1,7 +1,7 @@
 //! Reading requests.
 #![tactic(auto, unfolding(zk_jute::specs::JuteReading::values_at))]
 
-ghost use Rattle.std.specs.Prelude.{◌≡◌, ◌≤◌, length, All, IfOk, Some};
+ghost use Rattle.std.specs.Prelude.{◌≤◌, length, All, IfOk, Some};
 ghost use Rattle.zk_jute.specs.Records.{contents_of};
 ghost use Rattle.zk_jute.specs.Requests.{header_at, part_after, part_at, plain_at, body_at, whole_at, read_request as read_as};
 ghost use Rattle.zk_jute.specs.declared.opcode.Opcode.TheVariants as opcodes;

@@ -1,9 +1,8 @@
 //! Writing a packet: a frame after its length.
 
 ghost use Rattle.std.specs.Prelude.{◌≡◌, ◌<◌, ◌^◌, [], ◌++◌, length, OnOk, IfOk};
-ghost use Rattle.std.specs.List.{AllByRecursion};
 ghost use Rattle.zk_jute.specs.JuteValues.{open_acl};
-ghost use Rattle.zk_jute.specs.JuteWriting.{int_bytes, long_bytes, boolean_bytes, count_bytes, string_bytes, acl_bytes, vector_bytes, canonical, CanBeWritten, IsShort, IsShortAcl, FitsLength, with_length};
+ghost use Rattle.zk_jute.specs.JuteWriting.{int_bytes, long_bytes, count_bytes, string_bytes, acl_bytes, canonical, CanBeWritten, IsShort, IsShortAcl, FitsLength, with_length};
 
 use crate::sink::FieldSink;
 use crate::stat_bytes::stat_bytes;

@@ -1,7 +1,6 @@
 //! Tests of values, and what is read of a node without its data. None copies anything.
 
-ghost use Rattle.std.specs.Prelude.{◌≡◌, ◌↔◌, ◌+◌, ◌≤◌, ◌∷◌, length, drop, IsTrue, MatchOption};
-ghost use Rattle.zk_model.specs.Limits.{max_frame};
+ghost use Rattle.std.specs.Prelude.{◌≡◌, ◌↔◌, ◌≤◌, ◌∷◌, length, drop, IsTrue, MatchOption};
 ghost use Rattle.zn_layout.specs.Records.{node_value, counts_value, lease_value, IsNodeRec, IsCountRec, IsLeaseRec};
 ghost use Rattle.zn_layout.specs.Reading.{IsSomeValue, IsNoValue, IsValueOf, node_record};
 ghost use Rattle.zn_layout.specs.ReadingSteps.{HasNumbers};

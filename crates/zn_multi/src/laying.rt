@@ -2,7 +2,6 @@
 
 ghost use Rattle.std.specs.Prelude.{◌≡◌, ◌++◌, Some, All, IfOk, OnOk};
 ghost use Rattle.std.specs.Option.{option_to_list};
-ghost use Rattle.zn_view.specs.Laying.{with_laid};
 ghost use Rattle.zn_view.specs.Seen.{seen, IsOfKind, IsSeen, kind_of_bytes};
 ghost use Rattle.zn_multi.specs.Laying.{is_absent, put_now, with_act, with_acts, write_of, written_acts, PutsRecord};
 

@@ -1,8 +1,7 @@
 //! What the parts of a multi leave, as far as later parts look at it. It tells, before all is looked up, whether the parts are
 //! carried out and which number a sequence node gets.
 
-ghost use Rattle.std.specs.Prelude.{◌≡◌, ◌&&◌, not, if◌then◌else◌, ◌≤◌, ◌<◌, ◌+◌, ◌^◌, ◌≤ℤ◌, ◌+ℤ◌, pos, negsuc, nat_abs, length, option_map, ◌<ℤ◌, ℕ, Option, Some, None, is_some, IfOk, IfSome, IsTrue};
-ghost use Rattle.std.specs.List.{list_all};
+ghost use Rattle.std.specs.Prelude.{◌≡◌, ◌&&◌, not, if◌then◌else◌, ◌≤◌, ◌<◌, ◌+◌, ◌^◌, ◌≤ℤ◌, pos, nat_abs, length, option_map, ◌<ℤ◌, Option, Some, None, is_some, IfOk, IfSome, IsTrue};
 ghost use Rattle.std.specs.Ordering.{int_eq};
 ghost use Rattle.zk_model.specs.Limits.{max_parts, max_path, max_version};
 ghost use Rattle.zk_model.specs.Paths.{is_path, parent as parent_of};
@@ -12,7 +11,7 @@ ghost use Rattle.zn_layout.specs.Records.{IsCountRec};
 ghost use Rattle.zn_view.specs.declared.leaving.NodeNow.{NodeNow as AnyNode};
 ghost use Rattle.zn_view.specs.declared.leaving.TreeChange.TheVariants as changed;
 ghost use Rattle.zn_multi.specs.Reading.{AreSmall, IfLeft};
-ghost use Rattle.zn_view.specs.Leaving.{set_once as set_once_more, one_child_more as one_more, one_child_less as one_less, node_with as node_with_change, counts_with as counts_with_change, owned_with as owned_with_change, node_after as node_after_all, counts_after as counts_after_all, owned_after as owned_after_all, with_change as with_one_change, create_change as change_of_create, delete_change as change_of_delete, set_change as change_of_set, is_checked as is_checked_in, is_owner_seen as is_owner_seen_in, node_path as path_of_node, are_seen as are_seen_in, IsNodeShown, AreCountsShown, IsOwnedShown, IsNodeNow, AreCountsNow, IsOwnedNow, IsOwnedFor, NodeLeaves, DeleteLeaves, SetLeaves, CheckLeaves};
+ghost use Rattle.zn_view.specs.Leaving.{set_once as set_once_more, one_child_more as one_more, one_child_less as one_less, node_with as node_with_change, counts_with as counts_with_change, owned_with as owned_with_change, node_after as node_after_all, counts_after as counts_after_all, owned_after as owned_after_all, with_change as with_one_change, create_change as change_of_create, delete_change as change_of_delete, set_change as change_of_set, is_checked as is_checked_in, is_owner_seen as is_owner_seen_in, are_seen as are_seen_in, IsNodeShown, AreCountsShown, IsOwnedShown, IsNodeNow, AreCountsNow, IsOwnedNow, IsOwnedFor, NodeLeaves, DeleteLeaves, SetLeaves, CheckLeaves};
 ghost use Rattle.zn_view.specs.Lookups.{HasSeen, sees};
 ghost use Rattle.zn_view.specs.Seen.{seen};
 ghost use Rattle.zn_view.specs.Views.{counts_of_parent};

@@ -1,7 +1,7 @@
 //! The keys that the parts of a multi read, as far as the view determines them.
 
-ghost use Rattle.std.specs.Prelude.{◌≡◌, ◌≤◌, ◌<◌, ◌-◌, ◌^◌, ◌≤ℤ◌, ◌++◌, ◌∷◌, ℤ, [], List as ListOf, Some, None, pos, length, map, is_some, IfOk, IfSome, IsFalse, IsTrue, OnOk, true};
-ghost use Rattle.std.specs.List.{list_all, list_any};
+ghost use Rattle.std.specs.Prelude.{◌≡◌, ◌≤◌, ◌<◌, ◌-◌, ◌≤ℤ◌, ◌++◌, ◌∷◌, ℤ, [], List as ListOf, Some, None, pos, length, map, IfOk, IfSome, IsFalse, IsTrue, OnOk, true};
+ghost use Rattle.std.specs.List.{list_any};
 ghost use Rattle.zk_model.specs.declared.request.Part.TheVariants as parts;
 ghost use Rattle.zk_model.specs.Limits.{max_parts, max_path};
 ghost use Rattle.zk_model.specs.Paths.{is_path, is_sequence_prefix, parent as parent_of};

@@ -1,24 +1,16 @@
 //! SetWatches (zookeeper.jute, `SetWatches`): its reply, and what was found at its paths.
 
-ghost use Rattle.std.specs.Prelude.{IsTrue, ◌≡◌, ◌++◌, ℤ, List, None, IfOk, OnOk, map, option_copied, option_map};
-ghost use Rattle.std.specs.BTreeMap as tree;
-ghost use Rattle.std.specs.Cmp.Lexicographic.{slice_cmp};
-ghost use Rattle.std.specs.Ordering.{nat_cmp};
+ghost use Rattle.std.specs.Prelude.{IsTrue, ◌≡◌, ◌++◌, None, IfOk, OnOk, map, option_copied, option_map};
 ghost use Rattle.zk_model.specs.Paths.{is_path};
-ghost use Rattle.zk_model.specs.Watches.{Watches, set_watches};
+ghost use Rattle.zk_model.specs.Watches.{set_watches};
 ghost use Rattle.zk_model.specs.declared.reply.Body.TheVariants as bodies;
 ghost use Rattle.zk_model.specs.declared.reply.Reply.TheVariants as replies;
-ghost use Rattle.zk_model.specs.declared.request.Request.TheVariants as req;
-ghost use Rattle.zk_service.specs.States.{State};
 ghost use Rattle.zn_layout.specs.Keys.{key_bytes};
-ghost use Rattle.zn_view.specs.Needs.{LacksNothing};
 ghost use Rattle.zn_reads.specs.SeenPaths.{at_by, changing_key, key_at, put_at, seen_path, seen_paths, IsSetBy};
 ghost use Rattle.zw_watch.specs.declared.seen_path.WatchList.TheVariants as lists;
 ghost use Rattle.zn_view.specs.declared.plan.Decision.TheVariants as decisions;
-ghost use Rattle.zn_view.specs.declared.plan.Who.{Who as AnyWho};
-ghost use Rattle.zn_view.specs.Indexing.{IsIndex};
+ghost use Rattle.zn_view.specs.Indexing.{shown_in, IsIndex};
 ghost use Rattle.zn_view.specs.Seen.{View as AnyView};
-ghost use Rattle.zn_view.specs.Views.{IsOf};
 
 use crate::keys::{counts_key_of, data_key_of};
 use ev_types::Kv;
@@ -80,7 +72,7 @@ fn keys_at(alloc: Global, list: WatchList, texts: &[Text]) -> Result<Vec<Option<
 
 /// The revision at which a key was last put; `None` where it was absent, and for a path that is not valid.
 fn at<'a>(index: &Index<'a>, key: &'a Option<Bytes>) -> Option<i64>
-    ensures { (v : AnyView) → IsIndex v (λ q. option_map option_copied (tree.get (slice_cmp nat_cmp) index.now q)) → result ≡ at_by v key.now }
+    ensures { (v : AnyView) → IsIndex v (shown_in index.now) → result ≡ at_by v key.now }
 {
     match key {
         Some(key) => match found_by(index, key.as_slice()) {
@@ -101,7 +93,7 @@ fn push_seen<'a>(
     seen: &mut Vec<SeenPath>,
 ) -> Result<(), Memory>
     requires { keys.now ≡ map (key_at list) texts.now }
-    ensures { (v : AnyView) → IsIndex v (λ q. option_map option_copied (tree.get (slice_cmp nat_cmp) index.now q)) → OnOk result (seen.new.items ≡ seen.old.items ++ map (seen_path v list) texts.now) }
+    ensures { (v : AnyView) → IsIndex v (shown_in index.now) → OnOk result (seen.new.items ≡ seen.old.items ++ map (seen_path v list) texts.now) }
 {
     for (place, key) in keys.iter().enumerate() {
         seen.push(SeenPath {

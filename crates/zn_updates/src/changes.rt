@@ -1,7 +1,6 @@
 //! The operations that put a node's record and a session's list of nodes.
 
 ghost use Rattle.std.specs.Prelude.{◌≡◌, ◌≤◌, ◌≤ℤ◌, pos, length, IfOk, IsTrue};
-ghost use Rattle.zk_model.specs.Limits.{max_frame};
 ghost use Rattle.zk_model.specs.Paths.{is_path};
 ghost use Rattle.zn_layout.specs.Changes.{act_of, put_key};
 ghost use Rattle.zn_layout.specs.Keys.{DataKey};

@@ -1,12 +1,12 @@
 //! create (ZooKeeper API, `create`; Programmer's Guide, "Ephemeral Nodes", "Sequence Nodes"), decided on the records of the
 //! parent and of the session, and on whether the node is there.
 
-ghost use Rattle.std.specs.Prelude.{◌≡◌, ◌≤◌, ◌≤ℤ◌, ◌<◌, ◌∷◌, [], ◌++◌, ◌^◌, ◌-◌, pos, true, false, length, IfOk, IfSome, IsTrue};
+ghost use Rattle.std.specs.Prelude.{◌≡◌, ◌≤◌, ◌≤ℤ◌, ◌<◌, [], ◌^◌, ◌-◌, pos, true, false, length, IfOk, IfSome, IsTrue};
 ghost use Rattle.std.specs.Ordering.{int_eq};
-ghost use Rattle.zk_model.specs.Limits.{max_creates, max_frame, max_owned, max_path};
+ghost use Rattle.zk_model.specs.Limits.{max_creates, max_frame, max_path};
 ghost use Rattle.zk_model.specs.Paths.{is_path};
 ghost use Rattle.zk_model.specs.declared.reply.PartResult.TheVariants as results;
-ghost use Rattle.zn_layout.specs.Begin.{new_record as record_of_new, first_counts};
+ghost use Rattle.zn_layout.specs.Begin.{new_record as record_of_new};
 ghost use Rattle.zn_layout.specs.Changes.{acts_of};
 ghost use Rattle.zn_layout.specs.Records.{IsCountRec, IsLongCount, IsNodeRec, IsSessionRec};
 ghost use Rattle.zn_updates.specs.Choices.{changes_with, with_content, create_choice, create_here as creates_here, create_owned as creates_owned, create_changes as changes_of_create, create_triggers as triggers_of_create, one_more as one_more_of};

@@ -1,7 +1,6 @@
 //! delete (ZooKeeper API, `delete`), decided on the records of the node, of its parent and of its owner.
 
-ghost use Rattle.std.specs.Prelude.{◌^◌, ◌<◌, ◌≡◌, ◌≤◌, ◌≤ℤ◌, ◌∷◌, [], ◌++◌, pos, true, nat_abs, length, option_copied, IfOk, IfSome, IsTrue};
-ghost use Rattle.std.specs.Ordering.{int_eq};
+ghost use Rattle.std.specs.Prelude.{◌^◌, ◌<◌, ◌≡◌, ◌≤◌, ◌≤ℤ◌, pos, true, option_copied, IfOk, IfSome, IsTrue};
 ghost use Rattle.zk_model.specs.Paths.{is_path};
 ghost use Rattle.zk_model.specs.declared.reply.PartResult.TheVariants as results;
 ghost use Rattle.zn_layout.specs.Changes.{acts_of};

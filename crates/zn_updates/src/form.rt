@@ -1,10 +1,9 @@
 //! What is refused by the form of a request alone.
 
 ghost use Rattle.std.specs.Prelude.{IfOk, Some, None};
-ghost use Rattle.zk_model.specs.Paths.{root};
 ghost use Rattle.zk_model.specs.Single.{form_refusal, is_sequential};
 ghost use Rattle.zk_model.specs.declared.request.Part.TheVariants as part;
-ghost use Rattle.zx_base.specs.Maps.{Bytes as ByteList, same};
+ghost use Rattle.zx_base.specs.Maps.{Bytes as ByteList};
 ghost use Rattle.zn_updates.specs.Forms.{IsInnerPath, IsFormOf};
 
 use std::alloc::Global;

@@ -1,6 +1,6 @@
 //! The keys that each request looks up, and those of them that a view lacks.
 
-ghost use Rattle.std.specs.Prelude.{◌≡◌, ◌≤◌, ◌≤ℤ◌, ◌++◌, ℤ, Some, None, pos, nat_abs, length, map, IfSome, IfOk, OnOk, IsTrue, IsFalse};
+ghost use Rattle.std.specs.Prelude.{◌≡◌, ◌≤◌, ◌≤ℤ◌, ◌++◌, ℤ, Some, None, pos, length, map, IfSome, IfOk, OnOk, IsTrue, IsFalse};
 ghost use Rattle.zk_model.specs.Limits.{max_path};
 ghost use Rattle.zk_model.specs.Paths.{is_path, is_sequence_prefix};
 ghost use Rattle.zn_layout.specs.Keys.{CountsKey, DataKey, key_bytes};

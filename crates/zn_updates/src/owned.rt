@@ -1,6 +1,6 @@
 //! The list of a session's nodes after one came or went.
 
-ghost use Rattle.std.specs.Prelude.{◌≡◌, ◌≤◌, ◌<◌, ℕ, ◌&&◌, nat_lt, length, get_or, IfOk, IsTrue, ◌^◌, ◌-◌};
+ghost use Rattle.std.specs.Prelude.{◌≡◌, ◌<◌, ◌&&◌, nat_lt, length, get_or, IfOk, IsTrue, ◌^◌, ◌-◌};
 ghost use Rattle.zx_base.specs.Maps.{same};
 ghost use Rattle.zk_model.specs.Paths.{is_path};
 ghost use Rattle.zn_layout.specs.Records.{IsSessionRec};

@@ -1,8 +1,8 @@
 //! A part of a multi, chosen on a view over which the keys are laid that the earlier parts wrote.
 
 ghost use Rattle.std.specs.Prelude.{◌<◌, ◌^◌, ◌≡◌, ◌≤◌, ◌≤ℤ◌, Some, pos, length, IfOk, IfSome, IsTrue, IsFalse, option_copied};
-ghost use Rattle.zk_model.specs.Limits.{max_frame, max_path};
-ghost use Rattle.zk_model.specs.Paths.{is_path, is_sequence_prefix, parent as parent_of};
+ghost use Rattle.zk_model.specs.Limits.{max_frame};
+ghost use Rattle.zk_model.specs.Paths.{is_path, is_sequence_prefix};
 ghost use Rattle.zk_model.specs.declared.request.Part.TheVariants as parts;
 ghost use Rattle.zn_updates.specs.Layers.{layered};
 ghost use Rattle.zn_updates.specs.Making.{chosen_of};

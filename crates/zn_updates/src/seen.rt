@@ -2,8 +2,7 @@
 //!
 //! A zxid of 0 is that of the update itself: a multi decides a part on what the parts before it left.
 
-ghost use Rattle.std.specs.Prelude.{◌≡◌, ◌≤◌, ◌≤ℤ◌, pos, nat_abs, length, IfOk, IfSome, IsTrue};
-ghost use Rattle.zk_model.specs.Limits.{max_path};
+ghost use Rattle.std.specs.Prelude.{◌≡◌, ◌≤◌, ◌≤ℤ◌, pos, nat_abs, IfOk, IfSome, IsTrue};
 ghost use Rattle.zk_model.specs.Paths.{is_path};
 ghost use Rattle.zn_layout.specs.Keys.{DataKey, CountsKey, SessionKey};
 ghost use Rattle.zn_layout.specs.Records.{IsCountRec, IsLongCount, IsSessionRec};

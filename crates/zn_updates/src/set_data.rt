@@ -2,14 +2,13 @@
 
 ghost use Rattle.std.specs.Prelude.{◌^◌, ◌≡◌, ◌≤◌, ◌<◌, ◌+ℤ◌, ◌≤ℤ◌, pos, true, false, length, IfOk, IfSome, IsTrue};
 ghost use Rattle.std.specs.Ordering.{int_eq};
-ghost use Rattle.zk_model.specs.Limits.{max_creates, max_frame, max_version};
+ghost use Rattle.zk_model.specs.Limits.{max_frame, max_version};
 ghost use Rattle.zk_model.specs.Paths.{is_path};
 ghost use Rattle.zk_model.specs.Znodes.{cversion as cversion_of};
-ghost use Rattle.zn_layout.specs.Records.{IsCountRec, IsNodeRec};
+ghost use Rattle.zn_layout.specs.Records.{IsCountRec};
 ghost use Rattle.zn_updates.specs.Choices.{set_data_choice, set_changes, set_record as set_record_of, set_stat as set_stat_of};
 ghost use Rattle.zn_updates.specs.Making.{IsMade, chosen_of};
 ghost use Rattle.zn_updates.specs.Seen.{IsDataWithin};
-ghost use Rattle.zn_layout.specs.Changes.{acts_of};
 ghost use Rattle.std.specs.Prelude.{[], ◌∷◌, nat_abs, option_copied};
 ghost use Rattle.zk_model.specs.declared.node.Trigger.TheVariants.{Changed};
 ghost use Rattle.std.specs.Prelude.{ℤ};

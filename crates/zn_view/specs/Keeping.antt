@@ -39,10 +39,14 @@ guard_seen v xs g = with_guarded g.key (seen v g.key) xs
 abbrev pub guarded_seen : View → List Guard → List SeenKey
 guarded_seen v guards = fold (guard_seen v) [] guards
 
--- What one operation at revision z leaves under its key, over what is known of it. A key of which nothing is known counts as
--- absent before, so a put gives it version 1.
+-- What a put at revision z leaves under its key, over what is known of it. A key of which nothing is known counts as absent before,
+-- so the put gives it version 1.
+abbrev pub put_seen : ℤ → List SeenKey → Bytes → Bytes → ℤ → SeenKey
+put_seen z xs k value lease = seen_as k (Some (put_over z k value lease (found_of (seen_in k xs))))
+
+-- what one operation at revision z leaves
 abbrev pub act_seen : ℤ → List SeenKey → Act → List SeenKey
-act_seen z xs (act.Put k value lease) = placed (seen_as k (Some (put_over z k value lease (found_of (seen_in k xs))))) xs
+act_seen z xs (act.Put k value lease) = placed (put_seen z xs k value lease) xs
 act_seen z xs (act.Delete k) = placed (seen_as k None) xs
 act_seen z xs (act.Range q) = xs
 
@@ -63,7 +67,7 @@ after_view v guards acts z head = record {
 
 -- what an operation leaves is what a view may hold
 abbrev pub IsActKept : ℤ → List SeenKey → Act → Type 0
-IsActKept z xs (act.Put k value lease) = IsSeen (seen_as k (Some (put_over z k value lease (found_of (seen_in k xs)))))
+IsActKept z xs (act.Put k value lease) = IsSeen (put_seen z xs k value lease)
 IsActKept z xs (act.Delete k) = Unit {0}
 IsActKept z xs (act.Range q) = Unit {0}
 

@@ -30,5 +30,9 @@ IsCountsIn kv r = IsValueOf counts_value IsCountRec kv.value r
 abbrev pub IsNodesIn : Kv → List Bytes → Type 0
 IsNodesIn kv ps = IsValueOf session_value IsSessionRec kv.value ps
 
+-- the key was found, and its value has these paths
+abbrev pub HasNodesIn : View → Key → List Bytes → Type 0
+HasNodesIn v k ps = (kv : Kv) × (sees v k ≡ Some (Some kv)) × IsNodesIn kv ps
+
 abbrev pub IsLifeIn : Kv → LeaseRec → Type 0
 IsLifeIn kv r = IsValueOf lease_value IsLeaseRec kv.value r

@@ -1,13 +1,12 @@
 //! The range of keys that a node's children have, and the children's paths in it.
 
-ghost use Rattle.std.specs.Prelude.{◌≡◌, ◌<◌, ◌+◌, ◌++◌, ◌∷◌, [], ℕ, not, ◌&&◌, drop, IfOk, OnOk, List, if◌then◌else◌};
+ghost use Rattle.std.specs.Prelude.{◌≡◌, ◌<◌, ◌+◌, ◌++◌, ◌∷◌, [], not, ◌&&◌, drop, IfOk, OnOk, List};
 ghost use Rattle.ev_types.specs.declared.answer.Kv.{Kv as KeyValue};
 ghost use Rattle.ev_types.specs.Ranges.{comes_before};
-ghost use Rattle.zk_model.specs.Paths.{root};
-ghost use Rattle.zx_base.specs.Maps.{Bytes as ByteList, same};
+ghost use Rattle.zx_base.specs.Maps.{Bytes as ByteList};
 ghost use Rattle.zn_layout.specs.Keys.{digit as decimal_digit};
 ghost use Rattle.zn_layout.specs.Listing.{base, child_front};
-ghost use Rattle.zn_view.specs.Asks.{children_start as first_child, children_until as after_children, is_child_of, path_in, paths_in};
+ghost use Rattle.zn_view.specs.Asks.{children_start as first_child, children_until as after_children, paths_in};
 
 use ev_types::Kv;
 use std::alloc::Global;

@@ -3,7 +3,7 @@
 ghost use Rattle.std.specs.Prelude.{[], ◌≡◌, ◌↔◌, ◌+◌, ◌<◌, nat_le, sum_by, All, IfOk, IfSome, IsTrue, MatchOption, OnOk, Some, None, option_copied};
 ghost use Rattle.ev_types.specs.Store.{put_over as put_over_of};
 ghost use Rattle.zn_layout.specs.Keys.{HeadKey, key_bytes};
-ghost use Rattle.zn_view.specs.Keeping.{AreLeft, IsActKept, IsAfter, IsLeftBeside, act_seen, guard_seen, guarded_seen, max_kept_view, seen_as, seen_size, trimmed as trimmed_of};
+ghost use Rattle.zn_view.specs.Keeping.{AreLeft, IsActKept, IsAfter, IsLeftBeside, act_seen, guard_seen, guarded_seen, max_kept_view, put_seen, seen_as, seen_size, trimmed as trimmed_of};
 ghost use Rattle.zn_view.specs.Laying.{placed};
 ghost use Rattle.zn_view.specs.Seen.{IsCountNumber, IsFound, IsSeen, found_of, seen, seen_in};
 
@@ -123,8 +123,8 @@ fn lay_put(
     lease: i64,
 ) -> Result<bool, Memory>
     requires { All IsSeen keys.old.items }
-    ensures told { IfOk result (λ b. IsTrue b ↔ IsSeen (seen_as key.now (Some (put_over_of revision key.now value.now lease (found_of (seen_in key.now keys.old.items)))))) }
-    ensures laid { IfOk result (λ b. IsTrue b → keys.new.items ≡ placed (seen_as key.now (Some (put_over_of revision key.now value.now lease (found_of (seen_in key.now keys.old.items))))) keys.old.items) }
+    ensures told { IfOk result (λ b. IsTrue b ↔ IsSeen (put_seen revision keys.old.items key.now value.now lease)) }
+    ensures laid { IfOk result (λ b. IsTrue b → keys.new.items ≡ placed (put_seen revision keys.old.items key.now value.now lease) keys.old.items) }
     ensures kept { All IsSeen keys.new.items }
 {
     let old = known(keys.as_slice(), key.as_slice());

@@ -6,7 +6,7 @@ ghost use Rattle.zk_model.specs.Limits.{max_path};
 ghost use Rattle.zn_layout.specs.Keys.{HeadKey, DataKey, CountsKey, SessionKey, LeaseKey, key_bytes};
 ghost use Rattle.zn_layout.specs.Reading.{IsSomeValue};
 ghost use Rattle.zn_layout.specs.Records.{node_value, counts_value, lease_value, session_value, IsNodeRec, IsCountRec, IsLeaseRec, IsSessionRec};
-ghost use Rattle.zn_view.specs.Lookups.{HasSeen, sees, IsNodeIn, IsCountsIn, IsNodesIn, IsLifeIn};
+ghost use Rattle.zn_view.specs.Lookups.{HasNodesIn, HasSeen, sees, IsNodeIn, IsCountsIn, IsNodesIn, IsLifeIn};
 ghost use Rattle.zn_view.specs.Seen.{seen, seen_in, listed, listed_in, found_of, head_of, head_zxid, head_number, IsFound};
 
 use crate::snapshot::{SeenChildren, SeenKey};
@@ -156,7 +156,7 @@ impl View {
     pub fn nodes_of(&self, session: i64) -> Result<Option<SessionRec>, Memory>
         requires least { pos 1 ≤ℤ session }
         requires seen { HasSeen self.now (SessionKey (nat_abs session)) }
-        ensures { IfOk result (λ o. MatchOption o (sees self.now (SessionKey (nat_abs session)) ≡ Some None) (λ r. (kv : KeyValue) × (sees self.now (SessionKey (nat_abs session)) ≡ Some (Some kv)) × IsNodesIn kv r.paths)) }
+        ensures { IfOk result (λ o. MatchOption o (sees self.now (SessionKey (nat_abs session)) ≡ Some None) (λ r. HasNodesIn self.now (SessionKey (nat_abs session)) r.paths)) }
     {
         let key = session_key(self.allocator(), session)?;
         nodes_in(self.allocator(), self.found_there(key.as_slice()))

@@ -2,7 +2,7 @@
 
 ghost use Rattle.std.specs.Prelude.{◌≡◌, true};
 ghost use Rattle.zp_step.specs.Ending.{ends_well};
-ghost use Rattle.zp_conn.specs.Speaking.{IsSpeaking, Says, Speaks};
+ghost use Rattle.zp_conn.specs.Speaking.{Says, Speaks};
 
 use crate::outbox::Outbox;
 use ev_types::Ask;

@@ -1,12 +1,11 @@
 //! What a request still has to look up, and the asks of a look and of a plan.
 
-ghost use Rattle.std.specs.Prelude.{◌≡◌, ◌≤ℤ◌, ◌∷◌, [], pos, IfOk, take};
+ghost use Rattle.std.specs.Prelude.{◌≡◌, ◌≤ℤ◌, pos, IfOk, take};
 ghost use Rattle.ev_types.specs.declared.ask.Ask.TheVariants as asks;
 ghost use Rattle.zn_view.specs.Asks.{transaction as transaction_of};
 ghost use Rattle.zn_view.specs.Needs.{AreNeeds};
 ghost use Rattle.zp_step.specs.Looking.{asks_for, decided, max_ranges};
 ghost use Rattle.zp_step.specs.Replies.{Is};
-ghost use Rattle.zp_step.specs.declared.action.Action.TheVariants as action;
 ghost use Rattle.zp_core.specs.Meanings.{Leads, ready};
 ghost use Rattle.zn_view.specs.declared.plan.Decision.TheVariants as decision;
 

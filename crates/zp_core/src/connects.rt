@@ -1,7 +1,7 @@
 //! How the connection gets its session.
 
 ghost use Rattle.std.specs.Prelude.{◌≡◌, ◌≤ℤ◌, ◌∷◌, [], pos, None, option_copied, IfOk};
-ghost use Rattle.zk_service.specs.Answers.{refusal as refusal_of, answered_read_only as read_only_of};
+ghost use Rattle.zk_service.specs.Answers.{refusal as refusal_of};
 ghost use Rattle.zs_session.specs.Connecting.{MayStepConnect};
 ghost use Rattle.zp_step.specs.Connects.{Connects, Opens, attached_core, connected, kept_by};
 ghost use Rattle.zp_step.specs.Replies.{Is};

@@ -1,8 +1,7 @@
 //! The kept views, in the order of their use.
 
-ghost use Rattle.std.specs.Prelude.{◌≡◌, ◌==◌, [], ◌∷◌, Some, None, All, take, IfOk, IfSome, OnErr, OnOk, option_copied};
-ghost use Rattle.std.specs.Cmp.Lexicographic.{pointwise};
-ghost use Rattle.std.specs.Map.{lookup, remove_entry};
+ghost use Rattle.std.specs.Prelude.{◌≡◌, [], Some, None, take, IfOk, IfSome, OnErr, OnOk, option_copied};
+ghost use Rattle.std.specs.Map.{lookup};
 ghost use Rattle.zx_base.specs.Maps.{same};
 ghost use Rattle.zn_view.specs.Seen.{View as AnyView};
 ghost use Rattle.zp_step.specs.Kept.{put_first, used_first};

@@ -1,9 +1,6 @@
 //! A link to a store that it has from its beginning.
 
-ghost use Rattle.std.specs.Prelude.{◌≡◌, IfOk, Some};
-ghost use Rattle.ev_call.specs.Asks.{IsGrantable};
-ghost use Rattle.ev_call.specs.Calls.{failures_after, with_call};
-ghost use Rattle.ev_call.specs.Fitting.{Fits};
+ghost use Rattle.std.specs.Prelude.{IfOk, Some};
 ghost use Rattle.ev_call.specs.Honest.{CarriesAll};
 ghost use Rattle.ev_types.specs.Store.{new_store};
 ghost use Rattle.zp_served.specs.Begun.{IsBegun};
@@ -41,10 +38,7 @@ impl BegunLink {
 }
 
 impl Etcd for BegunLink {
-    ghost use Rattle.std.specs.Prelude.{◌≡◌, Some, IfOk};
-    ghost use Rattle.ev_call.specs.Asks.{IsGrantable};
-    ghost use Rattle.ev_call.specs.Calls.{failures_after, with_call};
-    ghost use Rattle.ev_call.specs.Fitting.{Fits};
+    ghost use Rattle.std.specs.Prelude.{Some, IfOk};
 
     ghost failures = { λ l. l.link.failures };
 

@@ -1,6 +1,6 @@
 //! Serves one connection alone.
 
-ghost use Rattle.std.specs.Prelude.{◌≡◌, ◌≤ℤ◌, pos};
+ghost use Rattle.std.specs.Prelude.{◌≤ℤ◌, pos};
 ghost use Rattle.zp_served.specs.Begun.{IsBegun, ServesAlone};
 
 use crate::link::BegunLink;

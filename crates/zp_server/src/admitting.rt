@@ -1,6 +1,6 @@
 //! Lets a client in.
 
-ghost use Rattle.std.specs.Prelude.{◌≡◌, ℕ, IfOk, OnErr, OnOk};
+ghost use Rattle.std.specs.Prelude.{ℕ, IfOk};
 ghost use Rattle.zx_net.specs.Nets.{IsFreshSink, IsFreshSource};
 ghost use Rattle.zp_server.specs.Logs.{Admits};
 ghost use Rattle.zp_server.specs.Looking.{FindsOpenTwice};

@@ -1,11 +1,11 @@
 //! What a server writes.
 
-ghost use Rattle.std.specs.Prelude.{◌≡◌, ◌∷◌, [], ◌++◌, IfOk};
+ghost use Rattle.std.specs.Prelude.{◌≡◌, IfOk};
 ghost use Rattle.zk_service.specs.declared.cause.Ended.TheVariants.{Cause as OfCause};
 ghost use Rattle.zk_transcript.specs.declared.transcript.TranscriptLine.TheVariants.{Close};
 ghost use Rattle.zt_text.specs.Transcripts.{line_text};
 ghost use Rattle.zw_hub.specs.declared.feed.FeedEnd.TheVariants.{Compacted, Gap, Damaged};
-ghost use Rattle.zp_server.specs.Lines.{cause_text, closed_text, feed_text, listening_text, no_link_text};
+ghost use Rattle.zp_server.specs.Lines.{closed_text, feed_text, listening_text, no_link_text};
 ghost use Rattle.zp_server.specs.Telling.{OutputSays, WritesAll};
 
 use crate::ends::Stop;

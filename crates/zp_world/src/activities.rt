@@ -27,7 +27,7 @@ impl Model for Activities {
     ghost use Rattle.std.specs.Coded.{codes, coded_ℕ};
     ghost use Rattle.std.specs.FinMap as map;
     ghost use Rattle.zk_model.specs.PathSets.{coded_watches};
-    ghost use Rattle.zp_script.specs.Worlds.{Conn, Conns};
+    ghost use Rattle.zp_script.specs.Worlds.{Conns};
 
     ghost Value = { Conns };
 

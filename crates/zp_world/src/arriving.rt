@@ -13,7 +13,6 @@ ghost use Rattle.zp_script.specs.StepOutcomes.{acts_all, leaves};
 ghost use Rattle.zp_step.specs.Stages.{Core as AnyCore, counted_up, is_shut};
 ghost use Rattle.zp_step.specs.Steps.{Steps};
 ghost use Rattle.zp_step.specs.declared.input.Input.TheVariants as input;
-ghost use Rattle.zp_world.specs.Activities.{actor_of};
 ghost use Rattle.zp_world.specs.Doing.{Stepped, left};
 ghost use Rattle.zp_world.specs.Flying.{IsFitFlight, IsServed};
 ghost use Rattle.zp_world.specs.Leaving.{Leaves};

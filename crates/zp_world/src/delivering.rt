@@ -1,6 +1,6 @@
 //! An answer, a failure or an entry is delivered.
 
-ghost use Rattle.std.specs.Prelude.{◌≡◌, ◌+◌, ◌≤ℤ◌, length, [], pos, true, false, Some, None, IfSome, OnOk, option_copied};
+ghost use Rattle.std.specs.Prelude.{◌≡◌, ◌+◌, ◌≤ℤ◌, length, [], pos, false, Some, None, IfSome, OnOk, option_copied};
 ghost use Rattle.zk_service.specs.declared.cause.Cause.TheVariants as cause;
 ghost use Rattle.zk_service.specs.declared.cause.Ended.TheVariants as finish;
 ghost use Rattle.zp_script.specs.Effects.{Delivers, EndsBy, EntersBy, LagsBy, new_reap, new_reaper};

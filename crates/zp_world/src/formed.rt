@@ -1,6 +1,5 @@
 //! What the types say of what is shown: its text has one reading.
 
-ghost use Rattle.std.specs.Prelude.{◌≡◌, pos, ◌≤ℤ◌};
 ghost use Rattle.zt_text.specs.Transcripts.{AreBytes, IsNumber, IsSignedNumber, IsWellFormedCause, IsWellFormedEnd, IsWellFormedKind};
 ghost use Rattle.zp_world.specs.Flying.{HasSession};
 

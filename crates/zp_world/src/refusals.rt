@@ -1,7 +1,6 @@
 //! Why a line of a script is refused: the first of its tests that fails.
 
-ghost use Rattle.std.specs.Prelude.{◌≡◌, ◌∷◌, pos, length, nat_lt, is_some, is_none, Some, None, not, IfOk, IfErr, IfNone};
-ghost use Rattle.ev_types.specs.Store.{Change};
+ghost use Rattle.std.specs.Prelude.{◌≡◌, nat_lt, is_some, is_none, Some, None, not};
 ghost use Rattle.zk_model.specs.Limits.{max_frame};
 ghost use Rattle.zp_script.specs.Entries.{cursor_at, next_entry, is_lagging};
 ghost use Rattle.zp_script.specs.Faults.{new_fault, open_fault, connection_fault, carry_fault, ask_fault, entry_fault, if_fails, has_part, flight_at, is_to_carry_out, left_at};

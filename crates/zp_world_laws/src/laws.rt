@@ -1,8 +1,7 @@
 //! The laws of worlds. Each function does nothing, and its contract is the law.
 
-ghost use Rattle.std.specs.Prelude.{◌≡◌, ℕ, ℤ, List};
+ghost use Rattle.std.specs.Prelude.{ℕ, ℤ, List};
 ghost use Rattle.zt_text.specs.declared.script.Happening.TheVariants as line;
-ghost use Rattle.zp_script.specs.Worlds.{World};
 ghost use Rattle.zp_world_laws.specs.Keeping.{EveryRunGives, FirstHasEntries, FirstIsAccounted, FirstIsWhole, IsAttachedIn, Keeps, KeepsAccounts, KeepsEntries, KeepsIf, MayEnter, WholeGives};
 ghost use Rattle.zp_world_laws.specs.Settled.{SettledIsIdle};
 

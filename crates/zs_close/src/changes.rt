@@ -1,6 +1,6 @@
 //! The operations at the end of a session, and what watches see of it.
 
-ghost use Rattle.std.specs.Prelude.{◌≡◌, ◌≤◌, ◌≤ℤ◌, ◌∷◌, ◌++◌, [], List, Option, All, pos, length, IfOk, IsTrue, OnOk};
+ghost use Rattle.std.specs.Prelude.{◌≡◌, ◌≤◌, ◌≤ℤ◌, ◌∷◌, ◌++◌, [], List, Option, All, pos, IfOk, IsTrue, OnOk};
 ghost use Rattle.std.specs.List.{count_by};
 ghost use Rattle.zk_model.specs.Paths.{is_child, is_path};
 ghost use Rattle.zn_layout.specs.declared.record.CountRec.{CountRec as AnyCounts};

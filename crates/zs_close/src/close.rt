@@ -1,6 +1,6 @@
 //! closeSession (ZooKeeper API, `close`), planned on a view.
 
-ghost use Rattle.std.specs.Prelude.{◌≡◌, ◌≤ℤ◌, ℕ, All, Option, Some, pos, nat_abs, IfOk};
+ghost use Rattle.std.specs.Prelude.{◌≡◌, ◌≤ℤ◌, ℕ, All, Some, pos, nat_abs, IfOk};
 ghost use Rattle.zk_model.specs.declared.request.Request.TheVariants as req;
 ghost use Rattle.zn_layout.specs.Keys.{CountsKey, LeaseKey, SessionKey};
 ghost use Rattle.zn_layout.specs.Records.{IsSessionRec};

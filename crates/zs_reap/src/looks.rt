@@ -1,7 +1,6 @@
 //! What an answer shows, and what it leads to.
 
 ghost use Rattle.std.specs.Prelude.{◌≡◌, pos, ◌≤ℤ◌, ◌<ℤ◌, IfOk, IfErr, OnOk};
-ghost use Rattle.ev_types.specs.declared.answer.Kv.{Kv as KeyValue};
 ghost use Rattle.zn_view.specs.Seen.{IsCountNumber};
 ghost use Rattle.zn_view.specs.Adding.{AreNumbers};
 ghost use Rattle.zs_session.specs.Answering.{viewed};

@@ -2,7 +2,7 @@
 
 ghost use Rattle.std.specs.Prelude.{◌≡◌, option_copied, Some, IfOk, IfErr, OnErr};
 ghost use Rattle.zs_session.specs.Answering.{IsTxnAnswer};
-ghost use Rattle.zs_reap.specs.Steps.{Answered, IsAsked, IsFaultOfReaper, IsReaperHeld, IsReaperPhase, IsOfTxn, IsReapFault, IsReaperWaiting, MayStepReaper, ReaperMoves, ReaperSteps};
+ghost use Rattle.zs_reap.specs.Steps.{Answered, IsAsked, IsFaultOfReaper, IsReaperHeld, IsReaperPhase, IsReapFault, IsReaperWaiting, MayStepReaper, ReaperMoves, ReaperSteps};
 ghost use Rattle.zs_reap.specs.declared.reap.Phase.TheVariants as phases;
 
 use crate::looks::{looked, looked_again};

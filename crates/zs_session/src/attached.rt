@@ -1,6 +1,6 @@
 //! The session that a connection got.
 
-ghost use Rattle.std.specs.Prelude.{◌≡◌, pos};
+ghost use Rattle.std.specs.Prelude.{◌≡◌};
 ghost use Rattle.zn_layout.specs.Keys.{HeadKey, key_bytes};
 ghost use Rattle.zn_view.specs.Asks.{kept_under};
 ghost use Rattle.zn_view.specs.Seen.{head_number};

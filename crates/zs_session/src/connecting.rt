@@ -2,7 +2,7 @@
 
 ghost use Rattle.std.specs.Prelude.{◌≡◌, pos, ◌≤ℤ◌, option_copied, Some, IfOk, IfErr, OnErr};
 ghost use Rattle.zs_session.specs.Connecting.{ConnectAnswers, IsConnectFault, IsFaultOfConnect, IsConnectHeld, IsConnectWaiting, MayStepConnect, ConnectMoves, ConnectSteps, asked_in_phase};
-ghost use Rattle.zs_session.specs.Answering.{IsAwaited, IsAnswerTo};
+ghost use Rattle.zs_session.specs.Answering.{IsAwaited};
 ghost use Rattle.zs_session.specs.declared.connect.Phase.TheVariants as phases;
 
 use crate::answers::{attached_anew, created, kept_alive, looked, looked_again};

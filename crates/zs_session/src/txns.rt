@@ -1,10 +1,10 @@
 //! The transactions of a session.
 
-ghost use Rattle.std.specs.Prelude.{◌≡◌, pos, ◌≤ℤ◌, [], IfOk, OnOk, ◌++◌, ◌∷◌, map};
+ghost use Rattle.std.specs.Prelude.{◌≡◌, pos, ◌≤ℤ◌, [], IfOk, OnOk, ◌++◌};
 ghost use Rattle.zk_model.specs.Limits.{min_timeout, max_timeout};
-ghost use Rattle.zn_layout.specs.Changes.{act_of, acts_of, put_key, update_acts};
+ghost use Rattle.zn_layout.specs.Changes.{act_of, put_key, update_acts};
 ghost use Rattle.zn_layout.specs.Records.{session_value, IsLeaseRec};
-ghost use Rattle.zs_session.specs.Sessions.{attach_changes, attach_guards, attach_txn as txn_of_attach, guard_on, life_key, new_session_changes, new_session_guards, new_session_txn as txn_of_session, next_attach as attach_after, next_life as life_after, nodes_key, put_life as change_of_life};
+ghost use Rattle.zs_session.specs.Sessions.{attach_changes, attach_guards, attach_txn as txn_of_attach, new_session_changes, new_session_guards, new_session_txn as txn_of_session, next_attach as attach_after, next_life as life_after, nodes_key, put_life as change_of_life};
 
 use crate::asks::{attach_wants, session_wants};
 use crate::connect::Fresh;

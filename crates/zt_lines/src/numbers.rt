@@ -1,7 +1,7 @@
 //! The numbers of a transcript's line.
 
 ghost use Rattle.std.specs.Prelude.{◌≡◌, ◌+◌, ◌*◌, ◌<◌, MatchOption};
-ghost use Rattle.zt_lines.specs.Words.{as_length, as_long, as_negative_length, length_word, long as long_of, place as place_of};
+ghost use Rattle.zt_lines.specs.Words.{as_length, as_negative_length, length_word, long as long_of, place as place_of};
 
 use zt_text::decimal_digit;
 

@@ -1,6 +1,6 @@
 //! What the words of a line say.
 
-ghost use Rattle.std.specs.Prelude.{◌≡◌, ◌+◌, ◌*◌, ◌∷◌, [], length, Some, None, IfOk, MatchBool, option_map, List, ℕ};
+ghost use Rattle.std.specs.Prelude.{◌≡◌, ◌+◌, ◌*◌, [], length, Some, None, IfOk, MatchBool};
 ghost use Rattle.zt_text.specs.Scripts.{decimal_digit as decimal_digit_of, hex_value as hex_digit_of, hex_byte as hex_byte_of, hex_pairs as hex_pairs_of, number as number_of, hex as hex_of, session_id as session_id_of, password as password_of};
 
 use std::alloc::Global;

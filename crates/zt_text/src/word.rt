@@ -1,6 +1,6 @@
 //! Words of a line that is written.
 
-ghost use Rattle.std.specs.Prelude.{◌≡◌, ◌++◌, ◌∷◌, [], OnOk, OnErr, decimal, length, ◌*◌, take, vec_len};
+ghost use Rattle.std.specs.Prelude.{◌≡◌, ◌++◌, OnOk, OnErr, decimal, length, ◌*◌, take, vec_len};
 ghost use Rattle.std.specs.Fmt.{signed_decimal};
 ghost use Rattle.zt_text.specs.Transcripts.{hex_spelled as hex_digits_of, hex_text, id_text};
 ghost use Rattle.zt_text.specs.Written.{spaced_after, word_text, text_of_words};

@@ -1,6 +1,6 @@
 //! Reads the list.
 
-ghost use Rattle.std.specs.Prelude.{◌≡◌, ◌≢◌, ℕ, ◌+◌, ◌<◌, ◌<ℤ◌};
+ghost use Rattle.std.specs.Prelude.{◌≡◌, ◌≢◌, ◌+◌, ◌<◌, ◌<ℤ◌};
 ghost use Rattle.left_right.specs.Sides.{view};
 ghost use Rattle.zw_hub.specs.Lists.{floor, Extends};
 ghost use Rattle.zw_hub.specs.Feeds.{IsFed, IsLagged, IsOneRead};

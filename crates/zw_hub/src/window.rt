@@ -1,6 +1,6 @@
 //! What `left_right` keeps two copies of: the newest entries, and whether more will come.
 
-ghost use Rattle.std.specs.Prelude.{◌≡◌, ◌≢◌, ◌↔◌, ◌<◌, ℕ, ◌+◌, ◌-◌, ◌+ℤ◌, ◌-ℤ◌, ◌≤ℤ◌, ◌<ℤ◌, pos, length, Some, None, IfOk, IsTrue, slice_get, if◌then◌else◌};
+ghost use Rattle.std.specs.Prelude.{◌≡◌, ◌<◌, ◌-◌, ◌≤ℤ◌, ◌<ℤ◌, Some, None, IfOk};
 ghost use Rattle.std.specs.Arc.{arc_value};
 
 use crate::change::{Change, Ending};
@@ -38,9 +38,9 @@ impl Model for Window {
 }
 
 impl Window {
-    ghost use Rattle.std.specs.Prelude.{◌≡◌, ◌≢◌, ◌↔◌, ◌<◌, ℕ, ◌+◌, ◌-◌, ◌+ℤ◌, ◌-ℤ◌, ◌≤ℤ◌, ◌<ℤ◌, ℤ, pos, length, Some, None, IfOk, IsTrue, slice_get};
+    ghost use Rattle.std.specs.Prelude.{◌≡◌, ◌<◌, ◌-◌, ◌≤ℤ◌, ◌<ℤ◌, ℤ, Some, None, IfOk};
     ghost use Rattle.std.specs.Arc.{arc_value};
-    ghost use Rattle.zw_hub.specs.Lists.{empty, last_number, floor, IsAt, is_next, added, closed_by};
+    ghost use Rattle.zw_hub.specs.Lists.{empty, last_number, floor, is_next, added, closed_by};
     ghost use Rattle.zw_hub.specs.Feeds.{IsFed, IsLagged};
 
     /// No entries yet, with room for 4,096; the next is to have the number `first + 1`.

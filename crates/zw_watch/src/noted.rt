@@ -1,6 +1,6 @@
 //! The paths that a setWatches put into a set, so that they can be taken out again.
 
-ghost use Rattle.std.specs.Prelude.{◌≡◌, IfOk, OnOk, OnErr, [], ◌∷◌, ◌++◌};
+ghost use Rattle.std.specs.Prelude.{◌≡◌, OnOk};
 ghost use Rattle.std.specs.FinMap.{insert};
 ghost use Rattle.zk_model.specs.Watches.{PathSet as Paths};
 ghost use Rattle.zw_watch.specs.Noted.{IsWithout};

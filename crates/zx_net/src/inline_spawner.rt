@@ -41,7 +41,6 @@ impl<R> InlineSpawner<R> {
 
 impl<R: Threads> Spawner for InlineSpawner<R> {
     ghost use Rattle.std.specs.Prelude.{◌≡◌, IsNone};
-    ghost use Rattle.zx_outside.specs.Counts.{one_more};
     ghost use Rattle.zx_outside.specs.Memory.{fails_next};
     ghost use Rattle.zx_net.specs.Jobs.{refusals_asked};
     ghost use Rattle.zx_net.specs.Memory.{asked};

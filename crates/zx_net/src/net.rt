@@ -1,6 +1,6 @@
 //! Where streams to peers come from.
 
-ghost use Rattle.std.specs.Prelude.{◌≡◌, List, ℕ, Option, OnOk, OnErr, IfOk};
+ghost use Rattle.std.specs.Prelude.{◌≡◌, List, ℕ, Option, OnErr, IfOk};
 ghost use Rattle.zx_net.specs.Nets.{NetCounts};
 
 use zx_outside::{Sink, Source};

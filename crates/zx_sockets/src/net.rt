@@ -188,7 +188,7 @@ fn dialled_ends<R: SystemNet<Stream = TcpStream> + SystemClock + Copy>(
 impl<
     R: SystemNet<Listener = TcpListener, Stream = TcpStream> + SystemClock + Copy + Send + 'static,
 > Net for StdNet<R> {
-    ghost use Rattle.std.specs.Prelude.{◌≡◌, None, OnErr, IfOk};
+    ghost use Rattle.std.specs.Prelude.{◌≡◌, None};
 
     type Door = StdDoor;
 

@@ -1,6 +1,6 @@
 //! Threads.
 
-ghost use Rattle.std.specs.Prelude.{◌≡◌, IsSome};
+ghost use Rattle.std.specs.Prelude.{◌≡◌};
 
 use std::thread::Threads;
 use zx_net::Spawner;

@@ -102,7 +102,6 @@ impl MemStop {
 
 impl StopWord for MemStop {
     ghost use Rattle.std.specs.Prelude.{◌≡◌};
-    ghost use Rattle.zx_outside.specs.Counts.{one_more};
     ghost use Rattle.zx_words.specs.Words.{is_due, readings_after, read_once};
 
     ghost set_readings = { λ s. s.set_readings };
