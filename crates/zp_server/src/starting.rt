@@ -1,6 +1,6 @@
 //! Starts the workers that serve no client.
 
-ghost use Rattle.std.specs.Prelude.{◌≡◌, string_bytes};
+ghost use Rattle.std.specs.Prelude.{◌≡◌, string_bytes, IfOk};
 ghost use Rattle.ev_call.specs.Addresses.{IsAddress};
 ghost use Rattle.zw_follow.specs.Publishing.{IsPlaced};
 ghost use Rattle.zw_hub.specs.Lists.{empty};
@@ -18,6 +18,7 @@ use std::time::Clock as SystemClock;
 use zs_lapsed::reap;
 use zw_follow::{Place, follow_and_ring};
 use zw_hub::Hub;
+use zx_base::Memory;
 use zx_net::{Net, Spawner, Wakes};
 use zx_words::SharedStop;
 
@@ -47,6 +48,15 @@ pub fn begin_at<R: Wait + Drop>(list: Hub<R>, place: Place) -> Opened<R>
     Opened { list, place }
 }
 
+/// Copies of two addresses, for a job of its own.
+fn copies_of(alloc: Global, endpoint: &str, listen: &str) -> Result<(String, String), Memory>
+    ensures { IfOk result (λ copies. (string_bytes copies.0 ≡ endpoint.now) × (string_bytes copies.1 ≡ listen.now)) }
+{
+    let endpoint = String::from_str(alloc, endpoint)?;
+    let listen = String::from_str(alloc, listen)?;
+    Ok((endpoint, listen))
+}
+
 /// Starts the watch worker. Where it cannot go on, it dials the proxy's own address, so that the listener looks at the hub.
 pub fn start_watch<
     W: Wait + Eprint + Copy + Send + Drop + 'static,
@@ -68,12 +78,8 @@ where
     N::Door: Send,
     ensures { Starts result (P.refusals spawner.old) (P.refusals spawner.new) }
 {
-    let endpoint = match String::from_str(alloc, endpoint) {
-        Ok(endpoint) => endpoint,
-        Err(_refused) => return Err(Stop::Memory),
-    };
-    let listen = match String::from_str(alloc, listen) {
-        Ok(listen) => listen,
+    let (endpoint, listen) = match copies_of(alloc, endpoint, listen) {
+        Ok(copies) => copies,
         Err(_refused) => return Err(Stop::Memory),
     };
     let stop = match stop.another() {
