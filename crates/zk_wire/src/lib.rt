@@ -28,12 +28,12 @@
 //! runs it beside the same work in plain Rust.
 #![tactic(auto)]
 
-mod byte_at;
 mod connects;
 mod cutter;
 mod fault;
 mod laws;
 mod packets;
+mod places;
 mod reader;
 mod replies;
 mod reply_fields;
@@ -43,7 +43,6 @@ mod sink;
 mod stat_bytes;
 mod writer;
 
-pub use byte_at::byte_at;
 pub use connects::read_connect;
 pub use cutter::{CutFault, Cutter};
 pub use fault::WireFault;
@@ -52,6 +51,7 @@ pub use packets::{
     notice_can_be_sent, reply_can_be_sent, request_can_be_sent, write_connect, write_notice,
     write_reply, write_request,
 };
+pub use places::byte_at;
 pub use replies::read_reply;
 pub use request_fields::{put_body, put_part_fields};
 pub use requests::read_request;

@@ -1,4 +1,4 @@
-//! A byte of a packet.
+//! The bytes of a packet by their places.
 
 ghost use Rattle.std.specs.Prelude.{◌≡◌, slice_index};
 
