@@ -47,7 +47,11 @@ impl Model for History {
 
     ghost view = { λ h. h.revisions.items };
 
-    ghost invariant = { λ h. (length h.revisions.items ≤ max_revisions) × (h.indexed ≤ length h.revisions.items) × (h.begun ≤ length (nth_changes h.indexed h.revisions.items)) × ((q : ByteList) → IsIndexed h.revisions.items h.indexed h.begun q h.versions) × NamesLeased h.leased h.versions };
+    ghost invariant = { λ h. (length h.revisions.items ≤ max_revisions)
+        × (h.indexed ≤ length h.revisions.items)
+        × (h.begun ≤ length (nth_changes h.indexed h.revisions.items))
+        × ((q : ByteList) → IsIndexed h.revisions.items h.indexed h.begun q h.versions)
+        × NamesLeased h.leased h.versions };
 }
 
 impl History {

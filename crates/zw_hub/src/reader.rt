@@ -35,7 +35,13 @@ impl<R: Wait + Drop> Model for HubReader<R> {
 
     ghost Value = { ReaderState };
 
-    ghost view = { λ r. record { table = r.reader.place.table_id; list = (sides.view r.reader.place).list; reads = (sides.view r.reader.place).steps; lags = length r.lags.items; closings = length r.closings.items } };
+    ghost view = { λ r. record {
+      table = r.reader.place.table_id;
+      list = (sides.view r.reader.place).list;
+      reads = (sides.view r.reader.place).steps;
+      lags = length r.lags.items;
+      closings = length r.closings.items;
+    } };
 }
 
 /// One read of the list. Where the list is gone there is none, and the answer is `Memory`; it stays while a reader is there.
