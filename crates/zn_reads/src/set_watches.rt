@@ -9,7 +9,7 @@ ghost use Rattle.zn_layout.specs.Keys.{key_bytes};
 ghost use Rattle.zn_reads.specs.SeenPaths.{at_by, changing_key, key_at, put_at, seen_path, seen_paths, IsSetBy};
 ghost use Rattle.zw_watch.specs.declared.seen_path.WatchList.TheVariants as lists;
 ghost use Rattle.zn_view.specs.declared.plan.Decision.TheVariants as decisions;
-ghost use Rattle.zn_view.specs.Indexing.{shown_in, IsIndex};
+ghost use Rattle.zn_view.specs.Indexing.{found_under, IsIndex};
 ghost use Rattle.zn_view.specs.Seen.{View as AnyView};
 
 use crate::keys::{counts_key_of, data_key_of};
@@ -72,7 +72,7 @@ fn keys_at(alloc: Global, list: WatchList, texts: &[Text]) -> Result<Vec<Option<
 
 /// The revision at which a key was last put; `None` where it was absent, and for a path that is not valid.
 fn at<'a>(index: &Index<'a>, key: &'a Option<Bytes>) -> Option<i64>
-    ensures { (v : AnyView) → IsIndex v (shown_in index.now) → result ≡ at_by v key.now }
+    ensures { (v : AnyView) → IsIndex v (found_under index.now) → result ≡ at_by v key.now }
 {
     match key {
         Some(key) => match found_by(index, key.as_slice()) {
@@ -93,7 +93,7 @@ fn push_seen<'a>(
     seen: &mut Vec<SeenPath>,
 ) -> Result<(), Memory>
     requires { keys.now ≡ map (key_at list) texts.now }
-    ensures { (v : AnyView) → IsIndex v (shown_in index.now) → OnOk result (seen.new.items ≡ seen.old.items ++ map (seen_path v list) texts.now) }
+    ensures { (v : AnyView) → IsIndex v (found_under index.now) → OnOk result (seen.new.items ≡ seen.old.items ++ map (seen_path v list) texts.now) }
 {
     for (place, key) in keys.iter().enumerate() {
         seen.push(SeenPath {

@@ -2,7 +2,7 @@
 use denote.Ref.{Bor}
 use Rattle.std.specs.Prelude.{◌≡◌, List, [], ◌∷◌, Option, Some, None, option_copied, option_map, if◌then◌else◌}
 use Rattle.std.specs.BTreeMap as tree
-use Rattle.std.specs.Layout.BTreeMap.{BTreeMap}
+use Rattle.std.specs.BTreeMap.{BTreeMap}
 use Rattle.std.specs.Ordering.{nat_cmp}
 use Rattle.std.specs.Cmp.Lexicographic.{slice_cmp}
 use Rattle.ev_types.specs.declared.answer.Kv.{Kv}
@@ -11,8 +11,8 @@ use Rattle.zn_view.specs.declared.snapshot.SeenKey.{SeenKey}
 use Rattle.zn_view.specs.Seen.{View, seen}
 
 -- what an index shows under a key: None where the key is no key of it
-abbrev pub shown_in : BTreeMap Bytes (Option (Bor Kv)) → Bytes → Option (Option Kv)
-shown_in index k = option_map option_copied (tree.get (slice_cmp nat_cmp) index k)
+abbrev pub found_under : BTreeMap Bytes (Option (Bor Kv)) → Bytes → Option (Option Kv)
+found_under index k = option_map option_copied (tree.get (slice_cmp nat_cmp) index k)
 
 -- these look-ups are those of the view
 abbrev pub IsIndex : View → (Bytes → Option (Option Kv)) → Type 0

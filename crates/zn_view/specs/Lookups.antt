@@ -1,5 +1,5 @@
 -- What a view shows of a node and of a session.
-use Rattle.std.specs.Prelude.{◌≡◌, drop, List, Option, None}
+use Rattle.std.specs.Prelude.{◌≡◌, drop, List, Option, Some, None}
 use Rattle.ev_types.specs.declared.answer.Kv.{Kv}
 use Rattle.zx_base.specs.Maps.{Bytes}
 use Rattle.zn_layout.specs.declared.record.CountRec.{CountRec}
