@@ -3,8 +3,6 @@ use Rattle.std.proofs.Common.{◌≡◌, ℕ, ◌+◌, ℤ, List, [], ◌∷◌,
 use Rattle.std.specs.FinMap.{insert}
 use Rattle.std.specs.Prelude.{Option, Some, None, IfSome, fold, if◌then◌else◌}
 use Rattle.std.proofs.lemmas.List.{append-nil}
-use Rattle.ev_types.specs.declared.ask.Ask.{Ask}
-use Rattle.zk_service.specs.declared.cause.Cause.{Cause}
 use Rattle.zk_transcript.specs.declared.transcript.TranscriptLine.{TranscriptLine}
 use Rattle.zk_transcript.specs.declared.transcript.TranscriptLine.TheVariants.{Close, Frame as FrameLine, Send}
 use Rattle.zk_service.specs.declared.cause.Ended.TheVariants as ended
@@ -174,11 +172,9 @@ end-acting c kind first zxid frames core w flight out w' now rest left none acti
       world = acting.world ∙ ap (added w) done;
     }
 
-pub acted-at : (c : ℕ) (kind kind' : Option UpdateKind) (first : ℕ) (zxid zxid' : ℤ) (frames : List (List ℕ)) (core : Core) (w : World) (flight : Option Flight) (out : List Action) (w' : World) (now : Option Flight) (left : List (List ℕ))
-    → kind ≡ kind' → zxid ≡ zxid' → HasActed c kind first zxid frames core w flight out w' now left → HasActed c kind' first zxid' frames core w flight out w' now left
-acted-at c kind kind' first zxid zxid' frames core w flight out w' now left same at acted =
-    subst (λ (k : Option UpdateKind). HasActed c k first zxid' frames core w flight out w' now left) same
-    (subst (λ (z : ℤ). HasActed c kind first z frames core w flight out w' now left) at acted)
+pub acted-as : (c : ℕ) (kind kind' : Option UpdateKind) (first : ℕ) (zxid : ℤ) (frames : List (List ℕ)) (core : Core) (w : World) (flight : Option Flight) (out : List Action) (w' : World) (now : Option Flight) (left : List (List ℕ))
+    → kind ≡ kind' → HasActed c kind first zxid frames core w flight out w' now left → HasActed c kind' first zxid frames core w flight out w' now left
+acted-as c kind kind' first zxid frames core w flight out w' now left same acted = subst (λ (k : Option UpdateKind). HasActed c k first zxid frames core w flight out w' now left) same acted
 
 -- ---- what is put back
 

@@ -2,6 +2,7 @@
 use Rattle.std.proofs.Common.{◌≡◌, ℕ, ℤ, refl, sym, ap, ◌∙◌, subst, [], ◌∷◌, ◌++◌, inl, inr}
 use Rattle.std.specs.Prelude.{Option, Some, None, OnOk, Result}
 use Rattle.std.specs.FinMap.{get, insert, remove}
+use Rattle.std.specs.Global.{Box}
 use Rattle.std.proofs.lemmas.Result.{on_ok_weaker}
 use Rattle.std.proofs.lemmas.List.{append-nil}
 use Rattle.ev_types.specs.declared.answer.Answer.{Answer}
@@ -33,7 +34,7 @@ use Rattle.zx_base.proofs.Options.{none_some}
 use Rattle.zx_base.specs.Maps.{Bytes}
 use Rattle.zp_world.proofs.Apart.{conn-inserted, leaves-with_conn, with_conn-same, with_conn-without}
 use Rattle.zp_world.proofs.Possible.{flight-is}
-use Rattle.zp_world.specs.Doing.{Stepped, ended, left, seated}
+use Rattle.zp_world.specs.Doing.{ReapsFrom, Stepped, ended, left, seated}
 use Rattle.zp_world.specs.Activities.{actor_of}
 use Rattle.zp_world.specs.declared.activity.Actor.{Actor as AnActor}
 use Rattle.zp_world.specs.declared.activity.Actor.TheVariants as actors
@@ -122,10 +123,6 @@ reap-is-damaged c w w' x seat reap a key value at fault is = inl (record {
   result = is ∙ sym (ended-is c w x seat Closed (finish.Cause (cause.Damaged key value)) at refl);
 })
 
--- of any record of the seat
-abbrev pub ReapsFrom : ℕ → World → Seat → Option Answer → World → Reap → Type 0
-ReapsFrom c w seat a w' reap = (x : Conn) → x.proxy ≡ seat.proxy → x.stream ≡ seat.inbox → x.frames ≡ seat.frames → x.flight ≡ None → Reaps c w a w' x reap
-
 module _ {E : Type 0} (c : ℕ) (w : World) (seat : Seat) (reap next : Reap) (a : Option Answer) (r : Result (Unit {0}) E) where
   pub reap-asked : (v : World) (m : Conns) (q : Ask) (kind : Option UpdateKind) → v ≡ w → ReaperSteps reap a (reaped.Ask q) next → IsReaperWaiting (reaped.Ask q) next.phase → kind ≡ kind_of_reap next.session next.phase
       → OnOk r (m ≡ insert v.conns c (seated seat (Reaper next) (Some (Out (record { ask = q; kind = kind }))))) → OnOk r (ReapsFrom c w seat a (record v { conns = m }) reap)
@@ -153,25 +150,25 @@ reap-fails c w w' seat reap flight is =
 -- ---- to either
 
 module _ {E : Type 0} (c : ℕ) (w w' : World) (seat : Seat) (r : Result (Unit {0}) E) where
-  pub answer-steps : (actor : AnActor) (core : Core) (a : Answer) → actor ≡ actors.Connection core → OnOk r (Stepped c [] w (left seat) core None (input.Answer a) w')
+  pub answer-steps : (actor : AnActor) (core : Box Core) (a : Answer) → actor ≡ actors.Connection core → OnOk r (Stepped c [] w (left seat) core.value None (input.Answer a) w')
       → OnOk r (AnswerComesTo c (with_conn w c (seated seat (actor_of actor) None)) (seated seat (actor_of actor) None) a w' (actor_of actor))
-  answer-steps actor core a is h = subst (λ (k : AnActor). OnOk r (AnswerComesTo c (with_conn w c (seated seat (actor_of k) None)) (seated seat (actor_of k) None) a w' (actor_of k))) (sym is) (on_ok_weaker r (hands c w w' seat core None (input.Answer a)) h)
+  answer-steps actor core a is h = subst (λ (k : AnActor). OnOk r (AnswerComesTo c (with_conn w c (seated seat (actor_of k) None)) (seated seat (actor_of k) None) a w' (actor_of k))) (sym is) (on_ok_weaker r (hands c w w' seat core.value None (input.Answer a)) h)
 
-  pub answer-reaps : (actor : AnActor) (reap : Reap) (a : Answer) → actor ≡ actors.Reaper reap
-      → OnOk r (ReapsFrom c w seat (Some a) w' reap)
+  pub answer-reaps : (actor : AnActor) (reap : Box Reap) (a : Answer) → actor ≡ actors.Reaper reap
+      → OnOk r (ReapsFrom c w seat (Some a) w' reap.value)
       → OnOk r (AnswerComesTo c (with_conn w c (seated seat (actor_of actor) None)) (seated seat (actor_of actor) None) a w' (actor_of actor))
   answer-reaps actor reap a is h =
-      let conn : Conn = seated seat (Reaper reap) None in
-      subst (λ (k : AnActor). OnOk r (AnswerComesTo c (with_conn w c (seated seat (actor_of k) None)) (seated seat (actor_of k) None) a w' (actor_of k))) (sym is) (on_ok_weaker r (λ (all : ReapsFrom c w seat (Some a) w' reap).
-      reaps-with_conn c w w' conn conn reap (Some a) (all conn refl refl refl refl)) h)
+      let conn : Conn = seated seat (Reaper reap.value) None in
+      subst (λ (k : AnActor). OnOk r (AnswerComesTo c (with_conn w c (seated seat (actor_of k) None)) (seated seat (actor_of k) None) a w' (actor_of k))) (sym is) (on_ok_weaker r (λ (all : ReapsFrom c w seat (Some a) w' reap.value).
+      reaps-with_conn c w w' conn conn reap.value (Some a) (all conn refl refl refl refl)) h)
 
-  pub failure-steps : (actor : AnActor) (core : Core) (flight : Option Flight) → actor ≡ actors.Connection core → OnOk r (Stepped c [] w (left seat) core flight input.Failed w')
+  pub failure-steps : (actor : AnActor) (core : Box Core) (flight : Option Flight) → actor ≡ actors.Connection core → OnOk r (Stepped c [] w (left seat) core.value flight input.Failed w')
       → OnOk r (FailureComesTo c (with_conn w c (seated seat (actor_of actor) flight)) (seated seat (actor_of actor) flight) w' (actor_of actor))
-  failure-steps actor core flight is h = subst (λ (k : AnActor). OnOk r (FailureComesTo c (with_conn w c (seated seat (actor_of k) flight)) (seated seat (actor_of k) flight) w' (actor_of k))) (sym is) (on_ok_weaker r (hands c w w' seat core flight input.Failed) h)
+  failure-steps actor core flight is h = subst (λ (k : AnActor). OnOk r (FailureComesTo c (with_conn w c (seated seat (actor_of k) flight)) (seated seat (actor_of k) flight) w' (actor_of k))) (sym is) (on_ok_weaker r (hands c w w' seat core.value flight input.Failed) h)
 
-  pub failure-ends : (actor : AnActor) (reap : Reap) (flight : Option Flight) → actor ≡ actors.Reaper reap → OnOk r (w' ≡ ended c w seat (finish.Cause cause.LinkFault) flight)
+  pub failure-ends : (actor : AnActor) (reap : Box Reap) (flight : Option Flight) → actor ≡ actors.Reaper reap → OnOk r (w' ≡ ended c w seat (finish.Cause cause.LinkFault) flight)
       → OnOk r (FailureComesTo c (with_conn w c (seated seat (actor_of actor) flight)) (seated seat (actor_of actor) flight) w' (actor_of actor))
-  failure-ends actor reap flight is h = subst (λ (k : AnActor). OnOk r (FailureComesTo c (with_conn w c (seated seat (actor_of k) flight)) (seated seat (actor_of k) flight) w' (actor_of k))) (sym is) (on_ok_weaker r (reap-fails c w w' seat reap flight) h)
+  failure-ends actor reap flight is h = subst (λ (k : AnActor). OnOk r (FailureComesTo c (with_conn w c (seated seat (actor_of k) flight)) (seated seat (actor_of k) flight) w' (actor_of k))) (sym is) (on_ok_weaker r (reap-fails c w w' seat reap.value flight) h)
 
 -- ---- where it stands
 

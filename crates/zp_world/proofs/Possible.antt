@@ -3,7 +3,6 @@ use Rattle.std.proofs.Common.{◌≡◌, ℕ, ℤ, refl, sym, ap, ◌∙◌, sub
 use Rattle.std.specs.Prelude.{Option, Some, None, is_none, is_some, not}
 use Rattle.std.specs.Option.{option_and_then}
 use Rattle.ev_types.specs.declared.ask.Ask.{Ask}
-use Rattle.ev_types.specs.declared.ask.Ask.TheVariants as ask
 use Rattle.ev_types.specs.declared.answer.Answer.{Answer}
 use Rattle.zn_layout.specs.declared.entry.Entry.{Entry}
 use Rattle.zp_script.specs.declared.flight.Asking.{Asking}
@@ -13,7 +12,6 @@ use Rattle.zp_script.specs.Entries.{cursor_at, entry_after, is_lagging, next_ent
 use Rattle.zp_script.specs.Faults.{ask_fault, carry_fault, connection_fault, entry_fault, fault, flight_at, if_fails, is_reaper_at, is_to_carry_out, new_fault, open_fault}
 use Rattle.zp_script.specs.Worlds.{Actor, Closed, Conn, Connection, Reaper, World, conn_at, is_closed_actor, is_reaper}
 use Rattle.zp_step.specs.Stages.{Core}
-use Rattle.zs_reap.specs.declared.reap.ReapStep.TheVariants as reaped
 use Rattle.zs_session.specs.Answering.{IsAwaited}
 use Rattle.zt_text.specs.declared.script.Happening.TheVariants as line
 use Rattle.zt_text.specs.declared.script.Why.{Why}

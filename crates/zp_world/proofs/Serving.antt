@@ -23,15 +23,20 @@ use Rattle.zp_step.specs.Stages.{Core, counted_up, is_shut}
 use Rattle.zp_step.specs.declared.input.Input.{Input}
 use Rattle.zp_step.specs.declared.input.Input.TheVariants as input
 use Rattle.zp_world.proofs.Apart.{conn-inserted, conn-left, insert-removed, insert-twice}
-use Rattle.zp_world.specs.Doing.{Stepped, left, seated, without}
+use Rattle.zp_world.specs.Doing.{acted, left, seated, without}
 use Rattle.zp_world.specs.Flying.{IsFitFlight, IsFlyingOf}
-use Rattle.zp_world.specs.Taking.{IsConnectionAt, IsLeft, IsServing, Takes, left_next, shown}
+use Rattle.zp_world.specs.Taking.{IsConnectionAt, IsLeft, IsServing, StepsByFrame, Takes, left_next, shown}
 use Rattle.zp_world.specs.declared.activity.Seat.{Seat}
+use Rattle.zp_world.specs.declared.arriving.Arrival.{Arrival}
 
 -- ---- a step of what is held apart is one of what stands in its world
 
+-- the arrival by its parts
+abbrev arrival : ℕ → ℤ → Arrival
+arrival c zxid = record { connection = c; zxid = zxid }
+
 leaves-shown : (c : ℕ) (w : World) (seat : Seat) (actor : Actor) (flight : Option Flight) (bytes : List ℕ) (a : Actor) (o : StepOutcome)
-    → leaves c (shown c (without c w) (zxid_at w.store) seat bytes) (left_next seat) a o ≡ leaves c (shown_frame c w (seated seat actor flight) bytes) (record (seated seat actor flight) { frames = counted_up (seat.frames + 1) }) a o
+    → leaves c (shown (arrival c (zxid_at w.store)) (without c w) seat bytes) (left_next seat) a o ≡ leaves c (shown_frame c w (seated seat actor flight) bytes) (record (seated seat actor flight) { frames = counted_up (seat.frames + 1) }) a o
 leaves-shown c w seat actor flight bytes a o =
     let x : Conn = record (seated seat actor flight) { frames = counted_up (seat.frames + 1) } in
     let y : Conn = record (left_next seat) { actor = a; flight = o.flight } in
@@ -39,7 +44,7 @@ leaves-shown c w seat actor flight bytes a o =
     ap (λ (m : Conns). record w { conns = m; lines = lines ++ o.lines; strays = w.strays ++ o.strays }) (insert-removed w.conns c y ∙ sym (insert-twice w.conns c x y))
 
 handed-seated : (c : ℕ) (w w' : World) (core : Core) (seat : Seat) (flight : Option Flight) (bytes : List ℕ) (after : List (List ℕ))
-    → Stepped c (frame_lines c (counted_up (seat.frames + 1)) (zxid_at w.store) after) (shown c (without c w) (zxid_at w.store) seat bytes) (left_next seat) core flight (input.Frame bytes) w'
+    → StepsByFrame (arrival c (zxid_at w.store)) (without c w) seat core flight bytes after w'
     → Handed c (frame_lines c (counted_up (seat.frames + 1)) (zxid_at w.store) after) (shown_frame c w (seated seat (Connection core) flight) bytes) (input.Frame bytes) w'
 handed-seated c w w' core seat flight bytes after s =
     let x : Conn = record (seated seat (Connection core) flight) { frames = counted_up (seat.frames + 1) } in
@@ -54,13 +59,13 @@ handed-seated c w w' core seat flight bytes after s =
       result = s.result ∙ leaves-shown c w seat (Connection core) flight bytes (after_step s.next) (acts_all c (kind_asked c (Connection s.next)) (frame_lines c (counted_up (seat.frames + 1)) (zxid_at w.store) after) flight s.out);
     }
 
-pub handed-frame : (c : ℕ) (w w' : World) (x : Conn) (core : Core) (seat : Seat) (flight : Option Flight) (zxid : ℤ) (bytes : List ℕ) (after : List (List ℕ)) → seated seat (Connection core) flight ≡ x → zxid ≡ zxid_at w.store
-    → Stepped c (frame_lines c (counted_up (seat.frames + 1)) zxid after) (shown c (without c w) zxid seat bytes) (left_next seat) core flight (input.Frame bytes) w'
-    → Handed c (frame_lines c (counted_up (x.frames + 1)) (zxid_at w.store) after) (shown_frame c w x bytes) (input.Frame bytes) w'
-handed-frame c w w' x core seat flight zxid bytes after is same s =
+pub handed-frame : (a : Arrival) (w w' : World) (x : Conn) (core : Core) (seat : Seat) (flight : Option Flight) (bytes : List ℕ) (after : List (List ℕ)) → seated seat (Connection core) flight ≡ x → a.zxid ≡ zxid_at w.store
+    → StepsByFrame a (without a.connection w) seat core flight bytes after w'
+    → Handed a.connection (frame_lines a.connection (counted_up (x.frames + 1)) (zxid_at w.store) after) (shown_frame a.connection w x bytes) (input.Frame bytes) w'
+handed-frame a w w' x core seat flight bytes after is same s =
+    let c : ℕ = a.connection in
     subst (λ (y : Conn). Handed c (frame_lines c (counted_up (y.frames + 1)) (zxid_at w.store) after) (shown_frame c w y bytes) (input.Frame bytes) w') is
-    (handed-seated c w w' core seat flight bytes after
-    (subst (λ (z : ℤ). Stepped c (frame_lines c (counted_up (seat.frames + 1)) z after) (shown c (without c w) z seat bytes) (left_next seat) core flight (input.Frame bytes) w') same s))
+    (handed-seated c w w' core seat flight bytes after (subst (λ (z : ℤ). StepsByFrame (arrival c z) (without c w) seat core flight bytes after w') same s))
 
 -- ---- a connection stays one
 
@@ -233,29 +238,22 @@ left-after c w w' x next o left after is result =
     go true = refl
     go false = refl
 
--- (a zxid is as the callee has it)
-pub stepped-frame : (c : ℕ) (w w' : World) (seat : Seat) (core next : Core) (flight : Option Flight) (zxid z : ℤ) (bytes given : List ℕ) (after : List (List ℕ)) (now : ℕ) (out : List Action) → z ≡ zxid → now ≡ w.clock → given ≡ bytes
-    → Steps core (input.Frame bytes) now next out
-    → w' ≡ leaves c (shown c w z seat given) (left_next seat) (after_step next) (acts_all c (kind_asked c (Connection next)) (frame_lines c (counted_up (seat.frames + 1)) z after) flight out)
-    → Stepped c (frame_lines c (counted_up (seat.frames + 1)) zxid after) (shown c w zxid seat bytes) (left_next seat) core flight (input.Frame bytes) w'
-stepped-frame c w w' seat core next flight zxid z bytes given after now out is at same steps result = record {
+pub stepped-frame : (a : Arrival) (w w' : World) (seat : Seat) (core next : Core) (flight : Option Flight) (bytes given : List ℕ) (after : List (List ℕ)) (now : ℕ) (out : List Action) → now ≡ w.clock → given ≡ bytes
+    → Steps core (input.Frame bytes) now next out → w' ≡ acted a (shown a w seat given) (left_next seat) next after flight out → StepsByFrame a w seat core flight bytes after w'
+stepped-frame a w w' seat core next flight bytes given after now out at same steps result = record {
   next = next;
   out = out;
   stepped = subst (λ (n : ℕ). Steps core (input.Frame bytes) n next out) at steps;
-  result = result
-      ∙ ap (λ (b : List ℕ). leaves c (shown c w z seat b) (left_next seat) (after_step next) (acts_all c (kind_asked c (Connection next)) (frame_lines c (counted_up (seat.frames + 1)) z after) flight out)) same
-      ∙ ap (λ (y : ℤ). leaves c (shown c w y seat bytes) (left_next seat) (after_step next) (acts_all c (kind_asked c (Connection next)) (frame_lines c (counted_up (seat.frames + 1)) y after) flight out)) is;
+  result = result ∙ ap (λ (b : List ℕ). acted a (shown a w seat b) (left_next seat) next after flight out) same;
 }
 
-pub acted-on : (c : ℕ) (w mid w' : World) (seat next : Seat) (core : Core) (flight : Option Flight) (zxid z : ℤ) (bytes : List ℕ) (after : List (List ℕ)) (out : List Action) (index : ℕ) → z ≡ zxid → index ≡ seat.frames
-    → mid ≡ record w { lines = w.lines ++ FrameLine c index z bytes ∷ [] } → left next ≡ left_next seat
-    → w' ≡ leaves c mid (left next) (after_step core) (acts_all c (kind_asked c (Connection core)) (frame_lines c next.frames z after) flight out)
-    → w' ≡ leaves c (shown c w zxid seat bytes) (left_next seat) (after_step core) (acts_all c (kind_asked c (Connection core)) (frame_lines c (counted_up (seat.frames + 1)) zxid after) flight out)
-acted-on c w mid w' seat next core flight zxid z bytes after out index is_zxid at is same result =
+pub acted-on : (a : Arrival) (w mid w' : World) (seat next : Seat) (core : Core) (flight : Option Flight) (bytes : List ℕ) (after : List (List ℕ)) (out : List Action) (index : ℕ) → index ≡ seat.frames
+    → mid ≡ record w { lines = w.lines ++ FrameLine a.connection index a.zxid bytes ∷ [] } → left next ≡ left_next seat
+    → w' ≡ acted a mid (left next) core after flight out → w' ≡ acted a (shown a w seat bytes) (left_next seat) core after flight out
+acted-on a w mid w' seat next core flight bytes after out index at is same result =
     result
-    ∙ ap (λ (v : World). leaves c v (left next) (after_step core) (acts_all c (kind_asked c (Connection core)) (frame_lines c next.frames z after) flight out)) (is ∙ ap (λ (i : ℕ). record w { lines = w.lines ++ FrameLine c i z bytes ∷ [] }) at)
-    ∙ ap (λ (x : Conn). leaves c (shown c w z seat bytes) x (after_step core) (acts_all c (kind_asked c (Connection core)) (frame_lines c x.frames z after) flight out)) same
-    ∙ ap (λ (y : ℤ). leaves c (shown c w y seat bytes) (left_next seat) (after_step core) (acts_all c (kind_asked c (Connection core)) (frame_lines c (counted_up (seat.frames + 1)) y after) flight out)) is_zxid
+    ∙ ap (λ (v : World). acted a v (left next) core after flight out) (is ∙ ap (λ (i : ℕ). record w { lines = w.lines ++ FrameLine a.connection i a.zxid bytes ∷ [] }) at)
+    ∙ ap (λ (x : Conn). acted a (shown a w seat bytes) x core after flight out) same
 
 pub on-ok-both : {T E P Q R : Type 0} (r : Result T E) → OnOk r P → OnOk r Q → (P → Q → R) → OnOk r R
 on-ok-both (Ok x) p q f = f p q
@@ -266,15 +264,14 @@ is-left true old new e = inl e
 is-left false old new e = inr e
 
 -- one that was held apart takes a frame
-pub takes-apart : (c : ℕ) (w apart w' : World) (x y : Conn) (seat : Seat) (role : Actor) (core : Core) (flight : Option Flight) (zxid : ℤ) (bytes : List ℕ) (after left : List (List ℕ)) → conn_at c w ≡ Some x → conn_at c w ≡ Some y
-    → seated seat role flight ≡ y → role ≡ Connection core → apart ≡ without c w → zxid ≡ zxid_at w.store
-    → left ≡ (if is_open_conn (conn_at c w') then after else [])
-    → Stepped c (frame_lines c (counted_up (seat.frames + 1)) zxid after) (shown c apart zxid seat bytes) (left_next seat) core flight (input.Frame bytes) w' → Takes c w x bytes after w' left
-takes-apart c w apart w' x y seat role core flight zxid bytes after left there taken is serves at same rest s =
+pub takes-apart : (a : Arrival) (w apart w' : World) (x y : Conn) (seat : Seat) (role : Actor) (core : Core) (flight : Option Flight) (bytes : List ℕ) (after left : List (List ℕ)) → conn_at a.connection w ≡ Some x → conn_at a.connection w ≡ Some y
+    → seated seat role flight ≡ y → role ≡ Connection core → apart ≡ without a.connection w → a.zxid ≡ zxid_at w.store
+    → left ≡ (if is_open_conn (conn_at a.connection w') then after else [])
+    → StepsByFrame a apart seat core flight bytes after w' → Takes a.connection w x bytes after w' left
+takes-apart a w apart w' x y seat role core flight bytes after left there taken is serves at same rest s =
     let one : y ≡ x = some_is (sym taken ∙ there) in
-    let sits : seated seat (Connection core) flight ≡ x = ap (λ (a : Actor). seated seat a flight) (sym serves) ∙ is ∙ one in
+    let sits : seated seat (Connection core) flight ≡ x = ap (λ (r : Actor). seated seat r flight) (sym serves) ∙ is ∙ one in
     record {
-      handed = handed-frame c w w' x core seat flight zxid bytes after sits same
-          (subst (λ (v : World). Stepped c (frame_lines c (counted_up (seat.frames + 1)) zxid after) (shown c v zxid seat bytes) (left_next seat) core flight (input.Frame bytes) w') at s);
+      handed = handed-frame a w w' x core seat flight bytes after sits same (subst (λ (v : World). StepsByFrame a v seat core flight bytes after w') at s);
       rest = rest;
     }

@@ -9,8 +9,8 @@ use Rattle.zp_world.specs.declared.activity.Actor.{Actor}
 use Rattle.zp_world.specs.declared.activity.Actor.TheVariants.{Connection, Reaper, Closed}
 
 abbrev pub actor_of : Actor → worlds.Actor
-actor_of (Connection core) = worlds.Connection core
-actor_of (Reaper reap) = worlds.Reaper reap
+actor_of (Connection b) = worlds.Connection b.value
+actor_of (Reaper b) = worlds.Reaper b.value
 actor_of Closed = worlds.Closed
 
 -- no count of frames is at its end

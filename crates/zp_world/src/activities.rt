@@ -65,9 +65,9 @@ impl Activities {
         self.by_number.get(&number)
     }
 
-    /// Takes the activity of a number out, to be put back.
-    pub fn take(&mut self, number: u32) -> Option<Activity>
-        ensures taken { result ≡ get self.old number }
+    /// Takes the activity of a number out, to be put back. It is out also where memory was refused.
+    pub fn take(&mut self, number: u32) -> Result<Option<Activity>, Memory>
+        ensures taken { IfOk result (λ activity. activity ≡ get self.old number) }
         ensures left { self.new ≡ remove self.old number }
     {
         let taken = self.by_number.remove(&number);
@@ -109,11 +109,11 @@ impl Activities {
 }
 
 /// What stood in a slot that was taken out.
-fn activity_in(alloc: Global, taken: Option<Slot>) -> Option<Activity>
-    ensures { result ≡ taken }
+fn activity_in(alloc: Global, taken: Option<Slot>) -> Result<Option<Activity>, Memory>
+    ensures { IfOk result (λ activity. activity ≡ taken) }
 {
     match taken {
-        Some(slot) => Some(slot.into_activity(alloc)),
-        None => None,
+        Some(slot) => Ok(Some(slot.into_activity(alloc)?)),
+        None => Ok(None),
     }
 }

@@ -21,11 +21,12 @@ use zp_script::Flight;
 use zp_step::Wants;
 use zs_reap::Reaper;
 
-/// An open connection, a reaper at work, or one of the two that has ended.
+/// An open connection, a reaper at work, or one of the two that has ended. What is at work is boxed, so that it is short to move
+/// and to drop.
 #[derive(Drop)]
 pub enum Actor {
-    Connection(Core),
-    Reaper(Reaper),
+    Connection(Box<Core>),
+    Reaper(Box<Reaper>),
     Closed,
 }
 

@@ -4,19 +4,17 @@ ghost use Rattle.std.specs.Prelude.{◌≡◌, ◌+◌, ◌++◌, ◌∷◌, ◌
 ghost use Rattle.std.specs.Vec.Iter.{into_iter_items};
 ghost use Rattle.zk_model.specs.Limits.{max_frame};
 ghost use Rattle.zk_transcript.specs.declared.transcript.TranscriptLine.TheVariants.{Frame as FrameLine};
-ghost use Rattle.zp_script.specs.Arriving.{Arrives, CutsFrames, EndsBadly, FramesArrive, frame_lines};
+ghost use Rattle.zp_script.specs.Arriving.{Arrives, CutsFrames, EndsBadly, FramesArrive};
 ghost use Rattle.zp_script.specs.Effects.{opened};
 ghost use Rattle.zp_script.specs.Faults.{connection_fault};
-ghost use Rattle.zp_script.specs.Worlds.{Conn, Connection, after_step, conn_at, is_open_conn, with_conn, zxid_at};
-ghost use Rattle.zp_script.specs.Kinds.{kind_asked};
-ghost use Rattle.zp_script.specs.StepOutcomes.{acts_all, leaves};
-ghost use Rattle.zp_step.specs.Stages.{Core as AnyCore, counted_up, is_shut};
+ghost use Rattle.zp_script.specs.Worlds.{Conn, conn_at, is_open_conn, with_conn};
+ghost use Rattle.zp_step.specs.Stages.{is_shut};
 ghost use Rattle.zp_step.specs.Steps.{Steps};
 ghost use Rattle.zp_step.specs.declared.input.Input.TheVariants as input;
-ghost use Rattle.zp_world.specs.Doing.{Stepped, left};
+ghost use Rattle.zp_world.specs.Doing.{acted, left};
 ghost use Rattle.zp_world.specs.Flying.{IsFitFlight, IsServed};
 ghost use Rattle.zp_world.specs.Leaving.{Leaves};
-ghost use Rattle.zp_world.specs.Taking.{IsConnectionAt, IsCut, IsLeft, IsServing, Takes, left_next, shown};
+ghost use Rattle.zp_world.specs.Taking.{FrameComes, IsConnectionAt, IsCut, IsLeft, IsServing, StepsByFrame, left_next, shown};
 
 use crate::activity::{Activity, Actor, Seat};
 use crate::formed::{are_bytes, is_number, is_signed};
@@ -61,7 +59,7 @@ impl World {
         let zxid = self.last_zxid()?;
         let piece = self.cut(connection, bytes)?;
         let Piece { frames, bad, place } = piece;
-        self.take_frames(connection, zxid, frames)?;
+        self.take_frames(Arrival { connection, zxid }, frames)?;
         self.take_length(connection, place, bad)
     }
 
@@ -70,7 +68,7 @@ impl World {
         ensures short { IfOk result (λ piece. All (λ frame. length frame ≤ max_frame) piece.frames.items) }
         ensures cuts { IfOk result (λ piece. (x : Conn) → conn_at connection self.old ≡ Some x → IsCut connection self.old x bytes.now piece.frames.items piece.bad piece.place self.new) }
     {
-        let Some(activity) = self.activities.take(connection) else {
+        let Some(activity) = self.activities.take(connection)? else {
             return Ok(Piece {
                 frames: Vec::new(self.alloc),
                 bad: None,
@@ -111,7 +109,7 @@ impl World {
         let Cut { frames, bad, inbox } = cut;
         let place = inbox.place();
         self.keep(connection, inbox)?;
-        self.take_frames(connection, zxid, frames)?;
+        self.take_frames(Arrival { connection, zxid }, frames)?;
         self.take_length(connection, place, bad)
     }
 
@@ -119,7 +117,7 @@ impl World {
     fn keep(&mut self, connection: u32, inbox: Inbox) -> Result<(), Memory>
         ensures { OnOk result ((x : Conn) → conn_at connection self.old ≡ Some x → self.new ≡ with_conn self.old connection (record x { stream = inbox })) }
     {
-        let Some(activity) = self.activities.take(connection) else {
+        let Some(activity) = self.activities.take(connection)? else {
             return Ok(());
         };
         let Activity {
@@ -143,13 +141,13 @@ impl World {
     }
 
     /// Frames come, in order.
-    fn take_frames(&mut self, connection: u32, zxid: i64, frames: Vec<Bytes>) -> Result<(), Memory>
+    fn take_frames(&mut self, arrival: Arrival, frames: Vec<Bytes>) -> Result<(), Memory>
         requires { All (λ frame. length frame ≤ max_frame) frames.items }
-        ensures { OnOk result (IsServing connection zxid frames.items self.old → FramesArrive connection self.old frames.items self.new) }
+        ensures { OnOk result (IsServing arrival.connection arrival.zxid frames.items self.old → FramesArrive arrival.connection self.old frames.items self.new) }
     {
         let mut coming = frames.into_iter();
         while let Some(frame) = coming.next() {
-            self.take_frame(connection, zxid, frame, &mut coming)?;
+            self.take_frame(arrival, frame, &mut coming)?;
         }
         Ok(())
     }
@@ -182,16 +180,15 @@ impl World {
     /// A frame comes, and others came with it.
     fn take_frame(
         &mut self,
-        connection: u32,
-        zxid: i64,
+        arrival: Arrival,
         bytes: Bytes,
         after: &mut IntoIter<Bytes>,
     ) -> Result<(), Memory>
         requires { length bytes ≤ max_frame }
         ensures left { OnOk result (IsLeft (into_iter_items after.old) (into_iter_items after.new)) }
-        ensures takes { OnOk result ((x : Conn) (core : AnyCore) → conn_at connection self.old ≡ Some x → x.actor ≡ Connection core → zxid ≡ zxid_at self.old.store → Takes connection self.old x bytes (into_iter_items after.old) self.new (into_iter_items after.new)) }
+        ensures takes { OnOk result (FrameComes arrival self.old bytes (into_iter_items after.old) self.new (into_iter_items after.new)) }
     {
-        let Some(activity) = self.activities.take(connection) else {
+        let Some(activity) = self.activities.take(arrival.connection)? else {
             return Ok(());
         };
         let Activity {
@@ -201,10 +198,10 @@ impl World {
         } = activity;
         match actor {
             Actor::Connection(core) => {
-                self.step_by_frame(connection, seat, core, flight, zxid, bytes, after)
+                self.step_by_frame(arrival, seat, core, flight, bytes, after)
             }
             Actor::Reaper(_) | Actor::Closed => self.activities.put(
-                connection,
+                arrival.connection,
                 Activity {
                     seat,
                     actor,
@@ -217,56 +214,48 @@ impl World {
     /// A connection takes a step by a frame, which is shown before what it does.
     fn step_by_frame(
         &mut self,
-        connection: u32,
+        arrival: Arrival,
         seat: Seat,
-        core: Core,
+        mut core: Box<Core>,
         flight: Option<Flight>,
-        zxid: i64,
         bytes: Bytes,
         after: &mut IntoIter<Bytes>,
     ) -> Result<(), Memory>
-        requires served { IsServed core flight }
+        requires served { IsServed core.value flight }
         requires short { length bytes ≤ max_frame }
-        ensures after { OnOk result (into_iter_items after.new ≡ (if is_open_conn (conn_at connection self.new) then into_iter_items after.old else [])) }
-        ensures done { OnOk result (Stepped connection (frame_lines connection (counted_up (seat.frames + 1)) zxid (into_iter_items after.old)) (shown connection self.old zxid seat bytes) (left_next seat) core flight (input.Frame bytes) self.new) }
+        ensures after { OnOk result (into_iter_items after.new ≡ (if is_open_conn (conn_at arrival.connection self.new) then into_iter_items after.old else [])) }
+        ensures done { OnOk result (StepsByFrame arrival self.old seat core.value flight bytes (into_iter_items after.old) self.new) }
     {
-        let mut core = core;
         let stepped = step_with(self.alloc, &mut core, bytes, self.clock)?;
-        self.act_on_frame(connection, seat, core, flight, stepped, zxid, after)
+        self.act_on_frame(arrival, seat, core, flight, stepped, after)
     }
 
     /// The frame is shown, and what the step by it does is done.
     fn act_on_frame(
         &mut self,
-        connection: u32,
+        arrival: Arrival,
         seat: Seat,
-        core: Core,
+        core: Box<Core>,
         flight: Option<Flight>,
         stepped: SteppedFrame,
-        zxid: i64,
         after: &mut IntoIter<Bytes>,
     ) -> Result<(), Memory>
-        requires leaves { Leaves flight core stepped.out.items }
+        requires leaves { Leaves flight core.value stepped.out.items }
         requires fit { IsFitFlight flight }
-        ensures after { OnOk result (into_iter_items after.new ≡ (if is_shut core.stage then [] else into_iter_items after.old)) }
-        ensures done { OnOk result (self.new ≡ leaves connection (shown connection self.old zxid seat stepped.bytes) (left_next seat) (after_step core) (acts_all connection (kind_asked connection (Connection core)) (frame_lines connection (counted_up (seat.frames + 1)) zxid (into_iter_items after.old)) flight stepped.out.items)) }
+        ensures after { OnOk result (into_iter_items after.new ≡ (if is_shut core.value.stage then [] else into_iter_items after.old)) }
+        ensures done { OnOk result (self.new ≡ acted arrival (shown arrival self.old seat stepped.bytes) (left_next seat) core.value (into_iter_items after.old) flight stepped.out.items) }
     {
         let SteppedFrame { bytes, out } = stepped;
-        self.show_frame(connection, seat.frames.number(), zxid, bytes)?;
+        self.show_frame(arrival, seat.frames.number(), bytes)?;
         let seat = seat_after(seat)?;
-        self.act(connection, seat, core, flight, out, zxid, after)
+        self.act(arrival, seat, core, flight, out, after)
     }
 
     /// A frame is shown.
-    fn show_frame(
-        &mut self,
-        connection: u32,
-        index: u64,
-        zxid: i64,
-        bytes: Bytes,
-    ) -> Result<(), Memory>
-        ensures { OnOk result (self.new ≡ record self.old { lines = self.old.lines ++ FrameLine connection index zxid bytes ∷ [] }) }
+    fn show_frame(&mut self, arrival: Arrival, index: u64, bytes: Bytes) -> Result<(), Memory>
+        ensures { OnOk result (self.new ≡ record self.old { lines = self.old.lines ++ FrameLine arrival.connection index arrival.zxid bytes ∷ [] }) }
     {
+        let Arrival { connection, zxid } = arrival;
         are_bytes(bytes.as_slice());
         is_number(index);
         is_signed(zxid);
@@ -277,6 +266,13 @@ impl World {
             bytes,
         })
     }
+}
+
+/// A connection's number, and the zxid at which its frames are shown.
+#[derive(Clone, Copy)]
+pub(crate) struct Arrival {
+    pub(crate) connection: u32,
+    pub(crate) zxid: i64,
 }
 
 /// What was cut from a connection's stream.

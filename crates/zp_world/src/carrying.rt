@@ -45,7 +45,7 @@ impl World {
         requires { fault self.old (line.Exec connection) ≡ None }
         ensures { OnOk result (Executes connection self.old self.new) }
     {
-        let Some(activity) = self.activities.take(connection) else {
+        let Some(activity) = self.activities.take(connection)? else {
             unreachable!()
         };
         let Activity {

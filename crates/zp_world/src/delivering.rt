@@ -16,10 +16,11 @@ ghost use Rattle.zs_reap.specs.Steps.{IsReaperHeld, MayStepReaper};
 ghost use Rattle.zt_text.specs.declared.script.Happening.TheVariants as line;
 ghost use Rattle.zt_text.specs.Transcripts.{IsWellFormedKind};
 ghost use Rattle.zp_world.specs.Activities.{actor_of};
-ghost use Rattle.zp_world.specs.Doing.{Stepped, ended, left, seated};
+ghost use Rattle.zp_world.specs.Doing.{ReapsFrom, Stepped, ended, left, seated};
 ghost use Rattle.zp_world.specs.Flying.{IsActive, IsFitFlight, LeavesFree, MayFail};
 
 use crate::activity::{Activity, Actor, Seat};
+use crate::arriving::Arrival;
 use crate::formed::kind_is_formed;
 use crate::refusals::MAX_KEPT;
 use crate::world::World;
@@ -38,7 +39,7 @@ impl World {
         requires { (x : Conn) (core : AnyCore) → conn_at connection self.old ≡ Some x → x.actor ≡ Connection core → IsFit core input.now × LeavesFree x.flight input.now }
         ensures { OnOk result ((x : Conn) (core : AnyCore) → conn_at connection self.old ≡ Some x → x.actor ≡ Connection core → Handed connection [] self.old input.now self.new) }
     {
-        let Some(activity) = self.activities.take(connection) else {
+        let Some(activity) = self.activities.take(connection)? else {
             return Ok(());
         };
         let Activity {
@@ -64,20 +65,24 @@ impl World {
         &mut self,
         connection: u32,
         seat: Seat,
-        core: Core,
+        mut core: Box<Core>,
         flight: Option<Flight>,
         input: &Input,
     ) -> Result<(), Memory>
-        requires open { is_shut core.stage ≡ false }
-        requires fit { IsFit core input.now }
+        requires open { is_shut core.value.stage ≡ false }
+        requires fit { IsFit core.value input.now }
         requires free { LeavesFree flight input.now }
         requires flight { IsFitFlight flight }
-        ensures { OnOk result (Stepped connection [] self.old (left seat) core flight input.now self.new) }
+        ensures { OnOk result (Stepped connection [] self.old (left seat) core.value flight input.now self.new) }
     {
-        let mut core = core;
         let out = core.step(input, self.clock)?;
         let mut after = Vec::new(self.alloc).into_iter();
-        self.act(connection, seat, core, flight, out, 0, &mut after)
+        // No frame is shown, so its zxid says nothing.
+        let arrival = Arrival {
+            connection,
+            zxid: 0,
+        };
+        self.act(arrival, seat, core, flight, out, &mut after)
     }
 
     /// The answer to an ask is delivered. That of a denied ask is a failure.
@@ -85,7 +90,7 @@ impl World {
         requires { fault self.old (line.Answer connection) ≡ None }
         ensures { OnOk result (Delivers connection self.old self.new (flight_at connection self.old)) }
     {
-        let Some(activity) = self.activities.take(connection) else {
+        let Some(activity) = self.activities.take(connection)? else {
             return Ok(());
         };
         let Activity {
@@ -126,7 +131,7 @@ impl World {
         requires { ask_fault connection self.old None ≡ None }
         ensures { OnOk result (FailureComes connection self.old self.new) }
     {
-        let Some(activity) = self.activities.take(connection) else {
+        let Some(activity) = self.activities.take(connection)? else {
             return Ok(());
         };
         let Activity {
@@ -142,7 +147,7 @@ impl World {
         requires { ask_fault connection self.old None ≡ None }
         ensures { OnOk result (FailureComes connection (landed connection self.old) self.new) }
     {
-        let Some(activity) = self.activities.take(connection) else {
+        let Some(activity) = self.activities.take(connection)? else {
             return Ok(());
         };
         let Activity { seat, actor, .. } = activity;
@@ -226,7 +231,8 @@ impl World {
         ensures { OnOk result (Reaps number self.old None self.new (new_reaper proxy id) (new_reap id)) }
     {
         let seat = Seat::new(self.alloc, proxy);
-        self.reap_on(number, seat, Reaper::new(self.alloc, id), None)
+        let reaper = Box::new(self.alloc, Reaper::new(self.alloc, id))?;
+        self.reap_on(number, seat, reaper, None)
     }
 
     /// A reaper takes a step, and what it does is done.
@@ -234,13 +240,12 @@ impl World {
         &mut self,
         number: u32,
         seat: Seat,
-        reaper: Reaper,
+        mut reaper: Box<Reaper>,
         answer: Option<&Answer>,
     ) -> Result<(), Memory>
-        requires { MayStepReaper reaper (option_copied answer) }
-        ensures { OnOk result ((x : Conn) → x.proxy ≡ seat.proxy → x.stream ≡ seat.inbox → x.frames ≡ seat.frames → x.flight ≡ None → Reaps number self.old (option_copied answer.entry) self.new x reaper) }
+        requires { MayStepReaper reaper.value (option_copied answer) }
+        ensures { OnOk result (ReapsFrom number self.old seat (option_copied answer.entry) self.new reaper.value) }
     {
-        let mut reaper = reaper;
         match reaper.step(answer) {
             Ok(ReapStep::Ask(ask)) => {
                 let kind = reap_kind(&reaper);

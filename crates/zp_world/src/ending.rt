@@ -5,21 +5,20 @@ ghost use Rattle.std.specs.Vec.Iter.{into_iter_items};
 ghost use Rattle.zp_core.specs.Held.{IsHeld};
 ghost use Rattle.zk_service.specs.declared.cause.Cause.TheVariants as cause;
 ghost use Rattle.zk_transcript.specs.declared.transcript.TranscriptLine.TheVariants.{Close as CloseLine};
-ghost use Rattle.zp_script.specs.Arriving.{frame_lines};
 ghost use Rattle.zp_script.specs.Effects.{restarted};
-ghost use Rattle.zp_script.specs.Kinds.{kind_asked};
 ghost use Rattle.zp_step.specs.Kinds.{kind_in_stage};
-ghost use Rattle.zp_script.specs.StepOutcomes.{acts, acts_all, ended_by, leaves, left_by, quiet};
-ghost use Rattle.zp_script.specs.Worlds.{Closed, Conn, Connection as AConnection, after_step, conn_at, with_conn};
+ghost use Rattle.zp_script.specs.StepOutcomes.{acts, ended_by, leaves, left_by, quiet};
+ghost use Rattle.zp_script.specs.Worlds.{Closed, Conn, after_step, conn_at, with_conn};
 ghost use Rattle.zp_step.specs.Stages.{is_shut};
 ghost use Rattle.zt_text.specs.Transcripts.{IsWellFormedKind};
 ghost use Rattle.zp_world.specs.Activities.{actor_of};
 ghost use Rattle.zp_world.specs.Adding.{added, frames_left};
-ghost use Rattle.zp_world.specs.Doing.{left};
+ghost use Rattle.zp_world.specs.Doing.{acted, left, lines_after, outcome};
 ghost use Rattle.zp_world.specs.Flying.{IsFitFlight, IsFlyingOf};
 ghost use Rattle.zp_world.specs.Leaving.{Leaves};
 
 use crate::activity::{Activity, Actor, Seat};
+use crate::arriving::Arrival;
 use crate::formed::{are_bytes, end_is_formed, is_number, is_signed, kind_is_formed};
 use crate::world::World;
 use std::vec::IntoIter;
@@ -36,24 +35,23 @@ impl World {
     /// end.
     pub(crate) fn act(
         &mut self,
-        connection: u32,
+        arrival: Arrival,
         seat: Seat,
-        core: Core,
+        core: Box<Core>,
         flight: Option<Flight>,
         out: Vec<Action>,
-        zxid: i64,
         after: &mut IntoIter<Bytes>,
     ) -> Result<(), Memory>
-        requires leaves { Leaves flight core out.items }
+        requires leaves { Leaves flight core.value out.items }
         requires fit { IsFitFlight flight }
-        ensures after { OnOk result (into_iter_items after.new ≡ (if is_shut core.stage then [] else into_iter_items after.old)) }
-        ensures done { OnOk result (self.new ≡ leaves connection self.old (left seat) (after_step core) (acts_all connection (kind_asked connection (AConnection core)) (frame_lines connection seat.frames zxid (into_iter_items after.old)) flight out.items)) }
+        ensures after { OnOk result (into_iter_items after.new ≡ (if is_shut core.value.stage then [] else into_iter_items after.old)) }
+        ensures done { OnOk result (self.new ≡ acted arrival self.old (left seat) core.value (into_iter_items after.old) flight out.items) }
     {
         let first = seat.frames.number();
-        let flight = self.act_all(connection, &core, flight, out, first, zxid, after)?;
+        let flight = self.act_all(arrival, &core, flight, out, first, after)?;
         let actor = actor_after(core);
         self.activities.put(
-            connection,
+            arrival.connection,
             Activity {
                 seat,
                 actor,
@@ -65,26 +63,25 @@ impl World {
     /// The actions of a step are done, in order; what is out then.
     fn act_all(
         &mut self,
-        connection: u32,
+        arrival: Arrival,
         core: &Core,
         flight: Option<Flight>,
         out: Vec<Action>,
         first: u64,
-        zxid: i64,
         after: &mut IntoIter<Bytes>,
     ) -> Result<Option<Flight>, Memory>
         requires leaves { Leaves flight core.now out.items }
         requires fit { IsFitFlight flight }
         ensures after { OnOk result (into_iter_items after.new ≡ (if is_shut core.now.stage then [] else into_iter_items after.old)) }
-        ensures out { IfOk result (λ f. f ≡ (acts_all connection (kind_asked connection (AConnection core.now)) (frame_lines connection first zxid (into_iter_items after.old)) flight out.items).flight) }
+        ensures out { IfOk result (λ f. f ≡ (outcome arrival core.now first (into_iter_items after.old) flight out.items).flight) }
         ensures fit { IfOk result IsFitFlight }
         ensures flies { IfOk result (λ f. is_shut core.now.stage ≡ false → IsFlyingOf core.now f) }
-        ensures done { OnOk result (self.new ≡ added self.old (acts_all connection (kind_asked connection (AConnection core.now)) (frame_lines connection first zxid (into_iter_items after.old)) flight out.items)) }
+        ensures done { OnOk result (self.new ≡ added self.old (outcome arrival core.now first (into_iter_items after.old) flight out.items)) }
     {
-        let kind = kind_of(core, connection);
+        let kind = kind_of(core, arrival.connection);
         let mut flight = flight;
         for action in out {
-            flight = self.act_once(connection, kind, flight, action, first, zxid, after)?;
+            flight = self.act_once(arrival, kind, flight, action, first, after)?;
         }
         Ok(flight)
     }
@@ -92,19 +89,19 @@ impl World {
     /// One action is done; what is out then.
     fn act_once(
         &mut self,
-        connection: u32,
+        arrival: Arrival,
         kind: Option<UpdateKind>,
         flight: Option<Flight>,
         action: Action,
         first: u64,
-        zxid: i64,
         after: &mut IntoIter<Bytes>,
     ) -> Result<Option<Flight>, Memory>
         requires { IsFitFlight flight }
         ensures after { OnOk result (into_iter_items after.new ≡ frames_left action (into_iter_items after.old)) }
-        ensures out { IfOk result (λ f. f ≡ (acts connection kind (frame_lines connection first zxid (into_iter_items after.old)) (quiet flight) action).flight) }
-        ensures done { OnOk result (self.new ≡ added self.old (acts connection kind (frame_lines connection first zxid (into_iter_items after.old)) (quiet flight) action)) }
+        ensures out { IfOk result (λ f. f ≡ (acts arrival.connection kind (lines_after arrival first (into_iter_items after.old)) (quiet flight) action).flight) }
+        ensures done { OnOk result (self.new ≡ added self.old (acts arrival.connection kind (lines_after arrival first (into_iter_items after.old)) (quiet flight) action)) }
     {
+        let connection = arrival.connection;
         match action {
             Action::Send(bytes) => {
                 are_bytes(bytes.as_slice());
@@ -114,7 +111,7 @@ impl World {
             }
             Action::Ask(ask) => Ok(Some(Flight::Out(Asking { ask, kind }))),
             Action::Close(why) => {
-                show_frames(&mut self.transcript, connection, first, zxid, after)?;
+                show_frames(&mut self.transcript, arrival, first, after)?;
                 self.show_end(connection, Ended::Cause(why), flight)?;
                 Ok(None)
             }
@@ -168,7 +165,7 @@ impl World {
     fn stop(&mut self, number: u32) -> Result<(), Memory>
         ensures { OnOk result ((x : Conn) → conn_at number self.old ≡ Some x → self.new ≡ leaves number self.old x Closed (ended_by number cause.Restart x.flight)) }
     {
-        let Some(activity) = self.activities.take(number) else {
+        let Some(activity) = self.activities.take(number)? else {
             return Ok(());
         };
         let Activity { seat, flight, .. } = activity;
@@ -180,14 +177,14 @@ impl World {
 /// These frames are shown; `first` is the index of the first of them.
 fn show_frames(
     transcript: &mut Transcript,
-    connection: u32,
+    arrival: Arrival,
     first: u64,
-    zxid: i64,
     frames: &mut IntoIter<Bytes>,
 ) -> Result<(), Memory>
     ensures none { OnOk result (into_iter_items frames.new ≡ []) }
-    ensures shown { OnOk result (transcript.new ≡ transcript.old ++ frame_lines connection first zxid (into_iter_items frames.old)) }
+    ensures shown { OnOk result (transcript.new ≡ transcript.old ++ lines_after arrival first (into_iter_items frames.old)) }
 {
+    let Arrival { connection, zxid } = arrival;
     let mut index = first;
     is_signed(zxid);
     while let Some(bytes) = frames.next() {
@@ -205,8 +202,8 @@ fn show_frames(
 }
 
 /// What is left of a connection after a step.
-fn actor_after(core: Core) -> Actor
-    ensures { actor_of result ≡ after_step core }
+fn actor_after(core: Box<Core>) -> Actor
+    ensures { actor_of result ≡ after_step core.value }
 {
     match core.wants() {
         Wants::Nothing => Actor::Closed,

@@ -74,16 +74,16 @@ impl Slot {
     }
 
     /// The same, taken out of the slot. A connection to which nothing has come gets its core.
-    pub fn into_activity(self, alloc: Global) -> Activity
-        ensures { result ≡ self }
+    pub fn into_activity(self, alloc: Global) -> Result<Activity, Memory>
+        ensures { IfOk result (λ activity. activity ≡ self) }
     {
         match self.content {
-            Content::Opened { proxy, fresh } => Activity {
+            Content::Opened { proxy, fresh } => Ok(Activity {
                 seat: Seat::new(alloc, proxy),
-                actor: Actor::Connection(Core::new(alloc, fresh)),
+                actor: Actor::Connection(Box::new(alloc, Core::new(alloc, fresh))?),
                 flight: None,
-            },
-            Content::Full(activity) => Box::into_inner(activity),
+            }),
+            Content::Full(activity) => Ok(Box::into_inner(activity)),
         }
     }
 

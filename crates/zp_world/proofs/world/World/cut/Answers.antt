@@ -11,7 +11,7 @@ use Rattle.zp_world.proofs.world.World.cut.Goals as goal
 
 pub returns-clause-cuts : goal.returns-clause-cuts
 returns-clause-cuts c =
-    let found : conn_at c.args.connection c.args.self.now ≡ Some c.in-Some.activity = ap (λ (w : World). get w.conns c.args.connection) (sym c.self.view_is) ∙ sym c.in-Some.ensures.taken in
+    let found : conn_at c.args.connection c.args.self.now ≡ Some c.in-Some.activity = ap (λ (w : World). get w.conns c.args.connection) (sym c.self.view_is) ∙ sym c.in_ok-activity.ensures.taken ∙ c.in-Some.is in
     let cut = c.in_ok-cut.cut in
     λ x there.
     let same : c.in-Some.activity ≡ x = some_is (sym found ∙ there) in
@@ -20,5 +20,5 @@ returns-clause-cuts c =
       stream = cut.inbox;
       cuts = subst (λ (s : Stream). CutsFrames s c.args.bytes.now cut.frames.items cut.bad cut.inbox) stream c.in_ok-cut.ensures.cuts;
       at = c.place-place.ensures;
-      kept = kept-inbox c.args.connection c.args.self.now _ c.put.new.self c.take.new.self x c.in-Some.activity c.activity.inside.seat (actor_of c.activity.inside.actor) c.activity.inside.flight cut.inbox c.self.view_is there found c.activity.view_is c.in-Some.ensures.left c.in_ok-put.ensures;
+      kept = kept-inbox c.args.connection c.args.self.now _ c.put.new.self c.take.new.self x c.in-Some.activity c.activity.inside.seat (actor_of c.activity.inside.actor) c.activity.inside.flight cut.inbox c.self.view_is there found c.activity.view_is c.take.ensures.left c.in_ok-put.ensures;
     }

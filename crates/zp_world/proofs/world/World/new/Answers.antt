@@ -1,4 +1,4 @@
-use Rattle.std.proofs.Common.{rules, ◌≡◌, subst, arith}
+use Rattle.std.proofs.Common.{subst, arith}
 use Rattle.zp_script.specs.Worlds.{World}
 use Rattle.zp_world.specs.Activities.{AreWithin}
 use Rattle.zp_world.proofs.Beginning.{begun-stands}

@@ -13,10 +13,10 @@ use Rattle.zp_world.proofs.world.World.stop.Goals as goal
 
 pub returns : goal.returns
 returns c =
-    let apart = opened-apart c.args.number c.args.self.now _ c.take.new.self c.self.view_is c.in-Some.ensures.left in
+    let apart = opened-apart c.args.number c.args.self.now _ c.take.new.self c.self.view_is c.take.ensures.left in
     on_ok_weaker c.close.result
     (λ closed. λ x there.
     closed
     ∙ ends-apart c.args.number c.args.self.now c.show_end.new.self x c.activity.inside.seat (actor_of c.activity.inside.actor) c.activity.inside.flight (ended.Cause cause.Restart)
-    (some_is (sym there ∙ ap (λ (w : World). get w.conns c.args.number) (sym c.self.view_is) ∙ sym c.in-Some.ensures.taken) ∙ sym c.activity.view_is)
+    (some_is (sym there ∙ ap (λ (w : World). get w.conns c.args.number) (sym c.self.view_is) ∙ sym c.in_ok-activity.ensures.taken ∙ c.in-Some.is) ∙ sym c.activity.view_is)
     (c.in_ok-show_end.ensures ∙ ap (λ (v : World). record v { lines = v.lines ++ CloseLine c.args.number (ended.Cause cause.Restart) ∷ []; strays = v.strays ++ left_by c.activity.inside.flight }) apart)) c.close.ensures

@@ -1,5 +1,4 @@
-use Rattle.std.proofs.Common.{◌≡◌, sym, ap, ◌∙◌, of_z, to_z, w64}
-use Rattle.std.proofs.lemmas.Int.{to_z-of_z}
+use Rattle.std.proofs.Common.{◌≡◌, sym, ap, ◌∙◌}
 use Rattle.std.specs.Prelude.{Some}
 use Rattle.std.specs.FinMap.{get}
 use Rattle.std.proofs.lemmas.Result.{on_ok_weaker}
@@ -15,8 +14,8 @@ returns-in-Connection-clause-left c = on_ok_weaker c.step_by_frame.result (λ le
 
 pub returns-in-Connection-clause-takes : goal.returns-in-Connection-clause-takes
 returns-in-Connection-clause-takes c =
-    let apart = opened-apart c.args.connection c.args.self.now _ c.take.new.self c.self.view_is c.in-Some.ensures.left in
-    let taken : conn_at c.args.connection c.args.self.now ≡ Some c.in-Some.activity = ap (λ (w : World). get w.conns c.args.connection) (sym c.self.view_is) ∙ sym c.in-Some.ensures.taken in
+    let apart = opened-apart c.args.arrival.connection c.args.self.now _ c.take.new.self c.self.view_is c.take.ensures.left in
+    let taken : conn_at c.args.arrival.connection c.args.self.now ≡ Some c.in-Some.activity = ap (λ (w : World). get w.conns c.args.arrival.connection) (sym c.self.view_is) ∙ sym c.in_ok-activity.ensures.taken ∙ c.in-Some.is in
     on-ok-both c.step_by_frame.result c.step_by_frame.ensures.after c.step_by_frame.ensures.done
-    (λ left done. λ x core there is zxid. takes-apart c.args.connection c.args.self.now _ c.step_by_frame.new.self x c.in-Some.activity c.activity.inside.seat (actor_of c.activity.inside.actor) c.in-Connection.core c.activity.inside.flight (to_z w64 (of_z w64 c.args.zxid)) c.args.bytes _ _
-    there taken c.activity.view_is (ap (λ (a : Role). actor_of a) c.in-Connection.is) apart (to_z-of_z w64 c.args.zxid c.ranges.zxid ∙ zxid) left done)
+    (λ left done. λ x core there is zxid. takes-apart c.args.arrival c.args.self.now _ c.step_by_frame.new.self x c.in-Some.activity c.activity.inside.seat (actor_of c.activity.inside.actor) c.in-Connection.core.value c.activity.inside.flight c.args.bytes _ _
+    there taken c.activity.view_is (ap (λ (a : Role). actor_of a) c.in-Connection.is) apart zxid left done)
