@@ -36,7 +36,7 @@ abbrev pub frame_as : FrameRead → Frame
 frame_as read.NoHeader = NoHeader
 frame_as (read.Unreadable xid place) = Unreadable xid place
 frame_as (read.Unknown xid kind) = Unknown xid kind
-frame_as (read.Asks xid r) = Asks xid r
+frame_as (read.Asks xid r) = Asks xid r.value
 
 -- some bytes, no longer than a frame may be, are read as this
 pub record IsShortFrame (f : Frame) : Type 0 where

@@ -24,7 +24,7 @@ pub enum FrameRead {
     /// The type of its request is not served.
     Unknown { xid: i32, kind: i32 },
     /// It asks for `request`.
-    Asks { xid: i32, request: Request },
+    Asks { xid: i32, request: Box<Request> },
 }
 
 /// What the bytes of a frame are read as.
@@ -32,7 +32,10 @@ pub fn frame_of(alloc: Global, bytes: &[u8]) -> Result<FrameRead, Memory>
     ensures { IfOk result (λ f. frame_as f ≡ read_request_of bytes.now) }
 {
     match read_request(alloc, bytes) {
-        Ok((xid, request)) => Ok(FrameRead::Asks { xid, request }),
+        Ok((xid, request)) => Ok(FrameRead::Asks {
+            xid,
+            request: Box::new(alloc, request)?,
+        }),
         Err(WireFault::NoHeader) => Ok(FrameRead::NoHeader),
         Err(WireFault::Unreadable { xid, place }) => Ok(FrameRead::Unreadable { xid, place }),
         Err(WireFault::Unknown { xid, kind }) => Ok(FrameRead::Unknown { xid, kind }),
@@ -103,7 +106,7 @@ pub fn asks_of_watches(frame: &FrameRead) -> bool
     ensures { result ≡ asks_of_watches_of (frame_as frame.now) }
 {
     match frame {
-        FrameRead::Asks { request, .. } => match request {
+        FrameRead::Asks { request, .. } => match &**request {
             Request::CheckWatches { .. } | Request::RemoveWatches { .. } => true,
             _ => false,
         },
