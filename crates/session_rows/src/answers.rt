@@ -1,11 +1,12 @@
 //! Answers of the etcd, tested before they are handed in.
 
-ghost use Rattle.std.specs.Prelude.{IfOk, IsTrue};
+ghost use Rattle.std.specs.Prelude.{IfOk, IfSome, IsTrue};
 ghost use Rattle.ev_store.specs.Asks.{IsGrantable};
 ghost use Rattle.zs_session.specs.Answering.{IsAnswerTo};
 
 use ev_store::{Denied, Store, StoreFault};
 use ev_types::{Answer, Ask};
+use row_files::{push, push_number};
 use std::alloc::Global;
 use zn_view::{are_numbers, is_count};
 use zx_base::Memory;
@@ -39,34 +40,42 @@ fn is_grantable(ask: &Ask) -> bool
     }
 }
 
-/// What the etcd answers, or the text of its denial: `no ask` and `no answer` where a number is out of range.
+/// What the etcd answers. Where it denies the ask, `None`, and the text of the denial is added: `no ask` and `no answer` where a
+/// number is out of range.
 pub fn answer_of(
     alloc: Global,
+    text: &mut String,
     store: &mut Store,
     ask: &Ask,
-) -> Result<Result<Answer, String>, Memory>
-    ensures { IfOk result (λ r. IfOk r (IsAnswerTo ask.now)) }
+) -> Result<Option<Answer>, Memory>
+    ensures { IfOk result (λ r. IfSome r (IsAnswerTo ask.now)) }
 {
     if !is_grantable(ask) {
-        return Ok(Err(String::from_str(alloc, "no ask")?));
+        push(text, "no ask")?;
+        return Ok(None);
     }
     match store.carry_out(ask) {
-        Ok(answer) if is_answer_to(ask, &answer) => Ok(Ok(answer)),
-        Ok(_) => Ok(Err(String::from_str(alloc, "no answer")?)),
-        Err(fault) => Ok(Err(fault_text(alloc, fault)?)),
+        Ok(answer) if is_answer_to(ask, &answer) => return Ok(Some(answer)),
+        Ok(_other) => push(text, "no answer")?,
+        Err(fault) => push_fault(alloc, text, &fault)?,
     }
+    Ok(None)
 }
 
-/// A denial as it stands in a row.
-pub fn fault_text(alloc: Global, fault: StoreFault) -> Result<String, Memory> {
+/// Adds a denial as it stands in a row.
+pub fn push_fault(alloc: Global, text: &mut String, fault: &StoreFault) -> Result<(), Memory> {
     match fault {
-        StoreFault::Denied(Denied::LeaseExists { id }) => Ok(format!(in alloc;
-            "denied: lease {id} exists"
-        )?),
-        StoreFault::Denied(Denied::NoLease { id }) => Ok(format!(in alloc;
-            "denied: no lease {id}"
-        )?),
-        StoreFault::Denied(_) => Ok(String::from_str(alloc, "denied")?),
+        StoreFault::Denied(Denied::LeaseExists { id }) => {
+            push_number(alloc, text, "denied: lease ", *id)?;
+            push(text, " exists")
+        }
+        StoreFault::Denied(Denied::NoLease { id }) => push_number(
+            alloc,
+            text,
+            "denied: no lease ",
+            *id,
+        ),
+        StoreFault::Denied(_) => push(text, "denied"),
         StoreFault::Memory => Err(Memory),
     }
 }

@@ -1,25 +1,27 @@
-//! What others do to the etcd.
+//! What others do to the etcd. Each adds the revision after it, or the denial; it is false where the words are others.
 
-use crate::answers::{answer_of, fault_text};
+use crate::answers::{answer_of, push_fault};
 use ev_store::Store;
 use ev_types::{Act, Ask, TxnReq};
-use row_files::{Words, bytes_of};
+use row_files::{Words, bytes_of, push_number};
 use std::alloc::Global;
 use zx_base::{Bytes, Memory, Seq};
 
-/// The revision of an ask's answer, or the denial.
-fn revision_after(alloc: Global, store: &mut Store, ask: &Ask) -> Result<Option<String>, Memory> {
-    match answer_of(alloc, store, ask)? {
-        Ok(answer) => {
-            let revision = answer.revision();
-            Ok(Some(format!(in alloc; "{revision}")?))
-        }
-        Err(denial) => Ok(Some(denial)),
+/// Adds the revision of an ask's answer, or the denial.
+fn push_revision(
+    alloc: Global,
+    text: &mut String,
+    store: &mut Store,
+    ask: &Ask,
+) -> Result<bool, Memory> {
+    if let Some(answer) = answer_of(alloc, text, store, ask)? {
+        push_number(alloc, text, "", answer.revision())?;
     }
+    Ok(true)
 }
 
-/// The revision after one operation, or the denial: it is carried out alone, with no guard.
-fn done(alloc: Global, store: &mut Store, act: Act) -> Result<Option<String>, Memory> {
+/// One operation is carried out alone, with no guard.
+fn done(alloc: Global, text: &mut String, store: &mut Store, act: Act) -> Result<bool, Memory> {
     let mut success = Seq::new(alloc);
     success.push(act)?;
     let txn = TxnReq {
@@ -27,58 +29,67 @@ fn done(alloc: Global, store: &mut Store, act: Act) -> Result<Option<String>, Me
         success,
         failure: Seq::new(alloc),
     };
-    revision_after(alloc, store, &Ask::Txn(txn))
+    push_revision(alloc, text, store, &Ask::Txn(txn))
 }
 
-/// `put KEY VALUE LEASE`: the revision after it, or the denial; none where the words are others
-pub fn put(alloc: Global, store: &mut Store, words: &mut Words) -> Result<Option<String>, Memory> {
+/// `put KEY VALUE LEASE`
+pub fn put(
+    alloc: Global,
+    text: &mut String,
+    store: &mut Store,
+    words: &mut Words,
+) -> Result<bool, Memory> {
     let (Some(key), Some(digits), Some(lease)) = (words.word(), words.word(), words.long()) else {
-        return Ok(None);
+        return Ok(false);
     };
     let Some(value) = bytes_of(alloc, digits)? else {
-        return Ok(None);
+        return Ok(false);
     };
-    let key = Bytes::copy_of(alloc, key.as_bytes())?;
     let value = Bytes::from_vec(value);
-    done(alloc, store, Act::Put { key, value, lease })
+    let key = Bytes::copy_of(alloc, key.as_bytes())?;
+    done(alloc, text, store, Act::Put { key, value, lease })
 }
 
-/// `delete KEY`: the revision after it, or the denial; none where the words are others
+/// `delete KEY`
 pub fn delete(
     alloc: Global,
+    text: &mut String,
     store: &mut Store,
     words: &mut Words,
-) -> Result<Option<String>, Memory> {
+) -> Result<bool, Memory> {
     let Some(key) = words.word() else {
-        return Ok(None);
+        return Ok(false);
     };
     let key = Bytes::copy_of(alloc, key.as_bytes())?;
-    done(alloc, store, Act::Delete { key })
+    done(alloc, text, store, Act::Delete { key })
 }
 
-/// `grant ID SECONDS`: the revision then, or the denial; none where the words are others
+/// `grant ID SECONDS`
 pub fn grant(
     alloc: Global,
+    text: &mut String,
     store: &mut Store,
     words: &mut Words,
-) -> Result<Option<String>, Memory> {
+) -> Result<bool, Memory> {
     let (Some(id), Some(ttl)) = (words.long(), words.long()) else {
-        return Ok(None);
+        return Ok(false);
     };
-    revision_after(alloc, store, &Ask::Grant { id, ttl })
+    push_revision(alloc, text, store, &Ask::Grant { id, ttl })
 }
 
-/// `lapse ID`: the revision after it, or the denial; none where the words are others
+/// `lapse ID`
 pub fn lapse(
     alloc: Global,
+    text: &mut String,
     store: &mut Store,
     words: &mut Words,
-) -> Result<Option<String>, Memory> {
+) -> Result<bool, Memory> {
     let Some(id) = words.long() else {
-        return Ok(None);
+        return Ok(false);
     };
     match store.lapse(id) {
-        Ok(revision) => Ok(Some(format!(in alloc; "{revision}")?)),
-        Err(fault) => Ok(Some(fault_text(alloc, fault)?)),
+        Ok(revision) => push_number(alloc, text, "", revision)?,
+        Err(fault) => push_fault(alloc, text, &fault)?,
     }
+    Ok(true)
 }

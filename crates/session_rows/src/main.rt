@@ -10,26 +10,21 @@ mod changes;
 mod closing;
 mod connects;
 mod reaps;
+mod waiting;
 mod words;
 
 use crate::changes::{delete, grant, lapse, put};
 use crate::closing::close;
-use crate::connects::{Begun, alive, begin};
-use crate::reaps::{BegunReap, begin_reap};
+use crate::connects::{alive, begin};
+use crate::reaps::begin_reap;
+use crate::waiting::Waiting;
 use anyhow::{Result, bail};
 use ev_store::Store;
-use row_files::{Rows, Words, argument_or, status_of, try_file};
+use row_files::{Rows, Words, argument_or, push_number, status_of, try_file};
 use std::alloc::Global;
+use std::mem;
 use std::process::ExitCode;
 use zx_base::Memory;
-
-/// What waits for an answer.
-#[derive(Drop)]
-enum Waiting {
-    Nothing,
-    Connect(Begun),
-    Reap(BegunReap),
-}
 
 /// The etcd, and what asks it.
 #[derive(Drop)]
@@ -40,102 +35,94 @@ struct Sessions {
 
 impl Rows for Sessions {
     fn found(&mut self, alloc: Global, left: &str) -> Result<Option<String>, Memory> {
-        let mut words = Words::new(left);
-        let Some(kind) = words.word() else {
-            return Ok(None);
-        };
-        let found = self.of_kind(alloc, kind, &mut words)?;
-        if words.word().is_some() {
-            return Ok(None);
-        }
-        Ok(found)
+        let mut text = String::new(alloc);
+        Ok(if self.carry_out(alloc, &mut text, left)? {
+            Some(text)
+        } else {
+            None
+        })
     }
 }
 
 impl Sessions {
-    /// What a row of this kind comes to, by its other words.
+    /// Does what a row says, and adds what comes of it; false where the row cannot be read.
+    fn carry_out(&mut self, alloc: Global, text: &mut String, row: &str) -> Result<bool, Memory> {
+        let mut words = Words::new(row);
+        let Some(kind) = words.word() else {
+            return Ok(false);
+        };
+        Ok(self.of_kind(alloc, text, kind, &mut words)? && words.word().is_none())
+    }
+
+    /// Adds what a row of this kind comes to, by its other words.
     fn of_kind(
         &mut self,
         alloc: Global,
+        text: &mut String,
         kind: &str,
         words: &mut Words,
-    ) -> Result<Option<String>, Memory> {
+    ) -> Result<bool, Memory> {
         match kind {
-            "new" => self.renew(alloc),
-            "put" => put(alloc, &mut self.store, words),
-            "delete" => delete(alloc, &mut self.store, words),
-            "grant" => grant(alloc, &mut self.store, words),
-            "lapse" => lapse(alloc, &mut self.store, words),
-            "alive" => alive(alloc, words),
-            "connect" => self.connect(alloc, words),
-            "reap" => self.reap(alloc, words),
-            "step" => self.step(alloc),
-            "close" => close(alloc, &mut self.store, words),
-            _ => Ok(None),
+            "new" => self.renew(alloc, text),
+            "put" => put(alloc, text, &mut self.store, words),
+            "delete" => delete(alloc, text, &mut self.store, words),
+            "grant" => grant(alloc, text, &mut self.store, words),
+            "lapse" => lapse(alloc, text, &mut self.store, words),
+            "alive" => alive(text, words),
+            "connect" => Ok(self.wait(begin(alloc, text, words)?)),
+            "reap" => Ok(self.wait(begin_reap(alloc, text, words)?)),
+            "step" => self.step(alloc, text),
+            "close" => close(alloc, text, &mut self.store, words),
+            _ => Ok(false),
         }
     }
 
-    fn renew(&mut self, alloc: Global) -> Result<Option<String>, Memory> {
-        self.store = Store::new(alloc)?;
-        self.waiting = Waiting::Nothing;
-        let revision = self.store.revision();
-        Ok(Some(format!(in alloc; "{revision}")?))
+    /// A new etcd, which nothing asks.
+    fn new(alloc: Global) -> Result<Sessions, Memory> {
+        Ok(Sessions {
+            store: Store::new(alloc)?,
+            waiting: Waiting::Nothing,
+        })
     }
 
-    fn connect(&mut self, alloc: Global, words: &mut Words) -> Result<Option<String>, Memory> {
-        let Some((text, begun)) = begin(alloc, words)? else {
-            return Ok(None);
-        };
-        self.waiting = match begun {
-            Some(begun) => Waiting::Connect(begun),
-            None => Waiting::Nothing,
-        };
-        Ok(Some(text))
+    fn renew(&mut self, alloc: Global, text: &mut String) -> Result<bool, Memory> {
+        *self = Sessions::new(alloc)?;
+        push_number(alloc, text, "", self.store.revision())?;
+        Ok(true)
     }
 
-    fn reap(&mut self, alloc: Global, words: &mut Words) -> Result<Option<String>, Memory> {
-        let Some((text, begun)) = begin_reap(alloc, words)? else {
-            return Ok(None);
-        };
-        self.waiting = match begun {
-            Some(begun) => Waiting::Reap(begun),
-            None => Waiting::Nothing,
-        };
-        Ok(Some(text))
+    /// This waits now; false where nothing was begun.
+    fn wait(&mut self, begun: Option<Waiting>) -> bool {
+        match begun {
+            Some(waiting) => {
+                self.waiting = waiting;
+                true
+            }
+            None => false,
+        }
     }
 
     /// Has what was asked carried out, and makes the next step.
-    fn step(&mut self, alloc: Global) -> Result<Option<String>, Memory> {
-        let waiting = std::mem::replace(&mut self.waiting, Waiting::Nothing);
-        match waiting {
-            Waiting::Nothing => Ok(None),
-            Waiting::Connect(begun) => {
-                let (text, left) = begun.go_on(alloc, &mut self.store)?;
-                if let Some(left) = left {
-                    self.waiting = Waiting::Connect(left);
-                }
-                Ok(Some(text))
-            }
-            Waiting::Reap(begun) => {
-                let (text, left) = begun.go_on(alloc, &mut self.store)?;
-                if let Some(left) = left {
-                    self.waiting = Waiting::Reap(left);
-                }
-                Ok(Some(text))
-            }
-        }
+    fn step(&mut self, alloc: Global, text: &mut String) -> Result<bool, Memory> {
+        self.waiting = match mem::replace(&mut self.waiting, Waiting::Nothing) {
+            Waiting::Nothing => return Ok(false),
+            Waiting::Connect(begun) => begun.go_on(alloc, text, &mut self.store)?,
+            Waiting::Reap(begun) => begun.go_on(alloc, text, &mut self.store)?,
+        };
+        Ok(true)
     }
 }
 
 /// Looks in the file that its first argument names, and without one in `sessions`.
 fn main(rt: HostRuntime) -> Result<ExitCode> {
     let file = argument_or(&rt, "sessions")?;
-    let Ok(store) = Store::new(rt.alloc()) else {
+    Ok(status_of(failed_in(&rt, file.as_str())?))
+}
+
+/// How many rows of a file differ.
+fn failed_in(rt: &HostRuntime, file: &str) -> Result<u64> {
+    let Ok(mut rows) = Sessions::new(rt.alloc()) else {
         bail!("out of memory");
     };
-    let mut rows = Sessions {
-        store,
-        waiting: Waiting::Nothing,
-    };
-    Ok(status_of(try_file(&rt, file.as_str(), &mut rows)?))
+    try_file(rt, file, &mut rows)
 }
