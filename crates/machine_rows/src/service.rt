@@ -1,14 +1,14 @@
 //! A service with one connection, which takes one step after another.
 
-use crate::texts::{node_text, reply_text, session_text, trigger_texts};
-use row_files::{Piece, Steps, Words, joined, push, said};
-use row_words::{notice_texts, request};
+use crate::texts::{push_body, push_node, push_notices, push_reply, push_session, push_triggers};
+use row_files::{Piece, Steps, Words, joined, push};
+use row_words::request;
 use std::alloc::Global;
 use std::mem;
 use zk_answers::{Told, Watches, plain_request, tree_reply};
-use zk_history::{Applied, Commit, Past, Session, State, apply, commit};
+use zk_history::{Commit, Past, Session, State, change, commit};
 use zk_machine::{Fault, Turn, begin};
-use zk_model::{ConnectRequest, Reply, Request};
+use zk_model::{ConnectRequest, Request, Trigger};
 use zk_service::{UpdateKind, UpdateRec};
 use zk_transcript::TranscriptLine;
 use zx_base::{Bytes, Memory, Seq};
@@ -25,23 +25,13 @@ pub struct Service {
 /// The time of each create, create2, delete, setData and multi, in milliseconds.
 const TIME: u64 = 1000;
 
-/// The value, or `None` where a number does not fit its field: the row does not go on then.
-fn or_stop<T: Drop>(outcome: Result<T, Fault>) -> Result<Option<T>, Memory> {
-    match outcome {
-        Ok(value) => Ok(Some(value)),
-        Err(Fault::Beyond) => Ok(None),
-        Err(Fault::Memory) => Err(Memory),
-    }
-}
-
 impl Steps for Service {
     fn step(&mut self, alloc: Global, step: &str) -> Result<Option<String>, Memory> {
-        let Some((word, rest)) = step.split_once(' ') else {
-            return self.shown(alloc, step, "");
-        };
-        match word.parse::<i64>() {
-            Ok(zxid) => self.at(alloc, zxid, rest),
-            Err(_) => self.shown(alloc, word, rest),
+        let mut text = String::new(alloc);
+        match self.take(alloc, &mut text, step) {
+            Ok(true) => Ok(Some(text)),
+            Ok(false) | Err(Fault::Beyond) => Ok(None),
+            Err(Fault::Memory) => Err(Memory),
         }
     }
 }
@@ -63,84 +53,117 @@ impl Service {
         })
     }
 
-    /// A step without a zxid: one that shows something of the service, or has a number.
-    fn shown(&mut self, alloc: Global, word: &str, rest: &str) -> Result<Option<String>, Memory> {
-        match word {
-            "count" => Ok(Some(self.count_text(alloc)?)),
-            "seen" => Ok(Some(trigger_texts(alloc, self.state.triggers())?)),
-            "node" => Ok(Some(node_text(alloc, self.state.tree(), rest.as_bytes())?)),
-            "begin" => begun(alloc, rest),
-            _ => match rest.parse::<i64>() {
-                Ok(number) => self.numbered(alloc, word, number),
-                Err(_) => Ok(None),
-            },
+    /// Takes a step, and adds what comes of it; false where it cannot be read. `Beyond` where a number does not fit its field:
+    /// the row does not go on then.
+    fn take(&mut self, alloc: Global, text: &mut String, step: &str) -> Result<bool, Fault> {
+        let Some((word, rest)) = step.split_once(' ') else {
+            return self.shown(alloc, text, step, "");
+        };
+        match word.parse::<i64>() {
+            Ok(zxid) => self.at(alloc, text, zxid, rest),
+            Err(_) => self.shown(alloc, text, word, rest),
         }
     }
 
+    /// A step without a zxid: one that shows something of the service, or has a number.
+    fn shown(
+        &mut self,
+        alloc: Global,
+        text: &mut String,
+        word: &str,
+        rest: &str,
+    ) -> Result<bool, Fault> {
+        match word {
+            "count" => self.push_count(alloc, text)?,
+            "seen" => push_triggers(text, self.state.triggers())?,
+            "node" => push_node(alloc, text, self.state.tree(), rest.as_bytes())?,
+            "begin" => return begun(alloc, text, rest),
+            _ => return self.numbered(alloc, text, word, rest),
+        }
+        Ok(true)
+    }
+
     /// The last zxid and the number of updates.
-    fn count_text(&self, alloc: Global) -> Result<String, Memory> {
+    fn push_count(&self, alloc: Global, text: &mut String) -> Result<(), Memory> {
         let pieces = [
             Piece::Number(self.state.zxid()),
             Piece::Text(" "),
             Piece::Count(self.state.updates()),
         ];
-        joined(alloc, &pieces)
+        push(text, joined(alloc, &pieces)?.as_str())
     }
 
     /// `session ID`, `as ID`, `limit N` or `lapse ID`
     fn numbered(
         &mut self,
         alloc: Global,
+        text: &mut String,
         word: &str,
-        number: i64,
-    ) -> Result<Option<String>, Memory> {
+        rest: &str,
+    ) -> Result<bool, Fault> {
+        let Ok(number) = rest.parse::<i64>() else {
+            return Ok(false);
+        };
         match word {
-            "session" => Ok(Some(session_text(alloc, self.state.session(number))?)),
+            "session" => push_session(alloc, text, self.state.session(number))?,
             "as" => {
                 self.session = number;
-                said(alloc, "ok")
+                push(text, "ok")?;
             }
             "limit" => {
                 let Ok(limit) = usize::try_from(number) else {
-                    return Ok(None);
+                    return Ok(false);
                 };
                 self.limit = limit;
-                said(alloc, "ok")
+                push(text, "ok")?;
             }
             "lapse" => self.line(
                 alloc,
+                text,
                 &TranscriptLine::Lapse {
                     revision: 0,
                     id: number,
                 },
-            ),
-            _ => Ok(None),
+            )?,
+            _ => return Ok(false),
         }
+        Ok(true)
     }
 
     /// A step at a zxid: a request, or an update of a session.
-    fn at(&mut self, alloc: Global, zxid: i64, rest: &str) -> Result<Option<String>, Memory> {
+    fn at(
+        &mut self,
+        alloc: Global,
+        text: &mut String,
+        zxid: i64,
+        rest: &str,
+    ) -> Result<bool, Fault> {
         let mut words = Words::new(rest);
         let kind = words.word();
         if kind == Some("begins") {
-            return self.begins(alloc, zxid, &mut words);
+            return self.begins(alloc, text, zxid, &mut words);
         }
-        match update_of(kind, &mut words) {
-            Some(kind) => self.line(alloc, &TranscriptLine::Update(UpdateRec { zxid, kind })),
-            None => self.requested(alloc, zxid, rest),
-        }
+        let Some(kind) = update_of(kind, &mut words) else {
+            return self.requested(alloc, text, zxid, rest);
+        };
+        self.line(
+            alloc,
+            text,
+            &TranscriptLine::Update(UpdateRec { zxid, kind }),
+        )?;
+        Ok(true)
     }
 
     /// A step that is a line of a transcript, for which no earlier line is looked up.
-    fn line(&mut self, alloc: Global, line: &TranscriptLine) -> Result<Option<String>, Memory> {
+    fn line(
+        &mut self,
+        alloc: Global,
+        text: &mut String,
+        line: &TranscriptLine,
+    ) -> Result<(), Fault> {
         let past = Past::new(alloc, &[]);
-        match or_stop(apply(alloc, &past, self.taken(alloc), line))? {
-            Some(Applied { state, .. }) => {
-                self.state = state;
-                said(alloc, "ok")
-            }
-            None => Ok(None),
-        }
+        self.state = change(alloc, &past, self.taken(alloc), line)?;
+        Ok(push(text, "ok")?)
     }
 
     /// Takes the state out.
@@ -152,37 +175,35 @@ impl Service {
     fn begins(
         &mut self,
         alloc: Global,
+        text: &mut String,
         zxid: i64,
         words: &mut Words,
-    ) -> Result<Option<String>, Memory> {
+    ) -> Result<bool, Fault> {
         let (Some(id), Some(connection), Some(timeout)) = (
             words.long(),
             words.number(),
             words.int(),
         ) else {
-            return Ok(None);
+            return Ok(false);
         };
         let session = session_of(alloc, id, connection, timeout, zxid)?;
         let opened = self.taken(alloc).with_session(id, session)?;
-        match or_stop(opened.advanced(zxid, Seq::new(alloc)))? {
-            Some(state) => {
-                self.state = state;
-                said(alloc, "ok")
-            }
-            None => Ok(None),
-        }
+        self.state = opened.advanced(zxid, Seq::new(alloc))?;
+        push(text, "ok")?;
+        Ok(true)
     }
 
     fn requested(
         &mut self,
         alloc: Global,
+        text: &mut String,
         zxid: i64,
         rest: &str,
-    ) -> Result<Option<String>, Memory> {
+    ) -> Result<bool, Fault> {
         let mut words = Words::new(rest);
         match request(alloc, &mut words)? {
-            Some(request) if words.word().is_none() => self.asked(alloc, zxid, request),
-            _ => Ok(None),
+            Some(request) if words.word().is_none() => self.asked(alloc, text, zxid, request),
+            _ => Ok(false),
         }
     }
 
@@ -190,82 +211,86 @@ impl Service {
     fn asked(
         &mut self,
         alloc: Global,
+        text: &mut String,
         zxid: i64,
         request: Request,
-    ) -> Result<Option<String>, Memory> {
-        if let Some(told) = plain_request(alloc, &self.watches, &request)? {
-            return self.told(alloc, told);
+    ) -> Result<bool, Fault> {
+        match self.answer(alloc, &request)? {
+            Some(told) => self.told(alloc, text, told),
+            None => self.carried_out(alloc, text, zxid, request),
         }
-        let looked = tree_reply(
+    }
+
+    /// The answer to a request without the tree, or else by the tree; `None` where it commits something.
+    fn answer(&self, alloc: Global, request: &Request) -> Result<Option<Told>, Fault> {
+        if let Some(told) = plain_request(alloc, &self.watches, request)? {
+            return Ok(Some(told));
+        }
+        tree_reply(
             alloc,
             self.state.tree(),
             self.limit,
             self.session,
             &self.watches,
-            &request,
-        );
-        match or_stop(looked)? {
-            None => Ok(None),
-            Some(Some(told)) => self.told(alloc, told),
-            Some(None) => self.carried_out(alloc, zxid, request),
-        }
+            request,
+        )
     }
 
     /// What is told: the reply, and after `told` the notices that come before it.
-    fn told(&mut self, alloc: Global, told: Told) -> Result<Option<String>, Memory> {
-        let mut text = reply_text(alloc, &told.reply)?;
-        if told.notices.len() != 0 {
-            push(&mut text, " told ")?;
-            push(
-                &mut text,
-                notice_texts(alloc, told.notices.as_slice())?.as_str(),
-            )?;
-        }
+    fn told(&mut self, alloc: Global, text: &mut String, told: Told) -> Result<bool, Fault> {
+        push_reply(alloc, text, &told.reply)?;
+        push_notices(alloc, text, told.notices.as_slice())?;
         self.watches = told.watches;
-        Ok(Some(text))
+        Ok(true)
     }
 
     /// A create, create2, delete, setData or multi is carried out.
     fn carried_out(
         &mut self,
         alloc: Global,
+        text: &mut String,
         zxid: i64,
         request: Request,
-    ) -> Result<Option<String>, Memory> {
+    ) -> Result<bool, Fault> {
         let turn = Turn {
             limit: self.limit,
             session: self.session,
             zxid,
             time: TIME,
         };
-        match or_stop(commit(alloc, self.state.tree(), &turn, request))? {
-            Some(Some(done)) => self.committed(alloc, zxid, done),
-            _ => Ok(None),
+        match commit(alloc, self.state.tree(), &turn, request)? {
+            Some(done) => self.committed(alloc, text, zxid, done),
+            None => Ok(false),
         }
     }
 
-    /// The notices that an update gives come before its reply.
+    /// What an update did: its reply, and after `told` the notices that it gives, which come before the reply.
     fn committed(
         &mut self,
         alloc: Global,
+        text: &mut String,
         zxid: i64,
         done: Commit,
-    ) -> Result<Option<String>, Memory> {
-        let armed = mem::replace(&mut self.watches, Watches::new(alloc));
-        let fired = armed.fire_all(alloc, done.triggers.as_slice())?;
+    ) -> Result<bool, Fault> {
+        push_body(alloc, text, &done.response)?;
+        self.fire(alloc, text, done.triggers.as_slice())?;
         let changed = self.taken(alloc).changed(alloc, done.change)?;
-        let Some(state) = or_stop(changed.advanced(zxid, done.triggers))? else {
-            return Ok(None);
-        };
-        self.state = state;
-        self.told(
-            alloc,
-            Told {
-                reply: Reply::Good(done.response),
-                notices: fired.notices,
-                watches: fired.watches,
-            },
-        )
+        self.state = changed.advanced(zxid, done.triggers)?;
+        Ok(true)
+    }
+
+    /// Fires the watches that wait for these changes.
+    fn fire(
+        &mut self,
+        alloc: Global,
+        text: &mut String,
+        triggers: &[Trigger],
+    ) -> Result<(), Memory> {
+        let armed = mem::replace(&mut self.watches, Watches::new(alloc));
+        let fired = armed.fire_all(alloc, triggers)?;
+        push_notices(alloc, text, fired.notices.as_slice())?;
+        self.watches = fired.watches;
+        Ok(())
     }
 }
 
@@ -307,18 +332,19 @@ fn session_of(
 }
 
 /// Whether a service can begin at a time, in milliseconds.
-fn begun(alloc: Global, rest: &str) -> Result<Option<String>, Memory> {
+fn begun(alloc: Global, text: &mut String, rest: &str) -> Result<bool, Fault> {
     let Ok(now) = rest.parse::<u64>() else {
-        return Ok(None);
+        return Ok(false);
     };
     let line = TranscriptLine::Update(UpdateRec {
         zxid: 2,
         kind: UpdateKind::Begin { now },
     });
     let past = Past::new(alloc, &[]);
-    match apply(alloc, &past, State::new(alloc), &line) {
-        Ok(_) => said(alloc, "begun"),
-        Err(Fault::Beyond) => said(alloc, "beyond"),
-        Err(Fault::Memory) => Err(Memory),
+    match change(alloc, &past, State::new(alloc), &line) {
+        Ok(_begun) => push(text, "begun")?,
+        Err(Fault::Beyond) => push(text, "beyond")?,
+        Err(Fault::Memory) => return Err(Fault::Memory),
     }
+    Ok(true)
 }

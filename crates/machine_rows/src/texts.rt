@@ -1,24 +1,31 @@
 //! What comes of a step, as it is spelled in rows.
 
-use row_files::{Piece, joined, push, push_number, push_word, word_of};
-use row_words::trigger_word;
+use row_files::{push, push_number, push_word, word_of};
+use row_words::{notice_texts, trigger_word};
 use std::alloc::Global;
 use zk_history::Session;
 use zk_machine::Tree;
-use zk_model::{Body, PartResult, Reply, Stat, Trigger};
+use zk_model::{Body, Notice, PartResult, Reply, Stat, Trigger};
 use zx_base::{Memory, Text};
 
 /// A reply: a refusal's code, or what the body shows.
-pub fn reply_text(alloc: Global, reply: &Reply) -> Result<String, Memory> {
-    let mut text = String::new(alloc);
+pub fn push_reply(alloc: Global, text: &mut String, reply: &Reply) -> Result<(), Memory> {
     match reply {
-        Reply::Refused(code) => push_number(alloc, &mut text, "", i64::from(*code))?,
-        Reply::Good(body) => push_body(alloc, &mut text, body)?,
+        Reply::Refused(code) => push_number(alloc, text, "", i64::from(*code)),
+        Reply::Good(body) => push_body(alloc, text, body),
     }
-    Ok(text)
 }
 
-fn push_body(alloc: Global, text: &mut String, body: &Body) -> Result<(), Memory> {
+/// ` told ` and the notices; nothing where there are none.
+pub fn push_notices(alloc: Global, text: &mut String, notices: &[Notice]) -> Result<(), Memory> {
+    if notices.is_empty() {
+        return Ok(());
+    }
+    push(text, " told ")?;
+    push(text, notice_texts(alloc, notices)?.as_str())
+}
+
+pub fn push_body(alloc: Global, text: &mut String, body: &Body) -> Result<(), Memory> {
     match body {
         Body::Empty => push(text, "ok"),
         Body::Path(path) => push(text, word_of(path.as_slice())),
@@ -49,26 +56,17 @@ fn push_stat(alloc: Global, text: &mut String, stat: &Stat) -> Result<(), Memory
         i64::from(stat.cversion),
         i64::from(stat.num_children),
     ];
-    push(text, numbers_text(alloc, numbers)?.as_str())
+    push_numbers(alloc, text, &numbers)
 }
 
-/// Six numbers with blanks between them.
-fn numbers_text(alloc: Global, numbers: [i64; 6]) -> Result<String, Memory> {
-    let [first, second, third, fourth, fifth, sixth] = numbers;
-    let pieces = [
-        Piece::Number(first),
-        Piece::Text(" "),
-        Piece::Number(second),
-        Piece::Text(" "),
-        Piece::Number(third),
-        Piece::Text(" "),
-        Piece::Number(fourth),
-        Piece::Text(" "),
-        Piece::Number(fifth),
-        Piece::Text(" "),
-        Piece::Number(sixth),
-    ];
-    joined(alloc, &pieces)
+/// Numbers with blanks between them.
+pub fn push_numbers(alloc: Global, text: &mut String, numbers: &[i64]) -> Result<(), Memory> {
+    let mut front = "";
+    for number in numbers {
+        push_number(alloc, text, front, *number)?;
+        front = " ";
+    }
+    Ok(())
 }
 
 fn push_names(text: &mut String, names: &[Text]) -> Result<(), Memory> {
@@ -101,26 +99,25 @@ fn push_result(alloc: Global, text: &mut String, one: &PartResult) -> Result<(),
 }
 
 /// What watches see, or `none`.
-pub fn trigger_texts(alloc: Global, triggers: &[Trigger]) -> Result<String, Memory> {
-    let mut text = String::new(alloc);
+pub fn push_triggers(text: &mut String, triggers: &[Trigger]) -> Result<(), Memory> {
+    if triggers.is_empty() {
+        return push(text, "none");
+    }
+    let mut front = "";
     for trigger in triggers {
-        if !text.is_empty() {
-            push(&mut text, ", ")?;
-        }
         let (name, path) = trigger_word(trigger);
-        push(&mut text, name)?;
-        push_word(&mut text, word_of(path))?;
+        push(text, front)?;
+        push(text, name)?;
+        push_word(text, word_of(path))?;
+        front = ", ";
     }
-    if text.is_empty() {
-        push(&mut text, "none")?;
-    }
-    Ok(text)
+    Ok(())
 }
 
 /// The node at a path: czxid, mzxid, pzxid, version, creates and children.
-pub fn node_text(alloc: Global, tree: &Tree, path: &[u8]) -> Result<String, Memory> {
+pub fn push_node(alloc: Global, text: &mut String, tree: &Tree, path: &[u8]) -> Result<(), Memory> {
     let Some(node) = tree.get(path) else {
-        return Ok(String::from_str(alloc, "none")?);
+        return push(text, "none");
     };
     let numbers = [
         node.czxid,
@@ -130,14 +127,18 @@ pub fn node_text(alloc: Global, tree: &Tree, path: &[u8]) -> Result<String, Memo
         node.creates as i64,
         tree.num_children(path) as i64,
     ];
-    numbers_text(alloc, numbers)
+    push_numbers(alloc, text, &numbers)
 }
 
 /// A session: its timeout in milliseconds, its connection, the zxid of its attachment, and `live` or `lapsed`, or `strange` where
 /// its password is not the one that rows give it.
-pub fn session_text(alloc: Global, session: Option<&Session>) -> Result<String, Memory> {
+pub fn push_session(
+    alloc: Global,
+    text: &mut String,
+    session: Option<&Session>,
+) -> Result<(), Memory> {
     let Some(session) = session else {
-        return Ok(String::from_str(alloc, "none")?);
+        return push(text, "none");
     };
     let word = if session.passwd() != [0xaa; 16].as_slice() {
         "strange"
@@ -146,14 +147,11 @@ pub fn session_text(alloc: Global, session: Option<&Session>) -> Result<String, 
     } else {
         "live"
     };
-    let pieces = [
-        Piece::Number(i64::from(session.timeout())),
-        Piece::Text(" "),
-        Piece::Number(i64::from(session.connection())),
-        Piece::Text(" "),
-        Piece::Number(session.attached()),
-        Piece::Text(" "),
-        Piece::Text(word),
+    let numbers = [
+        i64::from(session.timeout()),
+        i64::from(session.connection()),
+        session.attached(),
     ];
-    joined(alloc, &pieces)
+    push_numbers(alloc, text, &numbers)?;
+    push_word(text, word)
 }
