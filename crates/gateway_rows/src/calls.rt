@@ -41,14 +41,15 @@ fn host() -> &'static str
 fn head_ask(alloc: Global) -> Result<Ask, Memory>
     ensures { IfOk result (λ ask. IsGrantable ask) }
 {
-    let mut success = Seq::new(alloc);
-    success.push(Act::Range(RangeReq {
+    let read = Act::Range(RangeReq {
         key: Bytes::copy_of(alloc, b"zk/head".as_slice())?,
         end: Bytes::new(alloc),
         revision: 0,
         limit: 0,
         keys_only: false,
-    }))?;
+    });
+    let mut success = Seq::new(alloc);
+    success.push(read)?;
     Ok(Ask::Txn(TxnReq {
         guards: Seq::new(alloc),
         success,
@@ -61,12 +62,27 @@ fn make(alloc: Global, count: u32, bytes: Vec<u8>) -> Result<String, Memory> {
     let sink = MemSink::new(alloc, Vec::new(alloc));
     let mut link = HttpLink::new(alloc, source, sink, host())?;
     let mut found = String::new(alloc);
-    for _ in 0..count {
-        let ask = head_ask(alloc)?;
-        push_result(alloc, &mut found, link.call(&ask))?;
-    }
+    push_calls(alloc, &mut found, &mut link, count)?;
     push_failure(alloc, &mut found, link.last_failure())?;
     Ok(found)
+}
+
+/// Asks so many times over a link, and adds what each call came to.
+fn push_calls<L: Etcd>(
+    alloc: Global,
+    found: &mut String,
+    link: &mut L,
+    count: u32,
+) -> Result<(), Memory> {
+    for _ in 0..count {
+        push_call(alloc, found, link)?;
+    }
+    Ok(())
+}
+
+fn push_call<L: Etcd>(alloc: Global, found: &mut String, link: &mut L) -> Result<(), Memory> {
+    let ask = head_ask(alloc)?;
+    push_result(alloc, found, &link.call(&ask))
 }
 
 /// What so many calls of a link that dials came to, and one more after it was told its address anew.
@@ -91,15 +107,23 @@ fn dial(alloc: Global, failing: u64, count: u32, bytes: Vec<u8>) -> Result<Strin
     let mut streams = Vec::new(alloc);
     streams.push(bytes)?;
     let mut link = DialCluster::new(alloc, MemNet::new(alloc, numbers, streams));
+    call_anew(alloc, &mut link, count, host())
+}
+
+/// Asks so many times over a link, and once more after it was told this address.
+fn call_anew<L: Cluster>(
+    alloc: Global,
+    link: &mut L,
+    count: u32,
+    address: &str,
+) -> Result<String, Memory>
+    requires { IsAddress address.now }
+{
     let mut found = String::new(alloc);
-    for _ in 0..count {
-        let ask = head_ask(alloc)?;
-        push_result(alloc, &mut found, link.call(&ask))?;
-    }
-    link.to(host())?;
+    push_calls(alloc, &mut found, link, count)?;
+    link.to(address)?;
     push(&mut found, "anew ")?;
-    let ask = head_ask(alloc)?;
-    push_result(alloc, &mut found, link.call(&ask))?;
+    push_call(alloc, &mut found, link)?;
     push(&mut found, "end")?;
     Ok(found)
 }
@@ -123,14 +147,7 @@ fn other_host() -> &'static str
 
 fn dial_at(alloc: Global, address: &str, bytes: Vec<u8>) -> Result<String, Memory> {
     let mut link = DialCluster::new(alloc, OneHost::new(alloc, address, bytes));
-    let mut found = String::new(alloc);
-    let ask = head_ask(alloc)?;
-    push_result(alloc, &mut found, link.call(&ask))?;
-    link.to(other_host())?;
-    push(&mut found, "anew ")?;
-    push_result(alloc, &mut found, link.call(&ask))?;
-    push(&mut found, "end")?;
-    Ok(found)
+    call_anew(alloc, &mut link, 1, other_host())
 }
 
 fn push_failure(
@@ -151,10 +168,10 @@ fn push_failure(
 fn push_result(
     alloc: Global,
     found: &mut String,
-    answered: Result<Answer, CallFault>,
+    answered: &Result<Answer, CallFault>,
 ) -> Result<(), Memory> {
     match answered {
-        Ok(answer) => push_escaped(found, write_answer(alloc, &answer)?.as_slice())?,
+        Ok(answer) => push_escaped(found, write_answer(alloc, answer)?.as_slice())?,
         Err(CallFault::Failed) => push(found, "failed")?,
         Err(CallFault::Memory) => push(found, "memory")?,
     }

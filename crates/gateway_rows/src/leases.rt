@@ -26,28 +26,35 @@ pub fn kept<R: Wait + Copy + Drop>(
     let (Some(before), Some(after)) = (words.number(), words.number()) else {
         return Ok(None);
     };
-    Ok(Some(keep(rt, alloc, step, seconds, before, after)?))
+    let mut found = String::new(alloc);
+    keep(rt, alloc, &mut found, step, seconds, before, after)?;
+    Ok(Some(found))
 }
 
 fn keep<R: Wait + Copy + Drop>(
     rt: R,
     alloc: Global,
+    found: &mut String,
     step: u64,
     seconds: u32,
     before: u32,
     after: u32,
-) -> Result<String, Memory> {
+) -> Result<(), Memory> {
+    let store = SharedStore::new(alloc, granted(alloc, found, seconds)?);
+    let mut link = SharedLink::new(rt, Arc::new(alloc, store)?, Ticking { now: 0, step });
+    keep_after(alloc, found, &mut link, before)?;
+    keep_after(alloc, found, &mut link, after)
+}
+
+/// A store with the lease. Adds whether it was granted.
+fn granted(alloc: Global, found: &mut String, seconds: u32) -> Result<Store, Memory> {
     let mut store = Store::new(alloc)?;
     let granted = store.carry_out(&Ask::Grant {
         id: LEASE,
         ttl: i64::from(seconds),
     });
-    let mut found = String::from_str(alloc, if granted.is_ok() { "granted" } else { "denied" })?;
-    let store = Arc::new(alloc, SharedStore::new(alloc, store))?;
-    let mut link = SharedLink::new(rt, store, Ticking { now: 0, step });
-    keep_after(alloc, &mut found, &mut link, before)?;
-    keep_after(alloc, &mut found, &mut link, after)?;
-    Ok(found)
+    push(found, if granted.is_ok() { "granted" } else { "denied" })?;
+    Ok(store)
 }
 
 /// The seconds that a keepalive is answered, after so many asks of another lease.
@@ -60,16 +67,16 @@ fn keep_after<L: Etcd>(
     for _ in 0..asks {
         let _other = link.call(&Ask::Alive { id: LEASE + 1 });
     }
-    push_seconds(alloc, found, link.call(&Ask::Alive { id: LEASE }))
+    push_seconds(alloc, found, &link.call(&Ask::Alive { id: LEASE }))
 }
 
 fn push_seconds(
     alloc: Global,
     found: &mut String,
-    answered: Result<Answer, CallFault>,
+    answered: &Result<Answer, CallFault>,
 ) -> Result<(), Memory> {
     match answered {
-        Ok(Answer::Alive { ttl, .. }) => push_number(alloc, found, " ", ttl),
+        Ok(Answer::Alive { ttl, .. }) => push_number(alloc, found, " ", *ttl),
         Ok(_) => push(found, " other"),
         Err(CallFault::Failed) => push(found, " failed"),
         Err(CallFault::Memory) => push(found, " memory"),

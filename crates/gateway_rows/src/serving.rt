@@ -10,7 +10,7 @@ use ev_http::HttpFault;
 use ev_shared::SharedStore;
 use ev_store::Store;
 use ev_types::{Act, Ask, TxnReq};
-use row_files::Words;
+use row_files::{Words, push};
 use std::alloc::Global;
 use std::sync::Wait;
 use std::time::Clock;
@@ -32,17 +32,15 @@ pub fn served<R: Wait + Clock>(
     let (Some(limit), Some(step)) = (Words::new(limit).place(), Words::new(step).place()) else {
         return Ok(None);
     };
-    let bytes = unescaped(alloc, bytes)?;
     let store = SharedStore::new(alloc, Store::new(alloc)?);
     store.close(rt);
-    Ok(Some(serve(rt, alloc, &store, limit, step, bytes)?))
+    serve(rt, alloc, &store, limit, step, bytes)
 }
 
 /// The same over a store that is open.
 pub fn open<R: Wait + Clock>(rt: &R, alloc: Global, bytes: &str) -> Result<Option<String>, Memory> {
-    let bytes = unescaped(alloc, bytes)?;
     let store = SharedStore::new(alloc, Store::new(alloc)?);
-    Ok(Some(serve(rt, alloc, &store, MANY, 0, bytes)?))
+    serve(rt, alloc, &store, MANY, 0, bytes)
 }
 
 /// How many messages are answered at most: more than come.
@@ -55,12 +53,13 @@ const PUTS: u32 = 3;
 fn put(alloc: Global) -> Result<Ask, Memory>
     ensures { IfOk result (λ ask. IsGrantable ask) }
 {
-    let mut success = Seq::new(alloc);
-    success.push(Act::Put {
+    let act = Act::Put {
         key: Bytes::copy_of(alloc, b"a".as_slice())?,
         value: Bytes::copy_of(alloc, b"1".as_slice())?,
         lease: 0,
-    })?;
+    };
+    let mut success = Seq::new(alloc);
+    success.push(act)?;
     Ok(Ask::Txn(TxnReq {
         guards: Seq::new(alloc),
         success,
@@ -80,16 +79,20 @@ pub fn compacted<R: Wait + Clock>(
     let Some(floor) = Words::new(floor).number() else {
         return Ok(None);
     };
-    let bytes = unescaped(alloc, bytes)?;
+    let store = SharedStore::new(alloc, compacted_to(alloc, floor)?);
+    store.close(rt);
+    serve(rt, alloc, &store, MANY, 0, bytes)
+}
+
+/// Such a store.
+fn compacted_to(alloc: Global, floor: u32) -> Result<Store, Memory> {
+    let ask = put(alloc)?;
     let mut store = Store::new(alloc)?;
     for _ in 0..PUTS {
-        let ask = put(alloc)?;
         let _answer = store.carry_out(&ask);
     }
     let _compacted = store.compact(i64::from(floor));
-    let store = SharedStore::new(alloc, store);
-    store.close(rt);
-    Ok(Some(serve(rt, alloc, &store, MANY, 0, bytes)?))
+    Ok(store)
 }
 
 fn serve<R: Wait + Clock>(
@@ -98,16 +101,21 @@ fn serve<R: Wait + Clock>(
     store: &SharedStore,
     limit: u64,
     step: u64,
-    bytes: Vec<u8>,
-) -> Result<String, Memory> {
-    let mut source = MemSource::new(bytes, Vec::new(alloc), Vec::new(alloc));
+    bytes: &str,
+) -> Result<Option<String>, Memory> {
+    let mut source = MemSource::new(unescaped(alloc, bytes)?, Vec::new(alloc), Vec::new(alloc));
     let mut sink = MemSink::new(alloc, Vec::new(alloc));
     let mut clock = Ticking { now: 0, step };
     let end = gateway(rt, alloc, store, &mut source, &mut sink, &mut clock, limit);
-    let mut found = String::from_str(alloc, name_of(end))?;
-    found.push(' ')?;
-    push_escaped(&mut found, sink.bytes())?;
-    Ok(found)
+    shown(alloc, name_of(end), sink.bytes())
+}
+
+/// The name of an end, and what was sent before it.
+fn shown(alloc: Global, end: &str, sent: &[u8]) -> Result<Option<String>, Memory> {
+    let mut found = String::from_str(alloc, end)?;
+    push(&mut found, " ")?;
+    push_escaped(&mut found, sent)?;
+    Ok(Some(found))
 }
 
 fn name_of(end: GatewayEnd) -> &'static str {
