@@ -93,6 +93,37 @@ fn turn<S: Source>(source: &mut S) -> Got {
     source.read(&mut one)
 }
 
+/// Whether a ring before a wait ends one of ten waits, each of which answers this. A wait that no ring ends takes a second.
+fn is_woken<S: Source, B: Bell>(
+    rt: HostRuntime,
+    source: &mut S,
+    bell: &B,
+    answer: Got,
+) -> Result<bool, Fail> {
+    let mut was_woken = false;
+    for _ in 0..10u32 {
+        bell.arm();
+        bell.ring();
+        let since = Instant::now(&rt)?;
+        if turn(source) != answer {
+            return Ok(false);
+        }
+        was_woken = was_woken || since.elapsed(&rt)? < Duration::from_millis(900);
+    }
+    Ok(was_woken)
+}
+
+/// How long so many turns take, each of which answers the end.
+fn time_of_ends<S: Source>(rt: HostRuntime, source: &mut S, turns: u32) -> Result<Duration, Fail> {
+    let since = Instant::now(&rt)?;
+    for _ in 0..turns {
+        if turn(source) != Got::End {
+            return Err(Fail::from("end"));
+        }
+    }
+    Ok(since.elapsed(&rt)?)
+}
+
 #[test]
 fn the_clock_tells_the_time(rt: HostRuntime) {
     let mut clock = StdClock::new(rt);
@@ -196,15 +227,7 @@ fn a_bell_ends_a_wait(rt: HostRuntime) -> Result<(), Fail> {
     assert!(rt; turn(&mut far) == Got::Nothing);
     assert!(rt; turn(&mut far) == Got::Nothing);
     // A bell that was rung before the wait ends it; one that is lost takes a second each time.
-    let mut was_woken = false;
-    for _ in 0..10u32 {
-        bell.arm();
-        bell.ring();
-        let since = Instant::now(&rt)?;
-        assert!(rt; turn(&mut far) == Got::Nothing);
-        was_woken = was_woken || since.elapsed(&rt)? < Duration::from_millis(900);
-    }
-    assert!(rt; was_woken);
+    assert!(rt; is_woken(rt, &mut far, &*bell, Got::Nothing)?);
     assert!(rt; to_far.write(b"ping") == Took::Bytes(4));
     assert!(rt; comes(&mut far, b"ping"));
     drop(to_far);
@@ -222,24 +245,31 @@ fn a_ring_ends_a_wait_that_has_begun(rt: HostRuntime) -> Result<(), Fail> {
     };
     assert!(rt; turn(&mut far) == Got::Nothing);
     assert!(rt; turn(&mut far) == Got::Nothing);
-    // Another thread rings a tenth of a second later. A wait that no ring ends takes a second.
+    // Another thread rings a tenth of a second later.
     let mut spawner = ThreadSpawner::new(rt);
     let mut was_woken = false;
     for _ in 0..10u32 {
         let theirs = Arc::try_clone(&bell)?;
         bell.arm();
-        let since = Instant::now(&rt)?;
         let job = move || {
             thread::sleep(&rt, Duration::from_millis(100));
             theirs.ring();
         };
         assert!(rt; spawner.start(job).is_ok());
-        assert!(rt; turn(&mut far) == Got::Nothing);
-        let took = since.elapsed(&rt)?.as_millis();
-        was_woken = was_woken || (took >= 100 && took < 900);
+        was_woken = is_woken_late(rt, &mut far)? || was_woken;
     }
     assert!(rt; was_woken);
     Ok(())
+}
+
+/// Whether an idle turn takes some of that time, and less than the second of a wait that no ring ends.
+fn is_woken_late<S: Source>(rt: HostRuntime, source: &mut S) -> Result<bool, Fail> {
+    let since = Instant::now(&rt)?;
+    if turn(source) != Got::Nothing {
+        return Err(Fail::from("turn"));
+    }
+    let took = since.elapsed(&rt)?.as_millis();
+    Ok(took >= 50 && took < 900)
 }
 
 #[test]
@@ -287,42 +317,36 @@ fn an_end_is_answered_again_after_a_wait(rt: HostRuntime) -> Result<(), Fail> {
     drop(to_far);
     drop(near);
     assert!(rt; next_byte(&mut far) == None);
-    let since = Instant::now(&rt)?;
-    for _ in 0..10u32 {
-        assert!(rt; turn(&mut far) == Got::End);
-    }
-    assert!(rt; since.elapsed(&rt)? >= Duration::from_millis(100));
+    assert!(rt; time_of_ends(rt, &mut far, 10)? >= Duration::from_millis(100));
     let Some(bell) = far.bell() else {
         return Err(Fail::from("bell"));
     };
     // The new bell counts as rung, and the peer's end may end one wait. Each further wait takes a second unless the bell is rung.
-    let since = Instant::now(&rt)?;
-    for _ in 0..4u32 {
-        assert!(rt; turn(&mut far) == Got::End);
-    }
-    assert!(rt; since.elapsed(&rt)? >= Duration::from_millis(900));
-    let mut was_woken = false;
-    for _ in 0..10u32 {
-        bell.arm();
-        bell.ring();
-        let since = Instant::now(&rt)?;
-        assert!(rt; turn(&mut far) == Got::End);
-        was_woken = was_woken || since.elapsed(&rt)? < Duration::from_millis(900);
-    }
-    assert!(rt; was_woken);
+    assert!(rt; time_of_ends(rt, &mut far, 4)? >= Duration::from_millis(900));
+    assert!(rt; is_woken(rt, &mut far, &*bell, Got::End)?);
     Ok(())
+}
+
+/// The near end of a stream, and both ends of it as it was accepted, with this patience before and after a connect.
+fn ends_with_patience(
+    rt: HostRuntime,
+    first: Duration,
+    later: Duration,
+) -> Result<(TcpStream, Ends), Fail> {
+    let listener = TcpListener::bind(&rt, "127.0.0.1:0")?;
+    let address = listener.local_addr()?;
+    let near = TcpStream::connect(&rt, address)?;
+    let (far, _) = listener.accept()?;
+    match ends_of(rt, rt.alloc(), far, 7, Patience::new(&rt, first, later)) {
+        Some(ends) => Ok((near, ends)),
+        None => Err(Fail::from("ends")),
+    }
 }
 
 #[test]
 fn silence_is_a_fault_in_the_end(rt: HostRuntime) -> Result<(), Fail> {
-    let listener = TcpListener::bind(&rt, "127.0.0.1:0")?;
-    let near = TcpStream::connect(&rt, listener.local_addr()?)?;
-    let (far, _) = listener.accept()?;
     let limit = Duration::from_millis(0);
-    let patience = Patience::new(&rt, limit, limit);
-    let Some((mut source, _sink)) = ends_of(rt, rt.alloc(), far, 7, patience) else {
-        return Err(Fail::from("ends"));
-    };
+    let (near, (mut source, _sink)) = ends_with_patience(rt, limit, limit)?;
     assert!(rt; turn(&mut source) == Got::Failed);
     drop(near);
     Ok(())
@@ -330,52 +354,48 @@ fn silence_is_a_fault_in_the_end(rt: HostRuntime) -> Result<(), Fail> {
 
 #[test]
 fn a_peer_has_to_send_as_much_as_a_connect(rt: HostRuntime) -> Result<(), Fail> {
-    let listener = TcpListener::bind(&rt, "127.0.0.1:0")?;
-    let near = TcpStream::connect(&rt, listener.local_addr()?)?;
-    let (far, _) = listener.accept()?;
     let (first, later) = (Duration::from_millis(0), Duration::from_secs(3600));
-    let patience = Patience::new(&rt, first, later);
-    let Some((mut source, _sink)) = ends_of(rt, rt.alloc(), far, 7, patience) else {
-        return Err(Fail::from("ends"));
-    };
-    // Fewer bytes than the least connect has break no silence.
-    let mut to_far: &TcpStream = &near;
-    assert!(rt; turn(&mut source) == Got::Failed);
-    assert!(rt; to_far.write(&[b'x'; 31])? == 31);
-    assert!(rt; turn(&mut source) == Got::Failed);
-    // As many bytes do, and what counts from then on is the silence after each byte.
-    assert!(rt; to_far.write(&[b'x'; 32])? == 32);
-    assert!(rt; comes_late(&mut source));
-    assert!(rt; drained(&mut source) == Got::Nothing);
-    assert!(rt; to_far.write(b"x")? == 1);
-    assert!(rt; comes_late(&mut source));
-    assert!(rt; turn(&mut source) == Got::Nothing);
+    let (near, (mut source, _sink)) = ends_with_patience(rt, first, later)?;
+    assert!(rt; as_much_as_a_connect_comes(&mut source, &near)?);
     Ok(())
+}
+
+/// Whether fewer bytes than the least connect has break no silence, and as many do.
+fn as_much_as_a_connect_comes<S: Source>(source: &mut S, near: &TcpStream) -> Result<bool, Fail> {
+    let mut to_far = near;
+    let is_silent = turn(source) == Got::Failed
+        && to_far.write(&[b'x'; 31])? == 31
+        && turn(source) == Got::Failed;
+    let is_broken = to_far.write(&[b'x'; 32])? == 32 && comes_late(source);
+    // What counts from then on is the silence after each byte.
+    let goes_on = drained(source) == Got::Nothing
+        && to_far.write(b"x")? == 1
+        && comes_late(source)
+        && turn(source) == Got::Nothing;
+    Ok(is_silent && is_broken && goes_on)
 }
 
 #[test]
 fn a_peer_has_to_go_on_after_its_connect(rt: HostRuntime) -> Result<(), Fail> {
-    let listener = TcpListener::bind(&rt, "127.0.0.1:0")?;
-    let near = TcpStream::connect(&rt, listener.local_addr()?)?;
-    let (far, _) = listener.accept()?;
     let (first, later) = (Duration::from_secs(3600), Duration::from_millis(0));
-    let patience = Patience::new(&rt, first, later);
-    let Some((mut source, _sink)) = ends_of(rt, rt.alloc(), far, 7, patience) else {
-        return Err(Fail::from("ends"));
-    };
-    let mut to_far: &TcpStream = &near;
-    assert!(rt; to_far.write(&[b'x'; 31])? == 31);
-    assert!(rt; comes_late(&mut source));
-    assert!(rt; drained(&mut source) == Got::Nothing);
-    // With as many bytes as the least connect has, the first limit is over, and the silence after them is too long.
-    assert!(rt; to_far.write(b"x")? == 1);
-    assert!(rt; comes_late(&mut source));
+    let (near, (mut source, _sink)) = ends_with_patience(rt, first, later)?;
+    assert!(rt; silence_after_a_connect(&mut source, &near)?);
+    Ok(())
+}
+
+/// Whether fewer bytes than the least connect has leave the first limit, and the silence after as many is too long.
+fn silence_after_a_connect<S: Source>(source: &mut S, near: &TcpStream) -> Result<bool, Fail> {
+    let mut to_far = near;
+    let waits = to_far.write(&[b'x'; 31])? == 31
+        && comes_late(source)
+        && drained(source) == Got::Nothing;
+    let comes = to_far.write(b"x")? == 1 && comes_late(source);
     for _ in 0..TURNS {
-        if turn(&mut source) == Got::Failed {
-            return Ok(());
+        if turn(source) == Got::Failed {
+            return Ok(waits && comes);
         }
     }
-    Err(Fail::from("silence"))
+    Ok(false)
 }
 
 /// Whether these bytes break a silence that is too long. A machine that is too slow to look within the limit is asked again.
@@ -403,14 +423,8 @@ fn breaks_the_silence<S: Source>(
 
 #[test]
 fn a_byte_breaks_the_silence(rt: HostRuntime) -> Result<(), Fail> {
-    let listener = TcpListener::bind(&rt, "127.0.0.1:0")?;
-    let near = TcpStream::connect(&rt, listener.local_addr()?)?;
-    let (far, _) = listener.accept()?;
     let limit = Duration::from_secs(1);
-    let patience = Patience::new(&rt, limit, limit);
-    let Some((mut source, _sink)) = ends_of(rt, rt.alloc(), far, 7, patience) else {
-        return Err(Fail::from("ends"));
-    };
+    let (near, (mut source, _sink)) = ends_with_patience(rt, limit, limit)?;
     // As many bytes as a connect has do, and then one alone.
     assert!(rt; breaks_the_silence(rt, &mut source, &near, &[b'x'; 32], limit)?);
     assert!(rt; breaks_the_silence(rt, &mut source, &near, b"x", limit)?);
@@ -434,16 +448,26 @@ fn a_first_net_dials_at_once(rt: HostRuntime) -> Result<(), Fail> {
     let address = free_address(&rt)?;
     let mut net = StdNet::new(rt, rt.alloc());
     assert!(rt; net.dial(address.as_str()).is_err());
-    // Each dial of a net that waits takes a tenth of a second at least.
+    assert!(rt; dials_at_once(rt, &mut net, address.as_str())?);
+    Ok(())
+}
+
+/// Whether one of eight dials takes less than a tenth of a second. Each dial of a net that waits takes that at least.
+fn dials_at_once(
+    rt: HostRuntime,
+    net: &mut StdNet<HostRuntime>,
+    address: &str,
+) -> Result<bool, Fail> {
     for _ in 0..8u32 {
         let since = Instant::now(&rt)?;
-        assert!(rt; net.dial(address.as_str()).is_err());
+        if net.dial(address).is_ok() {
+            return Err(Fail::from("dial"));
+        }
         if since.elapsed(&rt)? < Duration::from_millis(100) {
-            return Ok(());
+            return Ok(true);
         }
     }
-    assert!(rt; false);
-    Ok(())
+    Ok(false)
 }
 
 #[test]
@@ -451,13 +475,21 @@ fn a_stream_is_prepared(rt: HostRuntime) -> Result<(), Fail> {
     let listener = TcpListener::bind(&rt, "127.0.0.1:0")?;
     let near = TcpStream::connect(&rt, listener.local_addr()?)?;
     prepare(&near)?;
-    assert!(rt; near.nodelay()?);
-    // The system rounds a timeout up.
-    let reads = near.read_timeout()?.unwrap_or(Duration::from_secs(0));
-    assert!(rt; reads >= Duration::from_millis(10) && reads < Duration::from_millis(50));
-    let writes = near.write_timeout()?.unwrap_or(Duration::from_secs(0));
-    assert!(rt; writes >= Duration::from_secs(60) && writes < Duration::from_secs(61));
+    assert!(rt; is_prepared(&near)?);
     Ok(())
+}
+
+/// Whether small writes go at once, and a read and a write wait as long as they should. The system rounds a timeout up.
+fn is_prepared(near: &TcpStream) -> Result<bool, Fail> {
+    let reads = near.read_timeout()?.unwrap_or(Duration::from_secs(0));
+    let writes = near.write_timeout()?.unwrap_or(Duration::from_secs(0));
+    Ok(
+        near.nodelay()?
+            && reads >= Duration::from_millis(10)
+            && reads < Duration::from_millis(50)
+            && writes >= Duration::from_secs(60)
+            && writes < Duration::from_secs(61),
+    )
 }
 
 /// An option of a stream that is a number.
