@@ -41,17 +41,18 @@ ended c w seat end flight = with_conn (record w { lines = w.lines ++ line.Close 
 abbrev pub lines_after : Arrival → ℕ → List (List ℕ) → List TranscriptLine
 lines_after a first frames = frame_lines a.connection first a.zxid frames
 
--- what the actions of a step to this core come to, with this out before them. These frames came with its last one; the first of them
--- has this index
+-- What the actions of a step that ends at this core come to. The flight is what was out before the step. The frames came after the one
+-- that it took, and the first of them has this index.
 abbrev pub outcome : Arrival → Core → ℕ → List (List ℕ) → Option Flight → List Action → StepOutcome
 outcome a core first frames flight out = acts_all a.connection (kind_asked a.connection (Connection core)) (lines_after a first frames) flight out
 
--- the world after a step to this core of a connection that was held apart: the lines and the strays of its actions are added, and under
--- its number stand who serves it then and what it has out. x is any record of its seat
+-- The world after a step that ends at this core, of a connection that was held apart: the lines and the strays of its actions are added,
+-- and under its number stand who serves it then and what it has out. x is any record of its seat; its count of frames is the index of the
+-- first frame after the one that was taken.
 abbrev pub acted : Arrival → World → Conn → Core → List (List ℕ) → Option Flight → List Action → World
 acted a w x core frames flight out = leaves a.connection w x (after_step core) (outcome a core x.frames frames flight out)
 
--- a connection of number c that is held apart, with this out, takes a step, and what it does is done; x is any record of its seat
+-- a connection of number c that is held apart, with this flight, takes a step, and what it does is done; x is any record of its seat
 pub record Stepped (c : ℕ) (after : List TranscriptLine) (w : World) (x : Conn) (core : Core) (flight : Option Flight) (input : Input) (w' : World) : Type 0 where
   pub next : Core
   pub out : List Action

@@ -22,7 +22,7 @@ shown a w seat bytes = record w { lines = w.lines ++ FrameLine a.connection seat
 abbrev pub left_next : Seat → Conn
 left_next seat = record (left seat) { frames = counted_up (seat.frames + 1) }
 
--- the frame is shown, and its connection, which is held apart with this out, takes a step by it; these frames came after it
+-- the frame is shown, and its connection, which is held apart with this flight, takes a step by it; these frames came after it
 abbrev pub StepsByFrame : Arrival → World → Seat → Core → Option Flight → List ℕ → List (List ℕ) → World → Type 0
 StepsByFrame a w seat core flight bytes after w' =
     Stepped a.connection (lines_after a (counted_up (seat.frames + 1)) after) (shown a w seat bytes) (left_next seat) core flight (input.Frame bytes) w'
