@@ -13,13 +13,13 @@ use ev_call::{CallFault, Etcd};
 use ev_link::HttpLink;
 use ev_types::{Answer, Ask};
 use std::alloc::Global;
-use zx_net::NetFailed;
+use zx_net::NetFault;
 use zx_outside::{Sink, Source};
 
 /// The link over what was dialled.
 fn linked<S: Source + Drop, K: Sink + Drop>(
     alloc: Global,
-    dialled: Result<(S, K), NetFailed>,
+    dialled: Result<(S, K), NetFault>,
     address: &str,
 ) -> Result<HttpLink<S, K>, EndFault>
     requires { IsAddress address.now }
@@ -79,7 +79,7 @@ pub fn ask_kept<S: Source + Drop, K: Sink + Drop>(
 #[tactic(auto, using(crate::proofs::Placing::answered_counts))]
 pub fn ask_first<S: Source + Drop, K: Sink + Drop>(
     alloc: Global,
-    dialled: Result<(S, K), NetFailed>,
+    dialled: Result<(S, K), NetFault>,
     address: &str,
     link: &mut Option<HttpLink<S, K>>,
     ask: &Ask,

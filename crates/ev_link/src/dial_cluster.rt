@@ -7,7 +7,7 @@ ghost use Rattle.ev_call.specs.Asks.{IsGrantable};
 ghost use Rattle.ev_call.specs.Calls.{Call as LinkCall, calls_of, failures_after};
 ghost use Rattle.ev_call.specs.Fitting.{Fits};
 ghost use Rattle.ev_link.specs.Dialling.{DialsFirst};
-ghost use Rattle.zx_net.specs.declared.net.NetFailed.{NetFailed as NoNet};
+ghost use Rattle.zx_net.specs.declared.net.NetFault.{NetFault as NoNet};
 
 use crate::http_link::HttpLink;
 use ev_call::{CallFault, Cluster, Etcd};
@@ -15,7 +15,7 @@ use ev_types::{Answer, Ask};
 use std::alloc::Global;
 use zx_base::Memory;
 use zx_history::GhostHistory;
-use zx_net::{Net, NetFailed};
+use zx_net::{Net, NetFault};
 use zx_outside::{Sink, Source};
 
 /// An address that can be dialled.
@@ -75,7 +75,7 @@ impl<N: Net + Drop> DialCluster<N> {
 /// The link over a connection that was dialled. It fails exactly where the dial did.
 fn linked<S: Source + Drop, K: Sink + Drop>(
     alloc: Global,
-    dialled: Result<(S, K), NetFailed>,
+    dialled: Result<(S, K), NetFault>,
     address: &str,
 ) -> Result<HttpLink<S, K>, CallFault>
     requires { IsAddress address.now }
@@ -112,7 +112,7 @@ fn asked<S: Source + Drop, K: Sink + Drop>(
 #[tactic(auto, using(crate::proofs::Dialling::no_dial, crate::proofs::Dialling::no_memory))]
 fn asked_first<S: Source + Drop, K: Sink + Drop>(
     alloc: Global,
-    dialled: Result<(S, K), NetFailed>,
+    dialled: Result<(S, K), NetFault>,
     link: &mut Option<HttpLink<S, K>>,
     address: &str,
     ask: &Ask,

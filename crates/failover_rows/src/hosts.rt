@@ -5,7 +5,7 @@ ghost use Rattle.zx_net.specs.Nets.{IsFreshSource, IsFreshSink};
 
 use row_files::push_word;
 use std::alloc::Global;
-use zx_net::{MemDoor, Named, Net, NetFailed};
+use zx_net::{MemDoor, Named, Net, NetFault};
 use zx_outside::{MemSink, MemSource};
 
 /// An answer to an ask for the head of a new store (RFC 9112; etcd API reference, `TxnResponse`).
@@ -80,29 +80,31 @@ impl Net for Hosts {
 
     ghost streams = { λ _. None };
 
-    fn bind(&mut self, _address: &str) -> Result<MemDoor, NetFailed> {
+    fn bind(&mut self, _address: &str) -> Result<MemDoor, NetFault> {
         self.door_faults = self.door_faults.saturating_add(1);
-        Err(NetFailed)
+        Err(NetFault::Failed)
     }
 
     fn accept(
         &mut self,
         _door: &mut MemDoor,
-    ) -> Result<(Named<MemSource>, Named<MemSink>), NetFailed> {
+    ) -> Result<(Named<MemSource>, Named<MemSink>), NetFault> {
         self.door_faults = self.door_faults.saturating_add(1);
-        Err(NetFailed)
+        Err(NetFault::Failed)
     }
 
-    fn dial(&mut self, address: &str) -> Result<(Named<MemSource>, Named<MemSink>), NetFailed> {
+    fn dial(&mut self, address: &str) -> Result<(Named<MemSource>, Named<MemSink>), NetFault> {
         let _ = push_word(&mut self.dialled, address);
         match bytes_of(self.alloc, address) {
             Some(bytes) => Ok(ends_of(self.alloc, bytes)),
             None => {
                 self.dial_faults = self.dial_faults.saturating_add(1);
-                Err(NetFailed)
+                Err(NetFault::Failed)
             }
         }
     }
+
+    fn settle(&mut self) {}
 
     fn another(&self) -> Hosts {
         Hosts {

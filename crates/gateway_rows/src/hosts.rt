@@ -4,7 +4,7 @@ ghost use Rattle.std.specs.Prelude.{Some};
 ghost use Rattle.zx_net.specs.Nets.{IsFreshSource, IsFreshSink};
 
 use std::alloc::Global;
-use zx_net::{MemDoor, Named, Net, NetFailed};
+use zx_net::{MemDoor, Named, Net, NetFault};
 use zx_outside::{MemSink, MemSource};
 
 /// A net in memory that listens nowhere. One address can be dialled, once.
@@ -54,28 +54,30 @@ impl<'a> Net for OneHost<'a> {
 
     ghost streams = { λ _. None };
 
-    fn bind(&mut self, _address: &str) -> Result<MemDoor, NetFailed> {
+    fn bind(&mut self, _address: &str) -> Result<MemDoor, NetFault> {
         self.door_faults = self.door_faults.saturating_add(1);
-        Err(NetFailed)
+        Err(NetFault::Failed)
     }
 
     fn accept(
         &mut self,
         _door: &mut MemDoor,
-    ) -> Result<(Named<MemSource>, Named<MemSink>), NetFailed> {
+    ) -> Result<(Named<MemSource>, Named<MemSink>), NetFault> {
         self.door_faults = self.door_faults.saturating_add(1);
-        Err(NetFailed)
+        Err(NetFault::Failed)
     }
 
-    fn dial(&mut self, address: &str) -> Result<(Named<MemSource>, Named<MemSink>), NetFailed> {
+    fn dial(&mut self, address: &str) -> Result<(Named<MemSource>, Named<MemSink>), NetFault> {
         if address == self.address {
             if let Some(bytes) = self.bytes.take() {
                 return Ok(ends_of(self.alloc, bytes));
             }
         }
         self.dial_faults = self.dial_faults.saturating_add(1);
-        Err(NetFailed)
+        Err(NetFault::Failed)
     }
+
+    fn settle(&mut self) {}
 
     fn another(&self) -> OneHost<'a> {
         OneHost {

@@ -9,14 +9,15 @@
 //!
 //! A [`Net`] gives a door that listens ([`Net::bind`]), and the two ends of a stream, a source and a sink, that was
 //! accepted at a door ([`Net::accept`]) or dialled ([`Net::dial`]). It counts the faults of its doors, those of its
-//! dials, and the streams that it accepted: a call that answers [`NetFailed`] counts one fault, an accept that
+//! dials, and the streams that it accepted: a call that answers a [`NetFault`] counts one fault, an accept that
 //! succeeds counts one stream, and nothing else is counted. So a program that answers for a fault of its net can show
 //! that the net had one. A count stops at 2^64 - 1.
 //!
 //! The two ends of an accepted stream are named by the number of streams accepted so far, from 1. Every other source
 //! and sink is named 0. What is handed out is fresh: it has given or taken nothing, and had no fault and no idle turn.
 //!
-//! [`Net::another`] gives a second net with counts of its own, for a worker that dials.
+//! [`Net::another`] gives a second net with counts of its own, for a worker that dials. A net may pause before a dial that comes soon
+//! after others; [`Net::settle`] tells it that the last stream was of use, and changes no count.
 //!
 //! In a [`MemNet`] each accepted stream ends at once, each dialled one gives listed bytes, and what is written stays
 //! in memory. A net in memory tells the bytes that its next dials give; a net of the system tells nothing of them.
@@ -52,5 +53,5 @@ pub use inline_spawner::InlineSpawner;
 pub use memory_clock::MemClock;
 pub use memory_net::{MemDoor, MemNet};
 pub use named::Named;
-pub use net::{Net, NetFailed};
+pub use net::{Net, NetFault};
 pub use spawner::Spawner;

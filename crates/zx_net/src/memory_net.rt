@@ -5,7 +5,7 @@ ghost use Rattle.zx_outside.specs.Counts.{one_more};
 ghost use Rattle.zx_outside.specs.Memory.{fails_next};
 ghost use Rattle.zx_net.specs.Nets.{no_counts, IsFreshSource, IsFreshSink};
 
-use crate::{Named, Net, NetFailed};
+use crate::{Named, Net, NetFault};
 use std::alloc::Global;
 use std::collections::VecDeque;
 use std::marker::Model;
@@ -99,7 +99,7 @@ impl Net for MemNet {
 
     ghost streams = { λ s. Some s.streams };
 
-    fn bind(&mut self, _address: &str) -> Result<MemDoor, NetFailed>
+    fn bind(&mut self, _address: &str) -> Result<MemDoor, NetFault>
         ensures counts { self.new.counts ≡ counts_after_bind result self.old.counts }
         ensures streams { Some self.new.streams ≡ Some self.old.streams }
         ensures listed { is_err result ≡ fails_next self.old.failing self.old.calls }
@@ -107,7 +107,7 @@ impl Net for MemNet {
     {
         if fails(&mut self.calls, &self.failing) {
             self.door_faults = self.door_faults.saturating_add(1);
-            return Err(NetFailed);
+            return Err(NetFault::Failed);
         }
         Ok(MemDoor)
     }
@@ -115,7 +115,7 @@ impl Net for MemNet {
     fn accept(
         &mut self,
         _door: &mut MemDoor,
-    ) -> Result<(Named<MemSource>, Named<MemSink>), NetFailed>
+    ) -> Result<(Named<MemSource>, Named<MemSink>), NetFault>
         ensures counts { self.new.counts ≡ counts_after_accept result self.old.counts }
         ensures streams { Some self.new.streams ≡ Some self.old.streams }
         ensures source { IfOk result (λ ends. IsFreshSource (Some ends.0.inner.given) ends.0.inner.counts
@@ -128,13 +128,13 @@ impl Net for MemNet {
     {
         if fails(&mut self.calls, &self.failing) {
             self.door_faults = self.door_faults.saturating_add(1);
-            return Err(NetFailed);
+            return Err(NetFault::Failed);
         }
         self.accepted = self.accepted.saturating_add(1);
         Ok(ends_of(self.alloc, Vec::new(self.alloc), self.accepted))
     }
 
-    fn dial(&mut self, _address: &str) -> Result<(Named<MemSource>, Named<MemSink>), NetFailed>
+    fn dial(&mut self, _address: &str) -> Result<(Named<MemSource>, Named<MemSink>), NetFault>
         ensures counts { self.new.counts ≡ counts_after_dial result self.old.counts }
         ensures source { IfOk result (λ ends. IsFreshSource (Some ends.0.inner.given) ends.0.inner.counts
             ends.0.inner.ended ends.0.name 0) }
@@ -146,7 +146,7 @@ impl Net for MemNet {
     {
         if fails(&mut self.calls, &self.failing) {
             self.dial_faults = self.dial_faults.saturating_add(1);
-            return Err(NetFailed);
+            return Err(NetFault::Failed);
         }
         let bytes = match self.streams.pop_front() {
             Some(bytes) => bytes,
@@ -154,6 +154,12 @@ impl Net for MemNet {
         };
         Ok(ends_of(self.alloc, bytes, 0))
     }
+
+    fn settle(&mut self)
+        ensures same { self.new ≡ self.old }
+        ensures counts { self.new.counts ≡ self.old.counts }
+        ensures streams { Some self.new.streams ≡ Some self.old.streams }
+    {}
 
     fn another(&self) -> MemNet
         ensures counts { result.counts ≡ no_counts }

@@ -5,10 +5,20 @@ ghost use Rattle.zx_net.specs.Nets.{NetCounts};
 
 use zx_outside::{Sink, Source};
 
-/// The net did not do what it was asked: the address cannot be listened on or dialled, the door is broken, or there is
-/// no room for one more stream.
+/// Why the net did not do what it was asked. No clause ties a cause to what happened: it is for the operator, and each is counted alike.
 #[derive(Clone, Copy, Drop, PartialEq, Eq)]
-pub struct NetFailed;
+pub enum NetFault {
+    /// Something listens at the address already.
+    InUse,
+    /// The address is not one of this machine, or is no address.
+    NoAddress,
+    /// This program may not listen at the address.
+    Denied,
+    /// There is no room for one more stream: no descriptor, no memory or no port is left.
+    NoRoom,
+    /// Anything else: nobody answers at the address, it cannot be listened on, or the door is broken.
+    Failed,
+}
 
 /// Where streams to peers come from: the system's sockets, or memory. Faults are answers, and are counted.
 pub trait Net {
@@ -30,12 +40,12 @@ pub trait Net {
     ghost streams: { Self → Option (List (List ℕ)) };
 
     /// Listens at an address, `HOST:PORT`.
-    fn bind(&mut self, address: &str) -> Result<Self::Door, NetFailed>
+    fn bind(&mut self, address: &str) -> Result<Self::Door, NetFault>
         ensures counts { counts self.new ≡ counts_after_bind result (counts self.old) }
         ensures streams { streams self.new ≡ streams self.old };
 
     /// Waits for the next peer at a door, and gives both ends of the stream to it.
-    fn accept(&mut self, door: &mut Self::Door) -> Result<(Self::In, Self::Out), NetFailed>
+    fn accept(&mut self, door: &mut Self::Door) -> Result<(Self::In, Self::Out), NetFault>
         ensures counts { counts self.new ≡ counts_after_accept result (counts self.old) }
         ensures streams { streams self.new ≡ streams self.old }
         ensures source { IfOk result (λ ends. IsFreshSource (Self.In.given ends.0) (Self.In.counts ends.0)
@@ -44,7 +54,7 @@ pub trait Net {
             (Self.Out.name ends.1) (counts self.new).accepted) };
 
     /// Connects to a peer, `HOST:PORT`, and gives both ends of the stream to it.
-    fn dial(&mut self, address: &str) -> Result<(Self::In, Self::Out), NetFailed>
+    fn dial(&mut self, address: &str) -> Result<(Self::In, Self::Out), NetFault>
         ensures counts { counts self.new ≡ counts_after_dial result (counts self.old) }
         ensures source { IfOk result (λ ends. IsFreshSource (Self.In.given ends.0) (Self.In.counts ends.0)
             (Self.In.ended ends.0) (Self.In.name ends.0) 0) }
@@ -52,6 +62,12 @@ pub trait Net {
             (Self.Out.name ends.1) 0) }
         ensures gives { IfOk result (λ ends. GivesNext (streams self.old) (streams self.new) (Self.In.left ends.0)) }
         ensures kept { OnErr result (streams self.new ≡ streams self.old) };
+
+    /// Comes once the stream that was dialled last has given what it was dialled for. A net that pauses before it dials again may begin
+    /// its pauses anew.
+    fn settle(&mut self)
+        ensures counts { counts self.new ≡ counts self.old }
+        ensures streams { streams self.new ≡ streams self.old };
 
     /// A second net with counts of its own, for a worker that dials.
     fn another(&self) -> Self

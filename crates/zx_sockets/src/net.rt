@@ -14,7 +14,7 @@ use std::net::{Net as SystemNet, TcpListener, TcpStream, ToSocketAddrs};
 use std::sync::Arc;
 use std::time::{Clock as SystemClock, Duration};
 use std::{io, thread};
-use zx_net::{Net, NetFailed};
+use zx_net::{Net, NetFault};
 
 /// How long a read waits for a byte, in milliseconds.
 const READ_WAIT: u64 = 10;
@@ -200,17 +200,17 @@ impl<
 
     ghost streams = { λ _. None };
 
-    fn bind(&mut self, address: &str) -> Result<StdDoor, NetFailed> {
+    fn bind(&mut self, address: &str) -> Result<StdDoor, NetFault> {
         match TcpListener::bind(&self.rt, address) {
             Ok(listener) => Ok(StdDoor { listener }),
             Err(_) => {
                 self.door_faults = self.door_faults.saturating_add(1);
-                Err(NetFailed)
+                Err(NetFault::Failed)
             }
         }
     }
 
-    fn accept(&mut self, door: &mut StdDoor) -> Result<(SocketSource<R>, SocketSink), NetFailed> {
+    fn accept(&mut self, door: &mut StdDoor) -> Result<(SocketSource<R>, SocketSink), NetFault> {
         let name = self.accepted.saturating_add(1);
         match next_ends(self.rt, self.alloc, door, name) {
             Some(ends) => {
@@ -219,12 +219,12 @@ impl<
             }
             None => {
                 self.door_faults = self.door_faults.saturating_add(1);
-                Err(NetFailed)
+                Err(NetFault::Failed)
             }
         }
     }
 
-    fn dial(&mut self, address: &str) -> Result<(SocketSource<R>, SocketSink), NetFailed> {
+    fn dial(&mut self, address: &str) -> Result<(SocketSource<R>, SocketSink), NetFault> {
         if let Some(pauses) = &mut self.pauses {
             pauses.wait(&self.rt);
         }
@@ -232,8 +232,14 @@ impl<
             Some(ends) => Ok(ends),
             None => {
                 self.dial_faults = self.dial_faults.saturating_add(1);
-                Err(NetFailed)
+                Err(NetFault::Failed)
             }
+        }
+    }
+
+    fn settle(&mut self) {
+        if let Some(pauses) = &mut self.pauses {
+            *pauses = Pauses::new();
         }
     }
 
