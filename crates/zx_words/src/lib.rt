@@ -15,6 +15,6 @@ mod stop;
 #[cfg(test)]
 mod tests;
 
-pub use hanging::HangsUp;
+pub use hanging::{HangsUp, LetsGo};
 pub use random::{MemRandom, RandWord, Random};
 pub use stop::{MemStop, SharedStop, StopWord};
