@@ -1,4 +1,5 @@
 pub mod Clocks
+pub mod Faults
 pub mod Nets
 pub mod Refilling
 pub mod Silence

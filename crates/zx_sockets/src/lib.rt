@@ -15,13 +15,17 @@
 //! such limits. The system asks its peer's system for a sign of life after each minute without a byte (TCP's keepalive), and the stream is broken
 //! where six such asks, each 10 seconds after the last, got no answer.
 //!
+//! A source that was told to end its stream ([`HangsUp`](zx_words::HangsUp)), and a sink that let go of it ([`LetsGo`](zx_words::LetsGo)),
+//! hold no descriptor any more, and each read or write is a fault. Before that the source takes what the peer has sent and nobody will
+//! read, up to 8 MiB: a stream that is closed over bytes that were not read is reset, and the peer may lose what was written before.
+//!
 //! # Bells
 //!
 //! A reader that waits for its peer and for another thread at once asks its source for a bell
 //! ([`Wakes::bell`](zx_net::Wakes::bell)). From then on a read waits for a byte or the bell, up to a second, and costs
 //! no turns in between. The reader arms the bell before it looks at what the other thread gives, and the other thread
 //! rings after it gave: so a ring between the look and the wait ends the wait, and none is lost. A bell costs the
-//! source two descriptors more.
+//! source two descriptors more: the source's own goes as the source is ended, and the bell's as the last who rings it lets go of it.
 //!
 //! A reader that looks in its idle turns alone gets one after each ring, armed or not, whatever its peer sends: the next
 //! read that would ask the system for bytes is idle. So is the first one after the bell was hung. Where there is no bell,
@@ -33,7 +37,11 @@
 //! signal, an error of the network), it is tried again after 50 milliseconds, and no fault is counted. A dial gives each address of a host 5
 //! seconds. A net that [`another`](zx_net::Net::another) gave belongs to a worker that dials again and again, so it
 //! waits before a dial that comes within 10 seconds of its last one: 0.1 seconds, twice as long for each such dial in
-//! a row, at most 6.4.
+//! a row, at most 6.4. [`settle`](zx_net::Net::settle) has it begin anew.
+//!
+//! Faults say why, by the system's code: the address is in use (EADDRINUSE); it is not one of this machine (EADDRNOTAVAIL), is no address,
+//! or its name is not known; this program may not (EACCES, EPERM); or no descriptor or memory is left (EMFILE, ENFILE, ENOBUFS, ENOMEM).
+//! Where an address was given as a name and several were found, the fault is that of the last one tried.
 //!
 //! # What is proved
 //!
@@ -43,6 +51,7 @@
 
 mod bell;
 mod clock;
+mod faults;
 mod keeping;
 mod net;
 mod patience;

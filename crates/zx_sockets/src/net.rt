@@ -1,9 +1,9 @@
 //! The system's sockets as a net.
 
-ghost use Rattle.std.specs.Prelude.{◌≡◌, false, None, IfSome};
-ghost use Rattle.zx_sockets.specs.Nets.{is_passing};
+ghost use Rattle.std.specs.Prelude.{◌≡◌, false, None, IfOk, IfSome};
 ghost use Rattle.zx_sockets.specs.Silence.{IsAccepted};
 
+use crate::faults::{fault_of, fault_of_text, is_passing};
 use crate::keeping::keep_watch;
 use crate::patience::Patience;
 use crate::pauses::Pauses;
@@ -33,11 +33,6 @@ const DIAL_WAIT: u64 = 5_000;
 
 /// The moment before an accept is tried again, in milliseconds.
 const ACCEPT_PAUSE: u64 = 50;
-
-/// The faults of an accept that pass, by their code (errno of Linux): a signal, no memory, no descriptor left in the system or in
-/// the process, a peer that is gone already, no room for buffers; and the errors of a network that wait on the new stream
-/// (accept(2), "Error handling").
-const PASSING: [i32; 14] = [4, 12, 23, 24, 64, 71, 92, 95, 100, 101, 103, 105, 112, 113];
 
 /// A door of the system: a socket that listens.
 #[derive(Drop)]
@@ -82,53 +77,43 @@ pub fn prepare(stream: &TcpStream) -> io::Result<()> {
     stream.set_write_timeout(Some(Duration::from_millis(WRITE_WAIT)))
 }
 
-/// Both ends of a stream, under a name; `None` where the stream is broken already or memory is refused.
+/// Both ends of a stream, under a name. A fault: the stream is broken already, or memory is refused.
 pub fn ends_of<R: SystemClock + Copy>(
     rt: R,
     alloc: Global,
     stream: TcpStream,
     name: u64,
     patience: Option<Patience>,
-) -> Option<(SocketSource<R>, SocketSink)>
-    ensures patience { IfSome result (λ ends. ends.0.patience ≡ patience) }
-    ensures source { IfSome result (λ ends. (ends.0.ended ≡ false) × (ends.0.faults ≡ 0) × (ends.0.idles ≡ 0) × (ends.0.name ≡ name)) }
-    ensures sink { IfSome result (λ ends. (ends.1.faults ≡ 0) × (ends.1.name ≡ name)) }
+) -> Result<(SocketSource<R>, SocketSink), NetFault>
+    ensures patience { IfOk result (λ ends. ends.0.patience ≡ patience) }
+    ensures source { IfOk result (λ ends. (ends.0.ended ≡ false) × (ends.0.faults ≡ 0) × (ends.0.idles ≡ 0) × (ends.0.name ≡ name)) }
+    ensures sink { IfOk result (λ ends. (ends.1.faults ≡ 0) × (ends.1.name ≡ name)) }
 {
-    if prepare(&stream).is_err() {
-        return None;
+    if let Err(error) = prepare(&stream) {
+        return Err(fault_of(error.raw_os_error()));
     }
     let Ok(mine) = Arc::new(alloc, stream) else {
-        return None;
+        return Err(NetFault::NoRoom);
     };
     let Ok(theirs) = Arc::try_clone(&mine) else {
-        return None;
+        return Err(NetFault::NoRoom);
     };
     match SocketSource::new(rt, alloc, mine, name, patience) {
-        Ok(source) => Some((source, SocketSink::new(theirs, name))),
-        Err(_) => None,
+        Ok(source) => Ok((source, SocketSink::new(theirs, name))),
+        Err(_) => Err(NetFault::NoRoom),
     }
 }
 
-/// Whether an accept with this fault may be tried again.
-fn is_passing(code: Option<i32>) -> bool
-    ensures { result ≡ is_passing code }
-{
-    match code {
-        Some(code) => PASSING.contains(&code),
-        None => false,
-    }
-}
-
-/// Accepts the next stream at a door, under a name; `None` where the door is broken.
+/// Accepts the next stream at a door, under a name. A fault: the door is broken.
 fn next_ends<R: SystemClock + Copy>(
     rt: R,
     alloc: Global,
     door: &StdDoor,
     name: u64,
-) -> Option<(SocketSource<R>, SocketSink)>
-    ensures patience { IfSome result (λ ends. IfSome ends.0.patience IsAccepted) }
-    ensures source { IfSome result (λ ends. (ends.0.ended ≡ false) × (ends.0.faults ≡ 0) × (ends.0.idles ≡ 0) × (ends.0.name ≡ name)) }
-    ensures sink { IfSome result (λ ends. (ends.1.faults ≡ 0) × (ends.1.name ≡ name)) }
+) -> Result<(SocketSource<R>, SocketSink), NetFault>
+    ensures patience { IfOk result (λ ends. IfSome ends.0.patience IsAccepted) }
+    ensures source { IfOk result (λ ends. (ends.0.ended ≡ false) × (ends.0.faults ≡ 0) × (ends.0.idles ≡ 0) × (ends.0.name ≡ name)) }
+    ensures sink { IfOk result (λ ends. (ends.1.faults ≡ 0) × (ends.1.name ≡ name)) }
 {
     for _ in 0..u64::MAX {
         match door.listener.accept() {
@@ -138,50 +123,74 @@ fn next_ends<R: SystemClock + Copy>(
                     Duration::from_millis(CONNECT_WAIT),
                     Duration::from_millis(LONGEST_SILENCE),
                 );
-                if let Some(ends) = ends_of(rt, alloc, stream, name, patience) {
-                    return Some(ends);
+                if let Ok(ends) = ends_of(rt, alloc, stream, name, patience) {
+                    return Ok(ends);
                 }
             }
             Err(error) if is_passing(error.raw_os_error()) => {}
-            Err(_) => return None,
+            Err(error) => return Err(fault_of(error.raw_os_error())),
         }
         thread::sleep(&rt, Duration::from_millis(ACCEPT_PAUSE));
     }
-    None
+    Err(NetFault::Failed)
+}
+
+/// Listens at the first address of a host at which the system lets it.
+fn listen<R: SystemNet<Listener = TcpListener, Stream = TcpStream>>(
+    rt: &R,
+    address: &str,
+) -> Result<TcpListener, NetFault> {
+    let found = match address.to_socket_addrs(rt) {
+        Ok(found) => found,
+        Err(error) => return Err(fault_of_text(rt, &error)),
+    };
+    let mut fault = NetFault::NoAddress;
+    for address in found {
+        match TcpListener::bind(rt, address) {
+            Ok(listener) => return Ok(listener),
+            Err(error) => fault = fault_of(error.raw_os_error()),
+        }
+    }
+    Err(fault)
 }
 
 /// Connects to the first address of a host that answers.
-pub fn connect<R: SystemNet<Stream = TcpStream>>(rt: &R, address: &str) -> Option<TcpStream> {
-    let Ok(found) = address.to_socket_addrs(rt) else {
-        return None;
+pub fn connect<R: SystemNet<Stream = TcpStream>>(
+    rt: &R,
+    address: &str,
+) -> Result<TcpStream, NetFault> {
+    let found = match address.to_socket_addrs(rt) {
+        Ok(found) => found,
+        Err(error) => return Err(fault_of_text(rt, &error)),
     };
+    let longest = Duration::from_millis(DIAL_WAIT);
+    let mut fault = NetFault::NoAddress;
     for address in found {
-        if let Ok(stream) = TcpStream::connect_timeout(
-            rt,
-            &address,
-            Duration::from_millis(DIAL_WAIT),
-        ) {
-            // A stream that the system does not watch over serves all the same.
-            let _is_watched = keep_watch(&stream);
-            return Some(stream);
+        match TcpStream::connect_timeout(rt, &address, longest) {
+            Ok(stream) => {
+                // A stream that the system does not watch over serves all the same.
+                let _is_watched = keep_watch(&stream);
+                return Ok(stream);
+            }
+            Err(error) => fault = fault_of(error.raw_os_error()),
         }
     }
-    None
+    Err(fault)
 }
 
-/// Both ends of a stream to a host, whose peer may say nothing for ever; `None` where there is none.
+/// Both ends of a stream to a host, whose peer may say nothing for ever.
 fn dialled_ends<R: SystemNet<Stream = TcpStream> + SystemClock + Copy>(
     rt: R,
     alloc: Global,
     address: &str,
-) -> Option<(SocketSource<R>, SocketSink)>
-    ensures patience { IfSome result (λ ends. ends.0.patience ≡ None) }
-    ensures source { IfSome result (λ ends. (ends.0.ended ≡ false) × (ends.0.faults ≡ 0) × (ends.0.idles ≡ 0) × (ends.0.name ≡ 0)) }
-    ensures sink { IfSome result (λ ends. (ends.1.faults ≡ 0) × (ends.1.name ≡ 0)) }
+) -> Result<(SocketSource<R>, SocketSink), NetFault>
+    ensures patience { IfOk result (λ ends. ends.0.patience ≡ None) }
+    ensures source { IfOk result (λ ends. (ends.0.ended ≡ false) × (ends.0.faults ≡ 0) × (ends.0.idles ≡ 0) × (ends.0.name ≡ 0)) }
+    ensures sink { IfOk result (λ ends. (ends.1.faults ≡ 0) × (ends.1.name ≡ 0)) }
 {
     match connect(&rt, address) {
-        Some(stream) => ends_of(rt, alloc, stream, 0, None),
-        None => None,
+        Ok(stream) => ends_of(rt, alloc, stream, 0, None),
+        Err(fault) => Err(fault),
     }
 }
 
@@ -201,11 +210,11 @@ impl<
     ghost streams = { λ _. None };
 
     fn bind(&mut self, address: &str) -> Result<StdDoor, NetFault> {
-        match TcpListener::bind(&self.rt, address) {
+        match listen(&self.rt, address) {
             Ok(listener) => Ok(StdDoor { listener }),
-            Err(_) => {
+            Err(fault) => {
                 self.door_faults = self.door_faults.saturating_add(1);
-                Err(NetFault::Failed)
+                Err(fault)
             }
         }
     }
@@ -213,13 +222,13 @@ impl<
     fn accept(&mut self, door: &mut StdDoor) -> Result<(SocketSource<R>, SocketSink), NetFault> {
         let name = self.accepted.saturating_add(1);
         match next_ends(self.rt, self.alloc, door, name) {
-            Some(ends) => {
+            Ok(ends) => {
                 self.accepted = name;
                 Ok(ends)
             }
-            None => {
+            Err(fault) => {
                 self.door_faults = self.door_faults.saturating_add(1);
-                Err(NetFault::Failed)
+                Err(fault)
             }
         }
     }
@@ -229,17 +238,17 @@ impl<
             pauses.wait(&self.rt);
         }
         match dialled_ends(self.rt, self.alloc, address) {
-            Some(ends) => Ok(ends),
-            None => {
+            Ok(ends) => Ok(ends),
+            Err(fault) => {
                 self.dial_faults = self.dial_faults.saturating_add(1);
-                Err(NetFault::Failed)
+                Err(fault)
             }
         }
     }
 
     fn settle(&mut self) {
         if let Some(pauses) = &mut self.pauses {
-            *pauses = Pauses::new();
+            pauses.begin_anew();
         }
     }
 

@@ -9,7 +9,8 @@ use std::time::{Clock as SystemClock, Duration, Instant};
 /// A dial within so many milliseconds of the last one waits.
 const RECENT: u64 = 10_000;
 
-/// The last dial of a worker, and how many came in a row within a short time of the one before.
+/// The last dial of a worker, and how many came in a row within a short time of the one before. Once a stream gave what it was dialled for,
+/// they begin anew: the next dial does not wait, however short a time ago the last one was.
 #[derive(Clone, Copy, Drop)]
 pub struct Pauses {
     last: Option<Instant>,
@@ -36,6 +37,11 @@ impl Pauses {
     /// Before the first dial.
     pub fn new() -> Pauses {
         Pauses { last: None, row: 0 }
+    }
+
+    /// The next dial waits as the second of a row does, if it comes a short time after the last one.
+    pub fn begin_anew(&mut self) {
+        self.row = 0;
     }
 
     /// Waits as long as a dial now has to wait, and notes the dial.

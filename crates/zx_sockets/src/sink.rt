@@ -1,16 +1,18 @@
 //! What goes to a peer over TCP.
 
-ghost use Rattle.std.specs.Prelude.{◌≡◌};
+ghost use Rattle.std.specs.Prelude.{◌≡◌, ◌≤◌, length};
 
 use std::io::Write;
 use std::net::TcpStream;
 use std::sync::Arc;
 use zx_outside::{Sink, Took};
+use zx_words::LetsGo;
 
 /// The sink end of a TCP stream.
 #[derive(Drop)]
 pub struct SocketSink {
-    stream: Arc<TcpStream>,
+    /// `None` once it has let go.
+    stream: Option<Arc<TcpStream>>,
     faults: u64,
     name: u64,
 }
@@ -22,11 +24,22 @@ impl SocketSink {
         ensures named { result.name ≡ name }
     {
         SocketSink {
-            stream,
+            stream: Some(stream),
             faults: 0,
             name,
         }
     }
+}
+
+/// Has the system take the front of a piece; 0 where it takes none.
+fn put(stream: &Option<Arc<TcpStream>>, piece: &[u8]) -> usize
+    ensures { result ≤ length piece.now }
+{
+    let Some(stream) = stream else {
+        return 0;
+    };
+    let mut stream: &TcpStream = stream;
+    stream.write(piece).unwrap_or(0)
 }
 
 impl Sink for SocketSink {
@@ -46,13 +59,23 @@ impl Sink for SocketSink {
         ensures counts { record { faults = self.new.faults } ≡ counts_after_write result (record { faults = self.old.faults }) }
         ensures named { self.new.name ≡ self.old.name }
     {
-        let mut stream: &TcpStream = &self.stream;
-        match stream.write(piece) {
-            Ok(count) if count > 0 => Took::Bytes(count),
-            _ => {
-                self.faults = self.faults.saturating_add(1);
-                Took::Failed
-            }
+        let count = put(&self.stream, piece);
+        if count == 0 {
+            self.faults = self.faults.saturating_add(1);
+            return Took::Failed;
         }
+        Took::Bytes(count)
+    }
+}
+
+impl LetsGo for SocketSink {
+    ghost use Rattle.std.specs.Prelude.{◌≡◌, None};
+
+    fn let_go(&mut self)
+        ensures faults { self.new.faults ≡ self.old.faults }
+        ensures named { self.new.name ≡ self.old.name }
+        ensures gone { self.new.stream ≡ None }
+    {
+        self.stream = None;
     }
 }

@@ -1,7 +1,8 @@
 //! What comes from a peer over TCP.
 
-ghost use Rattle.std.specs.Prelude.{◌≡◌, ◌≤◌, ◌<◌, true, false, vec_len, IfOk};
-ghost use Rattle.zx_outside.specs.Reading.{EndsForGood, counts_after_read};
+ghost use Rattle.std.specs.Prelude.{◌≡◌, ◌≤◌, ◌<◌, true, false, None, length, vec_len, IfOk};
+ghost use Rattle.zx_outside.specs.Reading.{EndsForGood, FitsBuffer, counts_after_read};
+ghost use Rattle.zx_outside.specs.declared.source.Got.TheVariants.{Failed as GotFailed};
 ghost use Rattle.zx_sockets.specs.Refilling.{Refilled};
 ghost use Rattle.zx_sockets.specs.Silence.{IsPatience, IsPatienceOf};
 
@@ -20,6 +21,9 @@ use zx_words::HangsUp;
 /// How many bytes are asked of the system at once.
 const ROOM: usize = 8192;
 
+/// So many reads at most take what nobody will read of a stream that is ended.
+const MOST_DRAINED: u32 = 1024;
+
 /// Without a bell, so many reads in a row that give bytes are followed by an idle turn.
 const MOST_IN_A_ROW: u32 = 100;
 
@@ -31,7 +35,8 @@ const END_WAIT: u64 = 10;
 pub struct SocketSource<R> {
     rt: R,
     alloc: Global,
-    stream: Arc<TcpStream>,
+    /// `None` once the stream was ended here.
+    stream: Option<Arc<TcpStream>>,
     room: Vec<u8>,
     at: usize,
     end: usize,
@@ -47,6 +52,32 @@ pub struct SocketSource<R> {
     ghost kept: { at ≤ end },
     ghost fits: { end ≤ vec_len room },
     ghost over: { ended ≡ true → at ≡ end },
+}
+
+/// Asks the system for bytes once. It is a fault to ask where the stream was ended here.
+fn ask(stream: &Option<Arc<TcpStream>>, room: &mut [u8]) -> Got
+    ensures size { FitsBuffer result (length room.new) }
+    ensures ended { stream.now ≡ None → result ≡ GotFailed }
+{
+    let Some(stream) = stream else {
+        return Got::Failed;
+    };
+    let mut stream: &TcpStream = stream;
+    judge(stream.read(room))
+}
+
+/// Takes what the peer has sent and nobody will read. A stream that is closed over bytes that were not read is reset, and the peer may
+/// lose what was written to it before (RFC 1122, 4.2.2.13).
+fn drain(stream: &TcpStream, room: &mut [u8]) {
+    // Where the system does not set it, the last read waits its time.
+    let _is_set = stream.set_nonblocking(true);
+    let mut stream = stream;
+    for _ in 0..MOST_DRAINED {
+        match judge(stream.read(room)) {
+            Got::Bytes(_) => {}
+            Got::End | Got::Nothing | Got::Failed => return,
+        }
+    }
 }
 
 /// Whether the peer has said nothing for too long.
@@ -126,7 +157,7 @@ impl<R: SystemClock + Copy> SocketSource<R> {
         Ok(SocketSource {
             rt,
             alloc,
-            stream,
+            stream: Some(stream),
             room,
             at: 0,
             end: 0,
@@ -149,6 +180,7 @@ impl<R: SystemClock + Copy> SocketSource<R> {
         ensures end { EndsForGood result self.old.ended self.new.ended }
         ensures named { self.new.name ≡ self.old.name }
         ensures patience { IsPatienceOf result self.old.patience self.new.patience }
+        ensures failed { result ≡ GotFailed }
     {
         self.faults = self.faults.saturating_add(1);
         Got::Failed
@@ -194,10 +226,14 @@ impl<R: SystemClock + Copy> SocketSource<R> {
         ensures end { EndsForGood result self.old.ended self.new.ended }
         ensures named { self.new.name ≡ self.old.name }
         ensures patience { IsPatienceOf result self.old.patience self.new.patience }
+        ensures over { self.old.stream ≡ None → self.old.ended ≡ false → result ≡ GotFailed }
     {
         if self.ended {
             rest(&self.rt, &mut self.ear);
             return Got::End;
+        }
+        if self.stream.is_none() {
+            return self.fail();
         }
         if is_due(&self.ear, self.row) {
             return self.idle_turn();
@@ -205,8 +241,7 @@ impl<R: SystemClock + Copy> SocketSource<R> {
         if !hears(&mut self.ear) {
             return self.pass_turn();
         }
-        let mut stream: &TcpStream = &self.stream;
-        let answer = judge(stream.read(self.room.as_mut_slice()));
+        let answer = ask(&self.stream, self.room.as_mut_slice());
         match answer {
             Got::Bytes(count) => {
                 let patience = patience_after(&self.rt, &self.patience, count);
@@ -273,15 +308,32 @@ impl<R: SystemClock + SystemNet + Copy> Wakes for SocketSource<R> {
     type Bell = SocketBell;
 
     fn bell(&mut self) -> Option<Arc<SocketBell>> {
-        let (ear, bell) = Ear::new(&self.rt, self.alloc, &self.stream)?;
+        let Some(stream) = &self.stream else {
+            return None;
+        };
+        let (ear, bell) = Ear::new(&self.rt, self.alloc, stream)?;
         self.ear = Some(ear);
         Some(bell)
     }
 }
 
 impl<R: SystemClock + Copy> HangsUp for SocketSource<R> {
-    fn hang_up(&mut self) {
-        // A stream that the peer has ended already cannot be ended again.
-        let _over = self.stream.shutdown(Shutdown::Both);
+    ghost use Rattle.std.specs.Prelude.{◌≡◌, None};
+
+    fn hang_up(&mut self)
+        ensures faults { self.new.faults ≡ self.old.faults }
+        ensures idles { self.new.idles ≡ self.old.idles }
+        ensures ended { self.new.ended ≡ self.old.ended }
+        ensures named { self.new.name ≡ self.old.name }
+        ensures gone { (self.new.stream ≡ None) × (self.new.ear ≡ None) × (self.new.at ≡ self.new.end) }
+    {
+        self.at = self.end;
+        self.ear = None;
+        if let Some(stream) = &self.stream {
+            drain(stream, self.room.as_mut_slice());
+            // A stream that the peer has ended already cannot be ended again.
+            let _over = stream.shutdown(Shutdown::Both);
+        }
+        self.stream = None;
     }
 }

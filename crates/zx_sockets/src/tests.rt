@@ -9,9 +9,10 @@ use std::sync::Arc;
 use std::sync::atomic::{AtomicU64, Ordering};
 use std::test::Fail;
 use std::time::{Clock as SystemClock, Duration, Instant};
-use std::{io, thread};
-use zx_net::{Bell, Clock, InlineSpawner, MemNet, Net, Spawner, Wakes};
+use std::{fs, io, thread};
+use zx_net::{Bell, Clock, InlineSpawner, MemNet, Net, NetFault, Spawner, Wakes};
 use zx_outside::{Got, Sink, Source, Took};
+use zx_words::{HangsUp, LetsGo};
 
 /// How many turns a test waits at most for what has to come.
 const TURNS: u32 = 6000;
@@ -338,8 +339,8 @@ fn ends_with_patience(
     let near = TcpStream::connect(&rt, address)?;
     let (far, _) = listener.accept()?;
     match ends_of(rt, rt.alloc(), far, 7, Patience::new(&rt, first, later)) {
-        Some(ends) => Ok((near, ends)),
-        None => Err(Fail::from("ends")),
+        Ok(ends) => Ok((near, ends)),
+        Err(_) => Err(Fail::from("ends")),
     }
 }
 
@@ -443,6 +444,92 @@ fn a_worker_waits_between_its_dials(rt: HostRuntime) -> Result<(), Fail> {
     Ok(())
 }
 
+/// How many descriptors this program holds, that of the look among them.
+fn held(rt: &HostRuntime) -> Result<u32, Fail> {
+    let mut count = 0u32;
+    for entry in fs::read_dir(rt, "/proc/self/fd")? {
+        let _entry = entry?;
+        count = count.saturating_add(1);
+    }
+    Ok(count)
+}
+
+#[test]
+fn what_was_served_gives_its_descriptors_back(rt: HostRuntime) -> Result<(), Fail> {
+    let before = held(&rt)?;
+    let ((mut near, mut to_far), (mut far, mut to_near)) = ends_of_a_stream(rt)?;
+    let bell = far.bell();
+    assert!(rt; bell.is_some());
+    drop(bell);
+    // A descriptor for each end of the stream, and two for the bell.
+    assert!(rt; held(&rt)? == before.saturating_add(4));
+    far.hang_up();
+    to_near.let_go();
+    assert!(rt; held(&rt)? == before.saturating_add(1));
+    assert!(rt; turn(&mut far) == Got::Failed);
+    assert!(rt; to_near.write(b"ping") == Took::Failed);
+    assert!(rt; far.bell().is_none());
+    near.hang_up();
+    to_far.let_go();
+    assert!(rt; held(&rt)? == before);
+    Ok(())
+}
+
+#[test]
+fn what_was_written_before_the_end_comes(rt: HostRuntime) -> Result<(), Fail> {
+    let ((mut near, mut to_far), (mut far, mut to_near)) = ends_of_a_stream(rt)?;
+    // Bytes that nobody reads are there as the stream is ended.
+    assert!(rt; to_far.write(b"ping") == Took::Bytes(4));
+    assert!(rt; next_byte(&mut far) == Some(b'p'));
+    assert!(rt; to_far.write(b"ping") == Took::Bytes(4));
+    assert!(rt; to_near.write(b"pong") == Took::Bytes(4));
+    far.hang_up();
+    to_near.let_go();
+    assert!(rt; comes(&mut near, b"pong"));
+    assert!(rt; drained(&mut near) == Got::End);
+    Ok(())
+}
+
+#[test]
+fn a_fault_says_why(rt: HostRuntime) -> Result<(), Fail> {
+    let address = free_address(&rt)?;
+    let mut net = StdNet::new(rt, rt.alloc());
+    let door = net.bind(address.as_str());
+    assert!(rt; door.is_ok());
+    assert!(rt; net.bind(address.as_str()).err() == Some(NetFault::InUse));
+    drop(door);
+    assert!(rt; net.dial(address.as_str()).err() == Some(NetFault::Failed));
+    // An address of the documentation's network (RFC 5737) is no machine's, and the name nobody's (RFC 6761).
+    for text in [
+        "192.0.2.1:2181",
+        "name.invalid:2181",
+        "127.0.0.1",
+        "127.0.0.1:port",
+        "127.0.0.1:65536",
+    ] {
+        assert!(rt; net.bind(text).err() == Some(NetFault::NoAddress));
+    }
+    assert!(rt; net.dial("name.invalid:2181").err() == Some(NetFault::NoAddress));
+    Ok(())
+}
+
+#[test]
+fn a_worker_whose_stream_was_of_use_begins_its_pauses_anew(rt: HostRuntime) -> Result<(), Fail> {
+    let address = free_address(&rt)?;
+    let mut worker = StdNet::new(rt, rt.alloc()).another();
+    for _ in 0..5u32 {
+        assert!(rt; worker.dial(address.as_str()).is_err());
+    }
+    worker.settle();
+    let since = Instant::now(&rt)?;
+    assert!(rt; worker.dial(address.as_str()).is_err());
+    let lasted = since.elapsed(&rt)?;
+    // The sixth dial of a row waits 1.6 seconds, and the second a tenth of one.
+    assert!(rt; lasted >= Duration::from_millis(100));
+    assert!(rt; lasted < Duration::from_millis(1600));
+    Ok(())
+}
+
 #[test]
 fn a_first_net_dials_at_once(rt: HostRuntime) -> Result<(), Fail> {
     let address = free_address(&rt)?;
@@ -515,7 +602,7 @@ fn a_dialled_stream_is_watched_over(rt: HostRuntime) -> Result<(), Fail> {
     let listener = TcpListener::bind(&rt, "127.0.0.1:0")?;
     let port = listener.local_addr()?.port();
     let address = format!(in rt.alloc(); "127.0.0.1:{port}")?;
-    let Some(near) = connect(&rt, address.as_str()) else {
+    let Ok(near) = connect(&rt, address.as_str()) else {
         return Err(Fail::from("connect"));
     };
     assert!(rt; option(&near, false) == Some(1));
