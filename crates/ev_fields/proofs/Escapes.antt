@@ -10,7 +10,7 @@ use Rattle.json.proofs.Printed.Strings.{escape_byte_plain}
 use Rattle.base64.specs.Engines.{standard}
 use Rattle.base64.specs.GeneralPurpose.{encode_of}
 use Rattle.ev_fields.specs.declared.field.Field.{Field}
-use Rattle.ev_fields.specs.declared.field.Field.TheVariants.{Header, Revision, Succeeded, Responses, ResponsePut, ResponseDeleteRange, ResponseRange, Deleted, Kvs, Key, Value, CreateRevision, ModRevision, Version, Lease, Count, More, Id, Ttl, Result, Events, Kind, CompactRevision, Canceled, Created, Compare, Success, Failure, Target, RequestPut, RequestDeleteRange, RequestRange, RangeEnd, Limit, KeysOnly, CreateRequest, StartRevision}
+use Rattle.ev_fields.specs.declared.field.Field.TheVariants.{Header, Revision, Succeeded, Responses, ResponsePut, ResponseDeleteRange, ResponseRange, Deleted, Kvs, Key, Value, CreateRevision, ModRevision, Version, Lease, Count, More, Id, Ttl, Result, Events, Kind, CompactRevision, Canceled, Created, Compare, Success, Failure, Target, RequestPut, RequestDeleteRange, RequestRange, RangeEnd, Limit, KeysOnly, CreateRequest, Fragment, ProgressNotify, StartRevision}
 use Rattle.ev_fields.specs.Names.{snake}
 use Rattle.base64.specs.Rfc4648.{encode_symbols, padding_len}
 
@@ -96,6 +96,8 @@ names RangeEnd = refl
 names Limit = refl
 names KeysOnly = refl
 names CreateRequest = refl
+names Fragment = refl
+names ProgressNotify = refl
 names StartRevision = refl
 
 pub quoted-name : (f : Field) → 34 ∷ (snake f ++ 34 ∷ 58 ∷ []) ≡ quoted (snake f) ++ 58 ∷ []

@@ -1,7 +1,7 @@
 -- The names of members: in snake case as etcd's protobuf messages have them, and in camel case as protobuf's JSON mapping does.
 use Rattle.std.specs.Prelude.{ℕ, ◌-◌, ◌==◌, List, [], ◌∷◌, codes, if◌then◌else◌}
 use Rattle.ev_fields.specs.declared.field.Field.{Field}
-use Rattle.ev_fields.specs.declared.field.Field.TheVariants.{Header, Revision, Succeeded, Responses, ResponsePut, ResponseDeleteRange, ResponseRange, Deleted, Kvs, Key, Value, CreateRevision, ModRevision, Version, Lease, Count, More, Id, Ttl, Result, Events, Kind, CompactRevision, Canceled, Created, Compare, Success, Failure, Target, RequestPut, RequestDeleteRange, RequestRange, RangeEnd, Limit, KeysOnly, CreateRequest, StartRevision}
+use Rattle.ev_fields.specs.declared.field.Field.TheVariants.{Header, Revision, Succeeded, Responses, ResponsePut, ResponseDeleteRange, ResponseRange, Deleted, Kvs, Key, Value, CreateRevision, ModRevision, Version, Lease, Count, More, Id, Ttl, Result, Events, Kind, CompactRevision, Canceled, Created, Compare, Success, Failure, Target, RequestPut, RequestDeleteRange, RequestRange, RangeEnd, Limit, KeysOnly, CreateRequest, Fragment, ProgressNotify, StartRevision}
 
 unfoldable pub snake : Field → List ℕ
 snake Header = codes "header"
@@ -40,6 +40,8 @@ snake RangeEnd = codes "range_end"
 snake Limit = codes "limit"
 snake KeysOnly = codes "keys_only"
 snake CreateRequest = codes "create_request"
+snake Fragment = codes "fragment"
+snake ProgressNotify = codes "progress_notify"
 snake StartRevision = codes "start_revision"
 
 -- each small letter after an underscore becomes a capital, and the underscore goes

@@ -42,6 +42,8 @@ pub enum Field {
     Limit,
     KeysOnly,
     CreateRequest,
+    Fragment,
+    ProgressNotify,
     StartRevision,
 }
 
@@ -88,6 +90,8 @@ impl Field {
             Field::Limit => "limit",
             Field::KeysOnly => "keys_only",
             Field::CreateRequest => "create_request",
+            Field::Fragment => "fragment",
+            Field::ProgressNotify => "progress_notify",
             Field::StartRevision => "start_revision",
         }
     }
@@ -134,6 +138,8 @@ impl Field {
             Field::Limit => "\"limit\":",
             Field::KeysOnly => "\"keys_only\":",
             Field::CreateRequest => "\"create_request\":",
+            Field::Fragment => "\"fragment\":",
+            Field::ProgressNotify => "\"progress_notify\":",
             Field::StartRevision => "\"start_revision\":",
         }
     }
@@ -180,6 +186,8 @@ impl Field {
             Field::Limit => "limit",
             Field::KeysOnly => "keysOnly",
             Field::CreateRequest => "createRequest",
+            Field::Fragment => "fragment",
+            Field::ProgressNotify => "progressNotify",
             Field::StartRevision => "startRevision",
         }
     }

@@ -1,5 +1,5 @@
 -- Each ask that was written reads back.
-use Rattle.std.proofs.Common.{◌≡◌, ℕ, suc, List, [], ◌∷◌, map, Option, Some, Ok, refl, ap, ◌∙◌}
+use Rattle.std.proofs.Common.{◌≡◌, ℕ, suc, true, List, [], ◌∷◌, map, Option, Some, Ok, refl, ap, ◌∙◌}
 use Rattle.std.specs.Prelude.{ℤ, codes}
 use Rattle.serde_json.specs.Data.{Data, string}
 use Rattle.ev_types.specs.declared.ask.RangeReq.{RangeReq}
@@ -245,11 +245,16 @@ ask_back (ask.Alive id) h = alive_back id h
 -- ---- watches
 
 abbrev create_pieces : ℤ → List ℕ → List (Field × Option Data)
-create_pieces from key = (field.Key, Some (coded key)) ∷ (field.StartRevision, Some (in_digits from)) ∷ []
+create_pieces from key =
+    (field.Fragment, if_true true)
+    ∷ (field.Key, Some (coded key))
+    ∷ (field.ProgressNotify, if_true true)
+    ∷ (field.StartRevision, Some (in_digits from))
+    ∷ []
 
 create_data-pieces : (from : ℤ) (key : List ℕ) → create_data from key ≡ object_of (pieces (create_pieces from key))
 unfolding create_data none
-create_data-pieces from key = ap object_of (more (bytes-piece _ _) (number-piece _ _) ∙ gathered-pieces [] (create_pieces from key))
+create_data-pieces from key = ap object_of (more (more (more (true_if-piece _ _) (bytes-piece _ _)) (true_if-piece _ _)) (number-piece _ _) ∙ gathered-pieces [] (create_pieces from key))
 
 watch_data-pieces : (from : ℤ) (key : List ℕ) → watch_data from key ≡ object_of (pieces (one_piece field.CreateRequest (create_data from key)))
 unfolding watch_data none
@@ -258,7 +263,7 @@ watch_data-pieces from key = ap object_of (given-piece _ _ ∙ gathered-pieces [
 pub plain-watch : (from : ℤ) (key : List ℕ) → Plain 127 (watch_data from key)
 unfolding snake
 plain-watch from key =
-    let inner : Plain 126 (create_data from key) = rw (create_data-pieces from key) (plain-object 125 (create_pieces from key) refl (plain-string 125 _, (plain-string 125 _, tt))) in
+    let inner : Plain 126 (create_data from key) = rw (create_data-pieces from key) (plain-object 125 (create_pieces from key) refl (plain-flag 125 true, (plain-string 125 _, (plain-flag 125 true, (plain-string 125 _, tt))))) in
     rw (watch_data-pieces from key) (plain-object 126 (one_piece field.CreateRequest (create_data from key)) refl (inner, tt))
 
 pub watch_back : (from : ℤ) (key : List ℕ) → IsPositiveCount from → IsKey key → watch_in (watch_data from key) ≡ Ok (from, key)

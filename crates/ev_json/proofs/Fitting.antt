@@ -412,8 +412,8 @@ canceled_fits : (rev : ℤ) (b : Bool) → int_lt (pos 0) rev ≡ b → IsCount 
 canceled_fits rev true some h = positive (2 ^ 62) h.0 rev h.1 h.2 some
 canceled_fits rev false none h = tt
 
-said_fits : (created : Bool) (r : ℤ) (kvs : List Kv) → IsCount r → AllByRecursion KvFits kvs → LineFits (if created then line.Created else line.Events r kvs)
-said_fits true r kvs h all = tt
+said_fits : (created : Bool) (r : ℤ) (kvs : List Kv) → IsCount r → AllByRecursion KvFits kvs → LineFits (if created then line.Created r else line.Events r kvs)
+said_fits true r kvs h all = h
 said_fits false r kvs h all = (h, all)
 
 news_fits : (d : Data) (l : Line) → news_in d ≡ Ok l → LineFits l

@@ -71,7 +71,7 @@ pub plain-line : (kvs : List Kv) (revision : ℤ) → Plain 127 (line_data kvs r
 unfolding snake
 plain-line kvs revision = rw (line_data-pieces kvs revision) (plain-object 126 (one_piece field.Result (change_data kvs revision)) refl (plain-change kvs revision, tt))
 
-said : (kvs : List Kv) (revision : ℤ) → cond (length kvs == 0) line.Created (line.Events revision kvs) ≡ line_of kvs revision
+said : (kvs : List Kv) (revision : ℤ) → cond (length kvs == 0) (line.Created revision) (line.Events revision kvs) ≡ line_of kvs revision
 said [] revision = refl
 said (kv ∷ kvs) revision = rw (ne_eqb (suc (length kvs)) 0 (λ e. cc)) refl
 

@@ -184,7 +184,7 @@ news_in d = do
   revision ← revision_in d
   created ← flag_in field.Created d
   events ← list_in event_in field.Events d
-  Ok (if created then line.Created else line.Events revision (puts_of events))
+  Ok (if created then line.Created revision else line.Events revision (puts_of events))
 
 -- a canceled line needs no header
 unfoldable pub change_in : Data → Result Line Field

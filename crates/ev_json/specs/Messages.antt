@@ -144,9 +144,12 @@ answer_text a = compact_text (answer_data a)
 
 -- ---- watches
 
+-- the member may split a change into several lines, and tells of progress where no key changes
 unfoldable pub create_data : ℤ → List ℕ → Data
 create_data from key = object_of (none
+    ++ true_if field.Fragment true
     ++ bytes field.Key key
+    ++ true_if field.ProgressNotify true
     ++ number field.StartRevision from)
 
 unfoldable pub watch_data : ℤ → List ℕ → Data

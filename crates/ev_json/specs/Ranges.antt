@@ -97,12 +97,12 @@ AnswerFits (ask.Alive id) (answer.Alive revision kept left) = IsCount revision �
 
 -- what a line says that was written for these puts: that the watch was created, where there are none
 abbrev pub line_of : List Kv → ℤ → Line
-line_of [] revision = line.Created
+line_of [] revision = line.Created revision
 line_of (kv ∷ kvs) revision = line.Events revision (kv ∷ kvs)
 
 -- the numbers of a line that was read are in range
 abbrev pub LineFits : Line → Type 0
-LineFits line.Created = ⊤
+LineFits (line.Created revision) = IsCount revision
 LineFits (line.Events revision kvs) = IsCount revision × AllByRecursion KvFits kvs
 LineFits (line.Compacted rev) = IsPositiveCount rev
 LineFits line.Ended = ⊤

@@ -200,14 +200,16 @@ impl Message for Create<'_> {
     ghost shape = { λ c. create_data c.from c.key.now };
 
     fn room(&self) -> usize {
-        about_bytes(60, self.key)
+        about_bytes(100, self.key)
     }
 
     #[tactic(auto, unfolding(crate::specs::Messages::create_data))]
     fn write(&self, out: Text) -> Result<Text, AllocError> {
         let out = out
             .begin()?
+            .true_if(Field::Fragment, true)?
             .bytes(Field::Key, self.key)?
+            .true_if(Field::ProgressNotify, true)?
             .number(Field::StartRevision, self.from)?
             .end()?;
         Ok(out)
@@ -225,7 +227,7 @@ impl Message for Watch<'_> {
     ghost shape = { λ w. watch_data w.from w.key.now };
 
     fn room(&self) -> usize {
-        about_bytes(80, self.key)
+        about_bytes(120, self.key)
     }
 
     #[tactic(auto, unfolding(crate::specs::Messages::watch_data))]

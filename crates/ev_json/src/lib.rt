@@ -9,7 +9,8 @@
 //!
 //! Each message has one text, that of `specs/Messages`: compact, members sorted by name, numbers of 64 bits as strings of
 //! digits, bytes in base64 with padding. Lists are left out where they are empty, flags where they are false, and most other
-//! members where they are empty or 0; `specs/Messages` says which. No text has a line feed, so a stream can end each with one.
+//! members where they are empty or 0; `specs/Messages` says which. A request to watch allows the member to split a long line into
+//! several, and asks for notices of progress. No text has a line feed, so a stream can end each with one.
 //! Within the ranges of `specs/Ranges` a text reads back as the message.
 //!
 //! # Reading

@@ -83,7 +83,7 @@ fn news(alloc: Global, value: &Place<'_, '_>) -> Result<Line, JsonFault>
     let created = flag(value, Field::Created)?;
     let events: Seq<Event> = list(alloc, value, Field::Events)?;
     if created {
-        return Ok(Line::Created);
+        return Ok(Line::Created { revision });
     }
     let kvs = puts(alloc, events.into_vec())?;
     Ok(Line::Events {

@@ -4,7 +4,7 @@
 //!     ask | ROUTE | BODY = ASK
 //!     answer | ROUTE | ASK | BODY = ANSWER           an answer to that ask
 //!     watch | BODY = WATCH
-//!     line | BODY = created, ended, compacted REV, events REV, or events REV LINE
+//!     line | BODY = created REV, ended, compacted REV, events REV, or events REV LINE
 //!     repeated | HEX | COUNT | HEX | COUNT = ANSWER  as an answer to the ask that reads the head
 //!     many | SIZE | COUNT = the bytes that are written of COUNT answers with a value of SIZE bytes, and those that are read
 
@@ -141,7 +141,7 @@ fn line(alloc: Global, body: &str) -> Result<String, Memory> {
 
 fn line_text(alloc: Global, said: &Line) -> Result<String, Memory> {
     match said {
-        Line::Created => Ok(String::from_str(alloc, "created")?),
+        Line::Created { revision } => Ok(format!(in alloc; "created {revision}")?),
         Line::Ended => Ok(String::from_str(alloc, "ended")?),
         Line::Compacted { rev } => Ok(format!(in alloc; "compacted {rev}")?),
         Line::Events { revision, kvs } => {
