@@ -25,7 +25,7 @@ use Rattle.ev_http.specs.declared.send.Fixed.TheVariants as fixed
 use Rattle.ev_http.specs.Taking.{counted}
 use Rattle.ev_http.specs.Framing.{is_word, count_of, after_field, framing_of}
 use Rattle.ev_http.specs.Messages.{path_of, is_post, HoldsRequest, HoldsResponse, HoldsStatus}
-use Rattle.ev_http.specs.Sending.{IsHost, IsPlainRequest, IsPlainResponse, common_fields, phrase_of, text_of, request_head, response_head}
+use Rattle.ev_http.specs.Sending.{IsHost, IsPlainRequest, IsPlainResponse, common_fields, is_watch, leader_fields, leader_text, phrase_of, text_of, request_head, response_head}
 use Rattle.ev_http.proofs.Framings.{some_count}
 use Rattle.zx_base.proofs.Booleans.{and-split}
 
@@ -266,6 +266,9 @@ two_fields n1 v1 n2 v2 e = simp (append_assoc, cons-append)
 three_fields : (n1 v1 n2 v2 n3 v3 e : List ℕ) → (((n1 ++ 58 ∷ 32 ∷ v1) ++ e) ++ (((n2 ++ 58 ∷ 32 ∷ v2) ++ e) ++ (((n3 ++ 58 ∷ 32 ∷ v3) ++ e) ++ []))) ++ e ≡ n1 ++ 58 ∷ 32 ∷ (v1 ++ (e ++ (n2 ++ 58 ∷ 32 ∷ (v2 ++ (e ++ (n3 ++ 58 ∷ 32 ∷ (v3 ++ (e ++ e))))))))
 three_fields n1 v1 n2 v2 n3 v3 e = simp (append_assoc, cons-append)
 
+four_fields : (n1 v1 n2 v2 n3 v3 n4 v4 e : List ℕ) → (((n1 ++ 58 ∷ 32 ∷ v1) ++ e) ++ (((n2 ++ 58 ∷ 32 ∷ v2) ++ e) ++ (((n3 ++ 58 ∷ 32 ∷ v3) ++ e) ++ (((n4 ++ 58 ∷ 32 ∷ v4) ++ e) ++ [])))) ++ e ≡ n1 ++ 58 ∷ 32 ∷ (v1 ++ (e ++ (n2 ++ 58 ∷ 32 ∷ (v2 ++ (e ++ (n3 ++ 58 ∷ 32 ∷ (v3 ++ (e ++ (n4 ++ 58 ∷ 32 ∷ (v4 ++ (e ++ e)))))))))))
+four_fields n1 v1 n2 v2 n3 v3 n4 v4 e = simp (append_assoc, cons-append)
+
 -- ---- requests
 
 path_is_target : (r : Route) → (0 < length (path_of r)) × (list_all is_uri_byte (path_of r) ≡ true) × (list_all (λ b. nat_lt b 128) (path_of r) ≡ true)
@@ -276,16 +279,43 @@ path_is_target route.Grant = (omega arith, refl, refl)
 path_is_target route.Alive = (omega arith, refl, refl)
 path_is_target route.Watch = (omega arith, refl, refl)
 
-abbrev head_to : List ℕ → Route → ℕ → RequestHead
-head_to host r n = record {
+abbrev leader_field : Field
+leader_field = field (codes "grpc-metadata-hasleader") (codes "true")
+
+abbrev fields_to : Bool → List ℕ → ℕ → List Field
+fields_to true host n = field (codes "host") host ∷ (leader_field ∷ common (decimal n))
+fields_to false host n = field (codes "host") host ∷ common (decimal n)
+
+abbrev head_with : Bool → List ℕ → List ℕ → ℕ → RequestHead
+head_with leads host path n = record {
   blank = [];
   method = codes "POST";
-  target = path_of r;
+  target = path;
   minor = 1;
   line_end = crlf;
-  fields = field (codes "host") host ∷ common (decimal n);
+  fields = fields_to leads host n;
   last = crlf;
 }
+
+abbrev head_to : List ℕ → Route → ℕ → RequestHead
+head_to host r n = head_with (is_watch r) host (path_of r) n
+
+are_fields_to : (leads : Bool) (host : List ℕ) (n : ℕ) → n < 2 ^ 64 → IsHost host → All IsField (fields_to leads host n)
+unfolding is_token_byte
+are_fields_to false host n fits is_host =
+    All-cons IsField (field (codes "host") host) (common (decimal n)) (is_field (codes "host") host (omega arith) refl (host_passes host is_host)) (are_common (decimal n) (number n fits).are_values)
+are_fields_to true host n fits is_host =
+    All-cons IsField (field (codes "host") host) (leader_field ∷ common (decimal n)) (is_field (codes "host") host (omega arith) refl (host_passes host is_host))
+    (All-cons IsField leader_field (common (decimal n)) (is_field (codes "grpc-metadata-hasleader") (codes "true") (omega arith) refl refl) (are_common (decimal n) (number n fits).are_values))
+
+few_fields : (leads : Bool) (host : List ℕ) (n : ℕ) → length (fields_to leads host n) ≤ 64
+few_fields false host n = omega arith
+few_fields true host n = omega arith
+
+frames_to : (leads : Bool) (host : List ℕ) (n : ℕ) → n < 2 ^ 64 → framing_of kind.Request (fields_to leads host n) ≡ Ok (framing.Counted n)
+unfolding after_field is_word
+frames_to false host n fits = frames_request host n (decimal n) fits (number n fits)
+frames_to true host n fits = let value = counted_here n (decimal n) fits (number n fits) in rw value refl
 
 is_head_to : (host : List ℕ) (r : Route) (n : ℕ) → n < 2 ^ 64 → IsHost host → IsRequestHead (head_to host r n)
 unfolding is_token_byte
@@ -296,15 +326,23 @@ is_head_to host r n fits is_host =
       target = (target.0, all_pass is_uri_byte (path_of r) target.1);
       target_text = IsUtf8-from_ascii (path_of r) (ascii (path_of r) target.2);
       minor = omega arith;
-      fields = All-cons IsField (field (codes "host") host) (common (decimal n)) (is_field (codes "host") host (omega arith) refl (host_passes host is_host)) (are_common (decimal n) (number n fits).are_values);
+      fields = are_fields_to (is_watch r) host n fits is_host;
     }
 
-printed_request : (host : List ℕ) (r : Route) (n : ℕ) → request_head host r n ≡ print_request (head_to host r n)
+printed_with : (leads : Bool) (host path : List ℕ) (n : ℕ)
+    → text_of fixed.Post ++ (path ++ (text_of fixed.Host ++ (host ++ (leader_text leads ++ (text_of fixed.Fields ++ (decimal n ++ text_of fixed.End)))))) ≡ print_request (head_with leads host path n)
 unfolding text_of
-printed_request host r n =
+printed_with false host path n =
     let lines = three_fields (codes "host") host (codes "content-type") (codes "application/json") (codes "content-length") (decimal n) (print_end crlf) in
-    let front : List ℕ → List ℕ = λ (x : List ℕ). codes "POST" ++ 32 ∷ (path_of r ++ 32 ∷ (print_version 1 ++ (print_end crlf ++ x))) in
-    ap front (sym lines ∙ sym (append-nil _)) ∙ sym (print_request-append (head_to host r n) []) ∙ append-nil (print_request (head_to host r n))
+    let front : List ℕ → List ℕ = λ (x : List ℕ). codes "POST" ++ 32 ∷ (path ++ 32 ∷ (print_version 1 ++ (print_end crlf ++ x))) in
+    ap front (sym lines ∙ sym (append-nil _)) ∙ sym (print_request-append (head_with false host path n) []) ∙ append-nil (print_request (head_with false host path n))
+printed_with true host path n =
+    let lines = four_fields (codes "host") host (codes "grpc-metadata-hasleader") (codes "true") (codes "content-type") (codes "application/json") (codes "content-length") (decimal n) (print_end crlf) in
+    let front : List ℕ → List ℕ = λ (x : List ℕ). codes "POST" ++ 32 ∷ (path ++ 32 ∷ (print_version 1 ++ (print_end crlf ++ x))) in
+    ap front (sym lines ∙ sym (append-nil _)) ∙ sym (print_request-append (head_with true host path n) []) ∙ append-nil (print_request (head_with true host path n))
+
+printed_request : (host : List ℕ) (r : Route) (n : ℕ) → request_head host r n ≡ print_request (head_to host r n)
+printed_request host r n = printed_with (is_watch r) host (path_of r) n
 
 is_post-post : is_post (codes "POST") ≡ true
 unfolding is_post
@@ -317,8 +355,8 @@ request_back host body rest goes is_host short small =
     record {
       h = head_to host goes n;
       head = request_head host goes n;
-      whole = record { is_head = is_head_to host goes n fits is_host; printed = printed_request host goes n; few = omega arith; short = short };
-      says = (is_post-post, refl, frames_request host n (decimal n) fits (number n fits));
+      whole = record { is_head = is_head_to host goes n fits is_host; printed = printed_request host goes n; few = few_fields (is_watch goes) host n; short = short };
+      says = (is_post-post, refl, frames_to (is_watch goes) host n fits);
       bytes_are = append_assoc (request_head host goes n) body rest;
     }
 
@@ -336,7 +374,25 @@ all_crlf ds =
     All-cons (λ (f : Field). f.end ≡ crlf) (field (codes "content-type") (codes "application/json")) (field (codes "content-length") ds ∷ []) refl
     (All-cons (λ (f : Field). f.end ≡ crlf) (field (codes "content-length") ds) [] refl (All-nil (λ (f : Field). f.end ≡ crlf)))
 
-pub request_form : (host : List ℕ) (goes : Route) (n : ℕ) → IsHost host → n ≤ 8388608 → (h : RequestHead) × (request_head host goes n ≡ print_request h) × IsPlainRequest host n h
+trim_true : trim_ows (32 ∷ codes "true") ≡ codes "true"
+unfolding trim_ows
+trim_true = refl
+
+lines_to : (leads : Bool) (host : List ℕ) (n : ℕ) → All (λ (f : Field). f.end ≡ crlf) (fields_to leads host n)
+lines_to false host n = All-cons (λ (f : Field). f.end ≡ crlf) (field (codes "host") host) (common (decimal n)) refl (all_crlf (decimal n))
+lines_to true host n =
+    All-cons (λ (f : Field). f.end ≡ crlf) (field (codes "host") host) (leader_field ∷ common (decimal n)) refl
+    (All-cons (λ (f : Field). f.end ≡ crlf) leader_field (common (decimal n)) refl (all_crlf (decimal n)))
+
+says_to : (leads : Bool) (host : List ℕ) (n : ℕ) → n < 2 ^ 64 → IsHost host → map name_and_value (fields_to leads host n) ≡ (codes "host", host) ∷ (leader_fields leads ++ common_fields n)
+says_to false host n fits is_host =
+    ap (λ (x : List ℕ). (codes "host", x) ∷ map name_and_value (common (decimal n))) (trim_host host is_host) ∙ ap (λ (x : List (List ℕ × List ℕ)). (codes "host", host) ∷ x) (common_says n fits)
+says_to true host n fits is_host =
+    ap (λ (x : List ℕ). (codes "host", x) ∷ map name_and_value (leader_field ∷ common (decimal n))) (trim_host host is_host)
+    ∙ (ap (λ (x : List ℕ). (codes "host", host) ∷ (codes "grpc-metadata-hasleader", x) ∷ map name_and_value (common (decimal n))) trim_true
+    ∙ ap (λ (x : List (List ℕ × List ℕ)). (codes "host", host) ∷ (codes "grpc-metadata-hasleader", codes "true") ∷ x) (common_says n fits))
+
+pub request_form : (host : List ℕ) (goes : Route) (n : ℕ) → IsHost host → n ≤ 8388608 → (h : RequestHead) × (request_head host goes n ≡ print_request h) × IsPlainRequest host goes n h
 request_form host goes n is_host small = (
   head_to host goes n,
   printed_request host goes n,
@@ -344,9 +400,9 @@ request_form host goes n is_host small = (
     alone = refl;
     version = refl;
     start = refl;
-    lines = All-cons (λ (f : Field). f.end ≡ crlf) (field (codes "host") host) (common (decimal n)) refl (all_crlf (decimal n));
+    lines = lines_to (is_watch goes) host n;
     last = refl;
-    says = ap (λ (x : List ℕ). (codes "host", x) ∷ map name_and_value (common (decimal n))) (trim_host host is_host) ∙ ap (λ (x : List (List ℕ × List ℕ)). (codes "host", host) ∷ x) (common_says n (omega arith));
+    says = says_to (is_watch goes) host n (omega arith) is_host;
   },
 )
 

@@ -1,10 +1,11 @@
 -- What is sent: requests to a gateway, and the responses of one.
-use Rattle.std.specs.Prelude.{◌≡◌, ℕ, ◌≤◌, All, map, List, [], ◌∷◌, ◌++◌, Option, Some, Result, Ok, Err, codes, unwrap_or, if◌then◌else◌, nat_le, nat_lt, ◌&&◌}
+use Rattle.std.specs.Prelude.{◌≡◌, ℕ, ◌≤◌, All, map, Bool, true, false, List, [], ◌∷◌, ◌++◌, Option, Some, Result, Ok, Err, codes, unwrap_or, if◌then◌else◌, nat_le, nat_lt, ◌&&◌}
 use Rattle.std.specs.Fmt.{decimal}
 use Rattle.http.specs.StatusCode.{reason_phrase}
 use Rattle.httparse.specs.Grammar.{crlf, Field, RequestHead, ResponseHead}
 use Rattle.httparse.specs.Spans.{name_and_value}
 use Rattle.ev_types.specs.declared.route.Route.{Route}
+use Rattle.ev_types.specs.declared.route.Route.TheVariants as route
 use Rattle.zx_outside.specs.Counts.{OutputCounts, one_more}
 use Rattle.zx_outside.specs.Writing.{Takes, TakesFront}
 use Rattle.ev_http.specs.declared.send.Fixed.{Fixed}
@@ -28,11 +29,22 @@ text_of fixed.Host = codes " HTTP/1.1\r\nhost: "
 text_of fixed.Version = codes "HTTP/1.1 "
 text_of fixed.Blank = codes " "
 text_of fixed.Fields = codes "\r\ncontent-type: application/json\r\ncontent-length: "
+text_of fixed.Leader = codes "\r\ngrpc-metadata-hasleader: true"
 text_of fixed.End = codes "\r\n\r\n"
+
+-- A request to watch asks the member to end the stream once it has had no leader for some time (etcd's metadata `hasleader`; its gateway
+-- hands on each field whose name begins with `grpc-metadata-`).
+abbrev pub is_watch : Route → Bool
+is_watch route.Watch = true
+is_watch _ = false
+
+abbrev pub leader_text : Bool → List ℕ
+leader_text true = text_of fixed.Leader
+leader_text false = []
 
 -- The head of a request to a host, with a body of so many bytes.
 abbrev pub request_head : List ℕ → Route → ℕ → List ℕ
-request_head host r n = text_of fixed.Post ++ (path_of r ++ (text_of fixed.Host ++ (host ++ (text_of fixed.Fields ++ (decimal n ++ text_of fixed.End)))))
+request_head host r n = text_of fixed.Post ++ (path_of r ++ (text_of fixed.Host ++ (host ++ (leader_text (is_watch r) ++ (text_of fixed.Fields ++ (decimal n ++ text_of fixed.End))))))
 
 -- The head of a response with a body of so many bytes.
 abbrev pub response_head : ℕ → ℕ → List ℕ
@@ -61,15 +73,20 @@ Sends result bytes taken taken' counts counts' name name' = Wrote result bytes t
 abbrev pub common_fields : ℕ → List (List ℕ × List ℕ)
 common_fields n = (codes "content-type", codes "application/json") ∷ ((codes "content-length", decimal n) ∷ [])
 
+-- the field that a request to watch has besides
+abbrev pub leader_fields : Bool → List (List ℕ × List ℕ)
+leader_fields true = (codes "grpc-metadata-hasleader", codes "true") ∷ []
+leader_fields false = []
+
 -- A head as one has to send it (RFC 9112, sections 2.1 to 2.3, 3.2 and 5): no empty line in front, version 1.1, each line ended by
 -- CR LF, and among the fields the host.
-pub record IsPlainRequest (host : List ℕ) (n : ℕ) (h : RequestHead) : Type 0 where
+pub record IsPlainRequest (host : List ℕ) (r : Route) (n : ℕ) (h : RequestHead) : Type 0 where
   pub alone : h.blank ≡ []
   pub version : h.minor ≡ 1
   pub start : h.line_end ≡ crlf
   pub lines : All (λ (f : Field). f.end ≡ crlf) h.fields
   pub last : h.last ≡ crlf
-  pub says : map name_and_value h.fields ≡ (codes "host", host) ∷ common_fields n
+  pub says : map name_and_value h.fields ≡ (codes "host", host) ∷ (leader_fields (is_watch r) ++ common_fields n)
 
 -- The same of a response, with the phrase of its status.
 pub record IsPlainResponse (status n : ℕ) (h : ResponseHead) : Type 0 where

@@ -12,7 +12,7 @@ ghost use Rattle.ev_http.specs.Sending.{IsHost, IsPlainRequest, IsPlainResponse,
 /// reads it, whatever bytes follow. Its head has the form that RFC 9112 asks of one who sends.
 pub fn requests_come_back()
     ensures form { (host : List ℕ) (goes : Route) (n : ℕ) → IsHost host → n ≤ 8388608
-        → (h : RequestHead) × (request_head host goes n ≡ print_request h) × IsPlainRequest host n h }
+        → (h : RequestHead) × (request_head host goes n ≡ print_request h) × IsPlainRequest host goes n h }
     ensures read { (host body rest : List ℕ) (goes : Route) → IsHost host → length (request_head host goes (length body)) ≤ 16384 → length body ≤ 8388608
         → HoldsRequest goes body rest ((request_head host goes (length body) ++ body) ++ rest) }
 {}

@@ -22,7 +22,8 @@
 //!
 //! # Writing
 //!
-//! A request has the fields host, content-type and content-length, a response has the last two. Head and body are written until the
+//! A request has the fields host, content-type and content-length, a response has the last two. A request to watch has besides the
+//! field by which etcd ends the stream where its member has had no leader for some time. Head and body are written until the
 //! sink has taken them whole or has a fault: in one piece where the body has at most 16,384 bytes, since two small writes to a
 //! socket cost two packets; a longer body is not copied. What is written is what is read, whatever follows it
 //! ([`requests_come_back`], [`responses_come_back`]).

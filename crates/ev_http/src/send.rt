@@ -1,7 +1,7 @@
 //! Sends messages.
 
 ghost use Rattle.std.specs.Prelude.{◌≡◌, ◌++◌, length, IfOk, string_bytes};
-ghost use Rattle.ev_http.specs.Sending.{request_head, response_head, Wrote, Sends, phrase_of, text_of};
+ghost use Rattle.ev_http.specs.Sending.{is_watch, leader_text, request_head, response_head, Wrote, Sends, phrase_of, text_of};
 
 use crate::fault::HttpFault;
 use crate::request::path_of;
@@ -53,6 +53,7 @@ enum Fixed {
     Version,
     Blank,
     Fields,
+    Leader,
     End,
 }
 
@@ -66,7 +67,18 @@ fn text_of(fixed: Fixed) -> &'static str
         Fixed::Version => "HTTP/1.1 ",
         Fixed::Blank => " ",
         Fixed::Fields => "\r\ncontent-type: application/json\r\ncontent-length: ",
+        Fixed::Leader => "\r\ngrpc-metadata-hasleader: true",
         Fixed::End => "\r\n\r\n",
+    }
+}
+
+/// The field by which a request to watch asks the member to end the stream once it has had no leader for some time.
+fn leader_of(route: Route) -> &'static str
+    ensures { result.now ≡ leader_text (is_watch route) }
+{
+    match route {
+        Route::Watch => text_of(Fixed::Leader),
+        Route::Txn | Route::Range | Route::Grant | Route::Alive => "",
     }
 }
 
@@ -81,9 +93,10 @@ fn request_head(
     let post = text_of(Fixed::Post);
     let path = path_of(route);
     let to_host = text_of(Fixed::Host);
+    let leader = leader_of(route);
     let fields = text_of(Fixed::Fields);
     let end = text_of(Fixed::End);
-    format!(in alloc; "{post}{path}{to_host}{host}{fields}{length}{end}")
+    format!(in alloc; "{post}{path}{to_host}{host}{leader}{fields}{length}{end}")
 }
 
 /// The reason phrase of a status (RFC 9110, section 15), empty where it has none.
