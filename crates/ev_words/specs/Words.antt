@@ -5,6 +5,8 @@ use Rattle.ev_fields.specs.declared.fault.JsonFault.{JsonFault}
 use Rattle.ev_fields.specs.declared.fault.JsonFault.TheVariants as json
 use Rattle.ev_http.specs.declared.fault.HttpFault.{HttpFault}
 use Rattle.ev_http.specs.declared.fault.HttpFault.TheVariants as http
+use Rattle.zx_net.specs.declared.net.NetFault.{NetFault}
+use Rattle.zx_net.specs.declared.net.NetFault.TheVariants as net
 use Rattle.ev_words.specs.declared.fault.Fault.{Fault}
 use Rattle.ev_words.specs.declared.fault.Fault.TheVariants as fault
 
@@ -25,8 +27,18 @@ json_words json.NotJson = codes "what came cannot be understood"
 json_words (json.Unreadable field) = codes "what came cannot be understood"
 json_words json.Memory = codes "out of memory"
 
+unfoldable pub net_words : NetFault → List ℕ
+net_words net.InUse = codes "something listens there already"
+net_words net.NoAddress = codes "this machine has no such address"
+net_words net.Denied = codes "this program may not listen there"
+net_words net.NoRoom = codes "no descriptor is left"
+net_words net.Failed = codes "it cannot be listened on"
+
 abbrev pub gap_words : ℤ → ℤ → List ℕ
 gap_words expected found = codes "update " ++ (signed_decimal expected ++ (codes " is missing, " ++ (signed_decimal found ++ codes " came")))
+
+abbrev pub behind_words : ℤ → List ℕ
+behind_words rev = codes "it is at revision " ++ (signed_decimal rev ++ codes ", behind what was told already: perhaps a restored backup")
 
 unfoldable pub words : Fault → List ℕ
 words fault.First = codes "no answer"
@@ -38,4 +50,10 @@ words (fault.Compacted rev) = codes "updates before revision " ++ (signed_decima
 words (fault.Gap expected found) = gap_words expected found
 words fault.Damaged = codes "a value is no record of this service"
 words fault.NoLine = codes "ten tries in a row gave nothing"
+words fault.Silent = codes "nothing came for 25 minutes"
+words (fault.Behind rev) = behind_words rev
+words fault.NoRoom = codes "no descriptor is left"
+words (fault.Listen why) = net_words why
+words fault.Thread = codes "a thread could not be started"
+words fault.Scheme = codes "an endpoint is HOST:PORT, without http://"
 words fault.Memory = codes "out of memory"

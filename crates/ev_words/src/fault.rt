@@ -2,14 +2,15 @@
 
 ghost use Rattle.std.specs.Prelude.{◌≡◌, Some};
 ghost use Rattle.std.specs.Fmt.{DisplaysOnOk};
-ghost use Rattle.ev_words.specs.Words.{gap_words, http_words, json_words, words};
+ghost use Rattle.ev_words.specs.Words.{behind_words, gap_words, http_words, json_words, net_words, words};
 
 use ev_http::HttpFault;
 use ev_json::JsonFault;
 use std::fmt;
 use std::fmt::{Display, Formatter, Write};
+use zx_net::NetFault;
 
-/// A fault of etcd, or of the way to it.
+/// A fault of etcd, of the way to it, or of the start.
 #[derive(Clone, Copy)]
 pub enum Fault {
     /// The first ask had no answer.
@@ -30,6 +31,18 @@ pub enum Fault {
     Damaged,
     /// Ten dials in a row gave no line.
     NoLine,
+    /// Nothing came for 25 minutes.
+    Silent,
+    /// The member stands at this revision, behind what was told already.
+    Behind(i64),
+    /// No descriptor is left for a dial.
+    NoRoom,
+    /// The address to listen on cannot be had.
+    Listen(NetFault),
+    /// A thread could not be started.
+    Thread,
+    /// An endpoint was given with a scheme in front.
+    Scheme,
     /// Memory was refused.
     Memory,
 }
@@ -52,6 +65,19 @@ fn write_http<W: Write>(fault: HttpFault, f: &mut Formatter<W>) -> fmt::Result
     }
 }
 
+#[tactic(auto, unfolding(crate::specs::Words::net_words))]
+fn net_words(fault: NetFault) -> &'static str
+    ensures { result.now ≡ net_words fault }
+{
+    match fault {
+        NetFault::InUse => "something listens there already",
+        NetFault::NoAddress => "this machine has no such address",
+        NetFault::Denied => "this program may not listen there",
+        NetFault::NoRoom => "no descriptor is left",
+        NetFault::Failed => "it cannot be listened on",
+    }
+}
+
 #[tactic(auto, unfolding(crate::specs::Words::json_words))]
 fn json_words(fault: JsonFault) -> &'static str
     ensures { result.now ≡ json_words fault }
@@ -66,6 +92,15 @@ fn write_gap<W: Write>(expected: i64, found: i64, f: &mut Formatter<W>) -> fmt::
     ensures { DisplaysOnOk W.write_str_gives f.old result (Some (gap_words expected found)) f.new }
 {
     write!(f, "update {expected} is missing, {found} came")
+}
+
+fn write_behind<W: Write>(rev: i64, f: &mut Formatter<W>) -> fmt::Result
+    ensures { DisplaysOnOk W.write_str_gives f.old result (Some (behind_words rev)) f.new }
+{
+    write!(
+        f,
+        "it is at revision {rev}, behind what was told already: perhaps a restored backup"
+    )
 }
 
 impl Display for Fault {
@@ -89,6 +124,12 @@ impl Display for Fault {
             Fault::Gap(expected, found) => write_gap(*expected, *found, f),
             Fault::Damaged => f.write_str("a value is no record of this service"),
             Fault::NoLine => f.write_str("ten tries in a row gave nothing"),
+            Fault::Silent => f.write_str("nothing came for 25 minutes"),
+            Fault::Behind(rev) => write_behind(*rev, f),
+            Fault::NoRoom => f.write_str("no descriptor is left"),
+            Fault::Listen(fault) => f.write_str(net_words(*fault)),
+            Fault::Thread => f.write_str("a thread could not be started"),
+            Fault::Scheme => f.write_str("an endpoint is HOST:PORT, without http://"),
             Fault::Memory => f.write_str("out of memory"),
         }
     }
