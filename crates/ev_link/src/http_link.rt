@@ -21,6 +21,7 @@ use std::alloc::Global;
 use zx_base::Memory;
 use zx_history::GhostHistory;
 use zx_outside::{Sink, Source};
+use zx_words::{HangsUp, LetsGo};
 
 /// How a link stands.
 #[derive(Clone, Copy)]
@@ -197,6 +198,23 @@ impl<S: Source + Drop, K: Sink + Drop> HttpLink<S, K> {
         );
         self.state = state_after(&came);
         answer_of(came)
+    }
+}
+
+impl<S: HangsUp + Drop, K: LetsGo + Drop> HttpLink<S, K> {
+    /// Ends the connection, and gives back what both of its ends hold of the system. What was asked and answered stays told. Over the
+    /// system's sockets a call afterwards fails as one does over a connection that broke.
+    pub fn hang_up(&mut self)
+        ensures source { told S.given S.left S.counts S.ended S.name self.new.source ≡ told S.given S.left S.counts S.ended S.name self.old.source }
+        ensures sink { sink_told K.taken K.counts K.name self.new.sink ≡ sink_told K.taken K.counts K.name self.old.sink }
+        ensures host { self.new.host ≡ self.old.host }
+        ensures state { self.new.state ≡ self.old.state }
+        ensures failures { self.new.failures ≡ self.old.failures }
+        ensures asks { self.new.asks ≡ self.old.asks }
+        ensures results { self.new.results ≡ self.old.results }
+    {
+        self.source.hang_up();
+        self.sink.let_go();
     }
 }
 
