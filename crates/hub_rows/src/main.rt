@@ -6,7 +6,7 @@
 //! | `publish COUNT` | COUNT entries are published |
 //! | `close END` | the hub is closed: `compacted REV`, `gap EXPECTED FOUND`, `no line` or `memory` |
 //! | `next CURSOR` | the reader reads at this cursor |
-//! | `orphan` | a reader reads whose hub published two entries, was closed and is gone: at 0, at 1 and at 2 |
+//! | `orphan` | a reader reads whose hub published two entries, was closed and is gone: at 0, at 1 and at 2; and at 2 once the keeper is gone too |
 //! | `race READERS COUNT` | READERS threads read what another publishes, COUNT entries, until it closes |
 //! | `lock READERS COUNT` | so do they through a ring under one lock, which hubs are compared with |
 //!
@@ -80,10 +80,11 @@ fn run<R: Print + Wait + Drop + AllocGlobal>(
 
 /// What a reader is answered whose hub is gone.
 fn print_orphan<R: Print + Wait + Drop + AllocGlobal>(rt: &R) -> io::Result<()> {
-    let [first, second, end] = orphan(rt, rt.alloc())?;
+    let [first, second, end, alone] = orphan(rt, rt.alloc())?;
     print_fed(rt, "orphan 0", &first)?;
     print_fed(rt, "orphan 1", &second)?;
-    print_fed(rt, "orphan 2", &end)
+    print_fed(rt, "orphan 2", &end)?;
+    print_fed(rt, "alone 2", &alone)
 }
 
 /// How many readers and entries a race has.

@@ -9,7 +9,7 @@ use std::alloc::Global;
 use std::io;
 use std::sync::{Arc, Wait};
 use zn_layout::Entry;
-use zw_hub::{FeedEnd, Hub, HubReader, hub};
+use zw_hub::{FeedEnd, Hub, HubReader, Keeper, hub};
 use zx_base::Seq;
 
 /// A hub, with the number of its last entry and whether it is open.
@@ -23,14 +23,14 @@ pub struct Publisher<R: Wait + Drop> {
 }
 
 impl<R: Wait + Drop> Publisher<R> {
-    /// A new hub with so many readers; its first entry has the number `first + 1`.
+    /// A new hub with so many readers, and its keeper; its first entry has the number `first + 1`.
     pub fn open(
         rt: R,
         alloc: Global,
         first: i64,
         readers: usize,
-    ) -> io::Result<(Publisher<R>, Vec<HubReader<R>>)> {
-        let Ok((hub, readers)) = hub(rt, alloc, first, readers) else {
+    ) -> io::Result<(Publisher<R>, Vec<HubReader>, Keeper<R>)> {
+        let Ok((hub, readers, keeper)) = hub(rt, alloc, first, readers) else {
             return Err(out_of_memory());
         };
         let publisher = Publisher {
@@ -38,7 +38,7 @@ impl<R: Wait + Drop> Publisher<R> {
             last: first,
             is_open: true,
         };
-        Ok((publisher, readers))
+        Ok((publisher, readers, keeper))
     }
 
     /// Publishes `count` entries, each with a zxid that is its number plus 2.

@@ -102,7 +102,7 @@ pub fn race<R: Threads + Wait + Clock + Send + Clone + Drop + 'static>(
     readers: usize,
     count: i64,
 ) -> io::Result<Raced> {
-    let (mut publisher, places) = Publisher::open(rt.clone()?, alloc, 0, readers)?;
+    let (mut publisher, places, _keeper) = Publisher::open(rt.clone()?, alloc, 0, readers)?;
     let mut workers = Vec::with_capacity(alloc, readers)?;
     for reader in places {
         workers.push(thread::spawn(rt, move || take_all(reader))?)?;
@@ -135,7 +135,7 @@ pub fn join_all<R: Threads>(
 }
 
 /// Reads until the hub is closed.
-fn take_all<R: Wait + Drop>(mut reader: HubReader<R>) -> Taken {
+fn take_all(mut reader: HubReader) -> Taken {
     let mut taken = Taken::NOTHING;
     for _ in 0..u64::MAX {
         let fed = reader.next(taken.cursor);

@@ -1,7 +1,8 @@
 //! Entries from one writer to many readers.
 //!
 //! One thread publishes the service's updates as entries, and every connection reads them at its own pace, by a cursor: the
-//! number of the last entry that it took. [`hub`] makes a [`Hub`], which publishes and closes, and all of its [`HubReader`]s.
+//! number of the last entry that it took. [`hub`] makes a [`Hub`], which publishes and closes, all of its [`HubReader`]s, and a
+//! [`Keeper`].
 //! A read takes no lock and waits for nobody. The newest 4,096 entries are kept. A reader whose next entry is older than those
 //! is told that it lagged.
 //!
@@ -9,8 +10,9 @@
 //! publish costs two pushes into a ring and a look at each reader's seat, and waits for readers that are inside a read. A read
 //! costs one step into its seat and one out, and counts one more owner of the entry. Entries are shared and never copied.
 //!
-//! Where the hub is dropped, its list stays as it was published last, and the readers go on reading it; it goes with the last of
-//! them. No clause says so, since none says when a read finds the list gone, and a test shows it.
+//! Where the hub is dropped, its list stays as it was published last, and the readers go on reading it until the keeper is dropped
+//! too. No clause says so, since none says when a read finds the list gone, and a test shows it. A reader has no handle by which
+//! it could wait, so the checker itself says that a read returns.
 //!
 //! Contracts speak of the whole list that was ever published ([`Published`]); the rings hold its end (`specs/Windows`), each
 //! entry in its place even where the copy could not own it (`specs/Kept`). `specs/Lists` says what a list is and how it grows,
@@ -32,4 +34,5 @@ pub use feed::{Fed, Feed, FeedEnd};
 pub use opening::hub;
 pub use published::{MAX_KEPT, Published};
 pub use reader::HubReader;
+pub use rest::Keeper;
 pub use writer::Hub;

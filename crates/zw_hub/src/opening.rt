@@ -6,7 +6,7 @@ ghost use Rattle.zw_hub.specs.Hubs.{new_hub};
 ghost use Rattle.zw_hub.specs.Readers.{new_reader};
 
 use crate::reader::HubReader;
-use crate::rest::Place;
+use crate::rest::Keeper;
 use crate::rule::{Growing, View};
 use crate::window::Window;
 use crate::writer::Hub;
@@ -25,7 +25,7 @@ pub fn hub<R: Wait + Drop>(
     alloc: Global,
     first: i64,
     readers: usize,
-) -> Result<(Hub<R>, Vec<HubReader<R>>), Memory>
+) -> Result<(Hub<R>, Vec<HubReader>, Keeper<R>), Memory>
     ensures hub { IfOk result (λ made. made.0 ≡ new_hub made.0.table first) }
     ensures count { IfOk result (λ made. vec_len made.1 ≡ readers) }
     ensures readers { IfOk result (λ made. All (λ reader. reader ≡ new_reader made.0.table) made.1.items) }
@@ -42,22 +42,21 @@ pub fn hub<R: Wait + Drop>(
         rt,
         mine,
     );
-    let readers = readers_of(alloc, hub.factory(), &rest, readers)?;
-    Ok((hub, readers))
+    let readers = readers_of(alloc, hub.factory(), readers)?;
+    Ok((hub, readers, Keeper::of(rest)))
 }
 
-fn readers_of<R: Wait + Drop>(
+fn readers_of(
     alloc: Global,
     places: &Factory<Window, View, Growing>,
-    rest: &Place<R>,
     count: usize,
-) -> Result<Vec<HubReader<R>>, Memory>
+) -> Result<Vec<HubReader>, Memory>
     ensures count { IfOk result (λ readers. vec_len readers ≡ count) }
     ensures readers { IfOk result (λ readers. All (λ reader. reader ≡ new_reader (arc_value places.now.board).shared.table_id) readers.items) }
 {
     let mut readers = Vec::with_capacity(alloc, count)?;
     for _ in 0..count {
-        readers.push(HubReader::over(places.reader()?, Arc::try_clone(rest)?))?;
+        readers.push(HubReader::over(places.reader()?))?;
     }
     Ok(readers)
 }

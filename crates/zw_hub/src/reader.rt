@@ -6,29 +6,25 @@ ghost use Rattle.zw_hub.specs.Lists.{floor, Extends};
 ghost use Rattle.zw_hub.specs.Feeds.{IsFed, IsLagged, IsOneRead};
 
 use crate::feed::{Fed, Feed};
-use crate::rest::Place;
 use crate::rule::{Growing, Sees, View};
 use crate::window::Window;
 use core::mem::replace_with;
 use left_right::reader::Reader;
 use std::marker::Model;
-use std::sync::Wait;
 use zx_history::GhostHistory;
 
 /// The seat in `left_right` from which one reader reads.
 pub type ListReader = Reader<Window, View, Growing>;
 
-/// A reader of the list, for one connection at a time. A hub makes no further readers, so one that is dropped is gone. A drop of
-/// the last reader of a hub that was dropped lets the list go.
+/// A reader of the list, for one connection at a time. A hub makes no further readers, so one that is dropped is gone.
 #[derive(Drop)]
-pub struct HubReader<R: Wait + Drop> {
+pub struct HubReader {
     reader: ListReader,
-    rest: Place<R>,
     lags: GhostHistory<()>,
     closings: GhostHistory<()>,
 }
 
-impl<R: Wait + Drop> Model for HubReader<R> {
+impl Model for HubReader {
     ghost use Rattle.std.specs.Prelude.{length};
     ghost use Rattle.left_right.specs.Sides as sides;
     ghost use Rattle.zw_hub.specs.Readers.{ReaderState};
@@ -44,7 +40,8 @@ impl<R: Wait + Drop> Model for HubReader<R> {
     } };
 }
 
-/// One read of the list. Where the list is gone there is none, and the answer is `Memory`; it stays while a reader is there.
+/// One read of the list. Where the list is gone there is none, and the answer is `Memory`; it stays while the hub or its keeper
+/// is there.
 fn read_at(reader: ListReader, cursor: i64) -> (ListReader, Fed)
     ensures once { IsOneRead result.1
         (view reader.place).steps (view result.0.place).steps
@@ -62,27 +59,26 @@ fn read_at(reader: ListReader, cursor: i64) -> (ListReader, Fed)
     }
 }
 
-impl<R: Wait + Drop> HubReader<R> {
+impl HubReader {
     ghost use Rattle.std.specs.Prelude.{◌≡◌};
     ghost use Rattle.left_right.specs.Sides.{view};
     ghost use Rattle.zw_hub.specs.Readers.{new_reader};
     ghost use Rattle.zw_hub.specs.Steps.{nothing_seen};
 
     /// A reader at this seat, from which nothing was read yet.
-    pub(crate) fn over(reader: ListReader, rest: Place<R>) -> HubReader<R>
+    pub(crate) fn over(reader: ListReader) -> HubReader
         requires { view reader.place ≡ nothing_seen }
         ensures { result ≡ new_reader reader.place.table_id }
     {
         HubReader {
             reader,
-            rest,
             lags: GhostHistory::new(),
             closings: GhostHistory::new(),
         }
     }
 }
 
-impl<R: Wait + Drop> Feed for HubReader<R> {
+impl Feed for HubReader {
     ghost use Rattle.zw_hub.specs.Readers.{ReaderState};
 
     ghost list = { λ r. r.list };

@@ -2,4 +2,4 @@ use Rattle.zw_hub.proofs.Growing.{admits}
 use Rattle.zw_hub.proofs.opening.readers_of.Goals as goal
 
 pub reader-requires : goal.reader-requires
-reader-requires g c = admits
+reader-requires c = admits
