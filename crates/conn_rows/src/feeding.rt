@@ -7,7 +7,7 @@ ghost use Rattle.zw_hub.specs.Lists.{last_number};
 use std::alloc::Global;
 use std::sync::{Arc, Wait};
 use zn_layout::{Entry, head_in};
-use zw_hub::{FeedEnd, Hub, HubReader, hub};
+use zw_hub::{FeedEnd, Hub, HubReader, Keeper, hub};
 use zx_base::{Memory, Seq};
 
 /// What the feed has before the connection comes.
@@ -65,7 +65,7 @@ impl<R: Wait + Drop> Publisher<R> {
         }
     }
 
-    /// Closes the hub, where that is wanted, and lets it go. Its readers read on.
+    /// Closes the hub, where that is wanted, and lets it go. Its readers read on as long as its keeper is there.
     fn leave(self, closed: bool) -> Result<(), Memory> {
         let Publisher { mut hub, last: _ } = self;
         if closed {
@@ -91,21 +91,21 @@ fn entry_of(alloc: Global, number: i64, record: &[u8]) -> Result<Arc<Entry, Glob
     Ok(Arc::new(alloc, entry)?)
 }
 
-/// A reader of such a feed.
+/// A reader of such a feed, and what keeps the feed.
 pub fn feed_of<'a, R: Wait>(
     rt: &'a R,
     alloc: Global,
     entered: Entered<'_>,
-) -> Result<HubReader<&'a R>, Memory> {
+) -> Result<(HubReader, Keeper<&'a R>), Memory> {
     let first = i64::from(entered.first);
-    let (hub, mut readers) = hub(rt, alloc, first, 1)?;
+    let (hub, mut readers, keeper) = hub(rt, alloc, first, 1)?;
     let mut publisher = Publisher { hub, last: first };
     for _ in 0..entered.count {
         publisher.publish(alloc, entered.record)?;
     }
     publisher.leave(entered.closed)?;
     match readers.pop() {
-        Some(reader) => Ok(reader),
+        Some(reader) => Ok((reader, keeper)),
         None => Err(Memory),
     }
 }

@@ -41,7 +41,7 @@ fn line_of(alloc: Global, word: &str, words: &mut Words<'_>) -> Result<Option<Li
     ensures { IfOk result (λ line. IfSome line LineFits) }
 {
     match word {
-        "created" => Ok(Some(Line::Created)),
+        "created" => Ok(Some(Line::Created { revision: 3 })),
         "ended" => Ok(Some(Line::Ended)),
         "compacted" => Ok(Some(Line::Compacted { rev: 9 })),
         "head" => put_of(alloc, b"zk/head", words),

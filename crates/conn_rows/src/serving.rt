@@ -103,7 +103,8 @@ pub fn serve_by<R: Wait, C: Clock, T: Trace>(
     let mut source = stream_of(alloc, bytes, piece, entered.closed, failing.read)?;
     let mut sink = MemSink::new(alloc, listed(alloc, failing.write)?);
     let bell = Arc::new(alloc, NoBell)?;
-    let mut feed = Belled::new(feed_of(rt, alloc, entered)?, bell);
+    let (reader, _keeper) = feed_of(rt, alloc, entered)?;
+    let mut feed = Belled::new(reader, bell);
     let cause = serve_connection(
         rt,
         alloc,
@@ -180,7 +181,7 @@ pub fn shown_alone<R: Wait>(
     let mut link = BegunLink::new(alloc)?;
     let mut source = stream_of(alloc, bytes, piece, false, 0)?;
     let mut sink = MemSink::new(alloc, Vec::new(alloc));
-    let mut feed = feed_of(rt, alloc, OPEN)?;
+    let (mut feed, _keeper) = feed_of(rt, alloc, OPEN)?;
     let cause = serve_alone(
         rt,
         alloc,

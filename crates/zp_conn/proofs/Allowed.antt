@@ -1,6 +1,6 @@
 -- What the driver hands in may be handed in.
 use Rattle.std.proofs.Common.{◌≡◌, ℤ, pos, List, [], ◌∷◌, Bool, true, false, refl, sym, ap, ◌∙◌, subst, inl, inr}
-use Rattle.std.specs.Prelude.{Option, Some, None, ◌+ℤ◌, ◌<ℤ◌, if◌then◌else◌}
+use Rattle.std.specs.Prelude.{◌⊎◌, Option, Some, None, ◌+ℤ◌, ◌<ℤ◌, if◌then◌else◌}
 use Rattle.ev_call.specs.Fitting.{AreCounts, Fits, PartsFit, PartFits}
 use Rattle.ev_types.specs.declared.answer.ActAns.{ActAns}
 use Rattle.ev_types.specs.declared.answer.ActAns.TheVariants as part
@@ -179,7 +179,7 @@ module _ (c : Core) (asked : Option Ask) (n : Next) (i : InboxState) (s : Source
     quiet h = subst (IsInTime c) (sym is) (quiet-time c r h)
 
     pub fetch_frame : (w : Wants) (f : FeedTold) → w ≡ wants_of c → w ≡ wants.Frame → IsEndedAfter r s'.ended → Fetches c asked n i i' s s' l l f f
-    fetch_frame w f e h ended = looks none (inl refl) (look ended) (in-time c n (ap awaits_frame (sym e ∙ h))) refl
+    fetch_frame w f e h ended = looks none (inl (ap awaits_entry (sym e ∙ h), refl)) (look ended) (in-time c n (ap awaits_frame (sym e ∙ h))) refl
 
     pub fetch_after : (cursor : ℤ) (w : Wants) (f f' : FeedTold) → w ≡ wants_of c → w ≡ wants.FrameOrEntry cursor → Feeds cursor next.Idle f f' → IsEndedAfter r s'.ended → Fetches c asked n i i' s s' l l f f'
     fetch_after cursor w f f' e h a ended = (let so : wants_of c ≡ wants.FrameOrEntry cursor = sym e ∙ h in looks none (inr (cursor, ap awaits_entry so, subst (CursorIs c) so (cursor_wanted c), a)) (look ended) (in-time c n (ap awaits_frame so)) refl)
@@ -187,5 +187,9 @@ module _ (c : Core) (asked : Option Ask) (n : Next) (i : InboxState) (s : Source
     pub fetch_ahead : (cursor : ℤ) (w : Wants) (f f' : FeedTold) → w ≡ wants_of c → w ≡ wants.Entry cursor → Feeds cursor next.Idle f f' → IsQuiet r → Fetches c asked n i i' s s' l l f f'
     fetch_ahead cursor w f f' e h a q = (let so : wants_of c ≡ wants.Entry cursor = sym e ∙ h in looks none (inr (cursor, ap awaits_entry so, subst (CursorIs c) so (cursor_wanted c), a)) (look (quiet-end r s'.ended q)) (quiet q) refl)
 
-    pub fetch_quiet : (f : FeedTold) → IsQuiet r → Fetches c asked n i i' s s' l l f f
-    fetch_quiet f q = looks none (inl refl) (look (quiet-end r s'.ended q)) (quiet q) refl
+    unawaited : (w : Wants) → w ≡ wants_of c → (w ≡ wants.Answer) ⊎ (w ≡ wants.Nothing) → awaits_entry (wants_of c) ≡ false
+    unawaited w e (inl h) = ap awaits_entry (sym e ∙ h)
+    unawaited w e (inr h) = ap awaits_entry (sym e ∙ h)
+
+    pub fetch_quiet : (w : Wants) (f : FeedTold) → w ≡ wants_of c → (w ≡ wants.Answer) ⊎ (w ≡ wants.Nothing) → IsQuiet r → Fetches c asked n i i' s s' l l f f
+    fetch_quiet w f e h q = looks none (inl (unawaited w e h, refl)) (look (quiet-end r s'.ended q)) (quiet q) refl

@@ -569,7 +569,7 @@ module _ (fresh : Fresh) (old new : Told) (core : Core) (i : InboxState) (o : Li
       (subst (λ x. Stood fresh old (record new { source = x; link = l; feed = f }) core i o None n) (sym t-is)
       (subst (λ x. Stood fresh old (record new { source = new.source; link = x; feed = f }) core i o None n) (sym l-is)
       (feed-on fresh old new core i o cursor n f (subst (λ x. Stood fresh old new core i o x next.Idle) e s) w c a)))
-  fetch-on i' asked n t l f s (looks e (inl f-is) a time l-is) =
+  fetch-on i' asked n t l f s (looks e (inl (unawaited, f-is)) a time l-is) =
       subst (λ x. Stood fresh old (record new { source = t; link = x; feed = f }) core i' o None n) (sym l-is)
       (subst (λ x. Stood fresh old (record new { source = t; link = new.link; feed = x }) core i' o None n) (sym f-is)
       (look-on fresh old new core i o i' n t (subst (λ x. Stood fresh old new core i o x next.Idle) e s) a time))

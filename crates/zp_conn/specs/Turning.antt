@@ -114,14 +114,14 @@ pub record Looks (n : Next) (i i' : InboxState) (old new : SourceTold) : Type 0 
 
 -- ---- what a turn takes in
 
--- it had an ask to call; or it waited for an entry and read the feed; or it looked at the client's stream, perhaps after a read of
--- the feed that gave nothing; or it looked at the stream, which gave nothing, where a frame alone is wanted, and then whether the
+-- it had an ask to call; or it waited for an entry and read the feed; or it looked at the client's stream, where an entry is awaited
+-- after a read of the feed that gave nothing; or it looked at the stream, which gave nothing, where a frame alone is wanted, and then whether the
 -- feed has ended
 pub data Fetches (core : Core) (asked : Option Ask) (n : Next) (i i' : InboxState) (s s' : SourceTold) (l l' : LinkTold) (f f' : FeedTold) : Type 0 where
   calls : (q : Ask) → asked ≡ Some q → Asks q n l l' → i' ≡ i → s' ≡ s → f' ≡ f → Fetches core asked n i i' s s' l l' f f'
   feeds : (cursor : ℤ) → asked ≡ None → awaits_entry (wants_of core) ≡ true → cursor ≡ core.cursor → Feeds cursor n f f' → i' ≡ i → s' ≡ s → l' ≡ l → Fetches core asked n i i' s s' l l' f f'
   looks : asked ≡ None
-      → (f' ≡ f) ⊎ ((cursor : ℤ) × (awaits_entry (wants_of core) ≡ true) × (cursor ≡ core.cursor) × Feeds cursor next.Idle f f')
+      → ((awaits_entry (wants_of core) ≡ false) × (f' ≡ f)) ⊎ ((cursor : ℤ) × (awaits_entry (wants_of core) ≡ true) × (cursor ≡ core.cursor) × Feeds cursor next.Idle f f')
       → Looks n i i' s s' → IsInTime core n → l' ≡ l → Fetches core asked n i i' s s' l l' f f'
   closes : asked ≡ None → wants_of core ≡ wants.Frame → Looks next.Idle i i' s s' → Closes n f f' → l' ≡ l → Fetches core asked n i i' s s' l l' f f'
 

@@ -69,12 +69,15 @@ impl Inbox {
         self.count
     }
 
-    /// Whether no whole frame is left.
-    pub(crate) fn is_empty(&self) -> bool {
-        self.frames.is_empty()
+    /// The next of the frames that are whole.
+    pub(crate) fn first(&self) -> Option<&[u8]> {
+        match self.frames.front() {
+            Some(frame) => Some(frame.as_slice()),
+            None => None,
+        }
     }
 
-    /// The next of the frames that are whole.
+    /// Takes the next of the frames that are whole.
     fn pop(&mut self) -> Option<Bytes>
         ensures { Pops result self.old self.new }
     {

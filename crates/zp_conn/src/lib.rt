@@ -10,9 +10,13 @@
 //! bell; past that, and after the client's end, the turn yields.
 //!
 //! Packets are held back while further whole frames are there, and go out in one write. After each input they go out where no whole
-//! frame is left, where a reply waits for its entry, where they are [`MOST_HELD`](outbox::MOST_HELD) bytes, and
-//! [`LONGEST_HELD`](outbox::LONGEST_HELD) milliseconds after the first of them. So nothing waits for a frame that has not come; what is
-//! held waits for an ask that is out.
+//! frame is left, where etcd is asked next, where a reply waits for its entry, where the next frame may wait for its turn, where they
+//! are [`MOST_HELD`](outbox::MOST_HELD) bytes, and [`LONGEST_HELD`](outbox::LONGEST_HELD) milliseconds after the first of them. So no
+//! packet waits for a frame that has not come, for etcd or for a turn.
+//!
+//! In [`serve_in_turn`] a frame may wait for its turn before it is handed in, so that the updates of one proxy do not contend
+//! ([`Turns`]). The turn ends once no ask is out. While it waits, a connection does nothing else, and a keepalive that comes due then
+//! is asked for before the request. [`serve_connection`] is the same where nobody waits.
 //!
 //! A publisher of entries that would wake the connection rings the bell of its source (`Wakes` of `zx_net`). A [`Belled`] feed arms
 //! that bell before each look for an entry.
@@ -37,8 +41,9 @@ mod writing;
 
 pub use bells::Belled;
 pub use laws::what_ends_uncut_connections;
-pub use serving::serve_connection;
+pub use serving::{serve_connection, serve_in_turn};
 pub use telling::{TellsAll, TellsFeed, TellsInputs, TellsLink, TellsSink, TellsSource};
 pub use zk_service::Cause;
 pub use zp_core::Fresh;
 pub use zp_run::{Event, ListTrace, NoTrace, Trace};
+pub use zp_turns::{NoTurns, Turns};

@@ -17,8 +17,9 @@ use ev_types::Ask;
 use std::alloc::Global;
 use std::sync::Wait;
 use zk_service::Cause;
-use zp_core::{Core, Fresh, Wants};
+use zp_core::{Core, Fresh, Input, Wants};
 use zp_run::Trace;
+use zp_turns::{NoTurns, Turns};
 use zw_hub::Feed;
 use zx_base::Memory;
 use zx_net::Clock;
@@ -27,12 +28,35 @@ use zx_outside::{Sink, Source};
 /// How many bytes of the client are read at a time.
 const PIECE: usize = 8192;
 
-/// Whether what is held goes out now, `held` milliseconds after the first of it.
-fn is_due(core: &Core, inbox: &Inbox, outbox: &Outbox, held: u64) -> bool {
-    inbox.is_empty()
+/// Whether no whole frame is left, or the next may wait for its turn.
+fn may_wait<U: Turns>(turns: &U, inbox: &Inbox) -> bool {
+    match inbox.first() {
+        Some(frame) => !turns.is_next(frame),
+        None => true,
+    }
+}
+
+/// Whether what is held goes out now, `held` milliseconds after the first of it: before an ask, an entry or a turn is waited for too.
+fn is_due<U: Turns>(
+    core: &Core,
+    asked: &Option<Ask>,
+    inbox: &Inbox,
+    turns: &U,
+    outbox: &Outbox,
+    held: u64,
+) -> bool {
+    asked.is_some()
         || outbox.is_full()
         || held >= LONGEST_HELD
         || matches!(core.wants(), Wants::Entry { .. })
+        || may_wait(turns, inbox)
+}
+
+/// Waits for its turn if an input is a frame.
+fn wait_with<U: Turns>(turns: &mut U, input: &Input) {
+    if let Input::Frame(frame) = input {
+        turns.wait(frame.as_slice());
+    }
 }
 
 /// What is asked next; or why the connection ends.
@@ -61,7 +85,7 @@ fn since_of(outbox: &Outbox, since: u64, now: u64) -> u64 {
 }
 
 /// Serves one connection to its end, but for the last write, and gives the cause.
-fn run<W: Wait, L: Etcd, F: Feed, S: Source, K: Sink, C: Clock, T: Trace>(
+fn run<W: Wait, L: Etcd, F: Feed, S: Source, K: Sink, C: Clock, T: Trace, U: Turns>(
     rt: &W,
     alloc: Global,
     fresh: Fresh,
@@ -72,6 +96,7 @@ fn run<W: Wait, L: Etcd, F: Feed, S: Source, K: Sink, C: Clock, T: Trace>(
     sink: &mut K,
     clock: &mut C,
     trace: &mut T,
+    turns: &mut U,
 ) -> Cause
     requires real { pos 1 ≤ℤ fresh.id }
     requires none { outbox.old ≡ [] }
@@ -95,13 +120,24 @@ fn run<W: Wait, L: Etcd, F: Feed, S: Source, K: Sink, C: Clock, T: Trace>(
             }
             Next::Ended(why) => return why,
         };
+        wait_with(turns, &input);
         let now = clock.now();
         since = since_of(outbox, since, now);
         asked = match goes_on(hand(&mut core, outbox, trace, input, now)) {
             Ok(asked) => asked,
             Err(why) => return why,
         };
-        let due = is_due(&core, &inbox, outbox, now.saturating_sub(since));
+        if asked.is_none() {
+            turns.end();
+        }
+        let due = is_due(
+            &core,
+            &asked,
+            &inbox,
+            turns,
+            outbox,
+            now.saturating_sub(since),
+        );
         match flush_if(due, outbox, sink) {
             Ok(()) => {}
             Err(_fault) => return Cause::WriteFault,
@@ -122,6 +158,46 @@ fn ended_by(flushed: Result<(), WriteFault>, why: Cause) -> Cause
             _ => Cause::WriteFault,
         },
     }
+}
+
+/// Serves one connection to its end, and gives the cause, as [`serve_connection`] does, where a frame may wait for its turn before it
+/// is handed in. What is held for the client goes out before that. The turn is over once no ask is out.
+pub fn serve_in_turn<W: Wait, L: Etcd, F: Feed, S: Source, K: Sink, C: Clock, T: Trace, U: Turns>(
+    rt: &W,
+    alloc: Global,
+    fresh: Fresh,
+    link: &mut L,
+    feed: &mut F,
+    source: &mut S,
+    sink: &mut K,
+    clock: &mut C,
+    trace: &mut T,
+    turns: &mut U,
+) -> Cause
+    requires { pos 1 ≤ℤ fresh.id }
+    ensures serves { let t = ⟦<(S, K, L, F, T) as TellsAll>⟧.told in
+        Serves fresh (t (source.old, sink.old, link.old, feed.old, trace.old))
+        (t (source.new, sink.new, link.new, feed.new, trace.new)) result }
+    ensures source { S.name source.new ≡ S.name source.old }
+    ensures sink { K.name sink.new ≡ K.name sink.old }
+{
+    let mut outbox = Outbox::new(alloc);
+    let why = run(
+        rt,
+        alloc,
+        fresh,
+        &mut outbox,
+        link,
+        feed,
+        source,
+        sink,
+        clock,
+        trace,
+        turns,
+    );
+    turns.end();
+    let result = outbox.flush(sink);
+    ended_by(result, why)
 }
 
 /// Serves one connection to its end, and gives the cause. `fresh` is what a new session would be made with. The causes:
@@ -150,19 +226,16 @@ pub fn serve_connection<W: Wait, L: Etcd, F: Feed, S: Source, K: Sink, C: Clock,
     ensures source { S.name source.new ≡ S.name source.old }
     ensures sink { K.name sink.new ≡ K.name sink.old }
 {
-    let mut outbox = Outbox::new(alloc);
-    let why = run(
+    serve_in_turn(
         rt,
         alloc,
         fresh,
-        &mut outbox,
         link,
         feed,
         source,
         sink,
         clock,
         trace,
-    );
-    let result = outbox.flush(sink);
-    ended_by(result, why)
+        &mut NoTurns,
+    )
 }
