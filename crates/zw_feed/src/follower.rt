@@ -67,7 +67,7 @@ fn read_line(alloc: Global, number: i64, line: &Line) -> Result<Vec<Entry>, Feed
     ensures small { IfOk result (λ es. (number +ℤ pos (length es.items)) <ℤ pos (2 ^ 62)) }
 {
     match line {
-        Line::Created => Ok(Vec::new(alloc)),
+        Line::Created { .. } => Ok(Vec::new(alloc)),
         Line::Events { kvs, .. } => entries_of(alloc, number, kvs.as_slice()),
         Line::Compacted { rev } => Err(FeedFault::Compacted { rev: *rev }),
         Line::Ended => Err(FeedFault::Ended),

@@ -1,5 +1,5 @@
 -- Dials, one after the other.
-use Rattle.std.proofs.Common.{◌≡◌, ℕ, ◌+◌, ◌^◌, ◌<◌, ◌≤◌, ℤ, pos, to_z, of_z, w64, Bool, true, false, List, [], ◌∷◌, ◌++◌, refl, sym, ap, ◌∙◌, subst, arith, append_assoc, append-nil, length-append, Some, None, Result, Ok, Err, inl, inr}
+use Rattle.std.proofs.Common.{◌≡◌, ℕ, ◌+◌, ◌^◌, ◌<◌, ◌≤◌, ℤ, pos, to_z, of_z, w64, Bool, true, false, List, [], ◌∷◌, ◌++◌, refl, sym, ap, ◌∙◌, subst, arith, append_assoc, append-nil, length-append, Option, Some, None, Result, Ok, Err, inl, inr}
 use Rattle.std.specs.Prelude.{◌≤ℤ◌, ◌<ℤ◌}
 use Rattle.ev_types.specs.declared.answer.Kv.{Kv}
 use Rattle.ev_http.specs.Stream.{IsAt}
@@ -12,48 +12,59 @@ use Rattle.zw_hub.specs.Lists.{with_end}
 use Rattle.zw_hub.specs.declared.feed.FeedEnd.{FeedEnd}
 use Rattle.zw_hub.specs.declared.feed.FeedEnd.TheVariants as ends
 use Rattle.zw_hub.specs.declared.published.Published.{Published}
+use Rattle.zx_net.specs.Nets.{NetCounts}
+use Rattle.zx_net.specs.declared.net.NetFault.{NetFault}
+use Rattle.zx_net.specs.declared.net.NetFault.TheVariants as refused
 use Rattle.zx_outside.specs.Counts.{one_more}
-use Rattle.zw_follow.specs.Dials.{Answers, AreBarren, AreDials, AreFewEnough, Comes, CountsTo, Dial, DialsOnce, EndBarren, Followed, Follows, GivesUp, IsBetween, IsDial, IsOverDial, NetTold, Opens, OpensNone, Stops, Telling, WasRead, at_after, barren_after, entries_of, host_after, host_at, said_of}
-use Rattle.zw_follow.specs.Publishing.{Explains, IsPlaced, Publishes, Said, heads_of, zxid_after}
+use Rattle.zw_follow.specs.Dials.{Answers, AreBarren, AreDials, AreFewEnough, Comes, CountsTo, Dial, DialsOnce, EndBarren, Followed, Follows, GivesUp, IsBetween, IsDial, IsFailed, IsOverDial, IsUndialledBy, NetTold, Opens, OpensNone, Stops, Telling, WasRead, at_after, barren_after, entries_of, host_after, host_at, said_of}
+use Rattle.zw_follow.specs.Publishing.{Explains, IsPlaced, Publishes, Said, heads_of, told_after}
 use Rattle.zw_follow.specs.Streams.{GoesOn, IsOver, IsUnsentBy, ReadsStream}
 use Rattle.zw_follow.specs.declared.place.Place.{Place}
 use Rattle.zw_follow.specs.declared.stream.StreamEnd.{StreamEnd}
 use Rattle.zw_follow.specs.declared.stream.StreamEnd.TheVariants as stream
 use Rattle.zw_follow.proofs.Ending.{proper_memory, proper_no_line}
-use Rattle.zw_follow.proofs.Growing.{heads_join, passed, publishes_join, publishes_nothing, zxid_join}
+use Rattle.zw_follow.proofs.Growing.{heads_join, passed, publishes_join, publishes_nothing, told_join}
 
 -- ---- one dial
 
 -- a call is given the number that it is
-pub opens_at : {In Out : Type 0} (tells : Telling In Out) (result : Result (Lines In) StreamEnd) (host : List ℕ) (zxid : ℤ) (net net' : NetTold) → pos 0 ≤ℤ zxid → zxid <ℤ pos (2 ^ 62) → Opens tells result host (to_z w64 (of_z w64 zxid)) net net'
-    → Opens tells result host zxid net net'
-opens_at tells result host zxid net net' least most h = subst (λ (z : ℤ). Opens tells result host z net net') (passed zxid least most) h
+pub opens_at : {In Out : Type 0} (tells : Telling In Out) (result : Result (Lines In) StreamEnd) (host : List ℕ) (told : ℤ) (net net' : NetTold) → pos 0 ≤ℤ told → told <ℤ pos (2 ^ 62) → Opens tells result host (to_z w64 (of_z w64 told)) net net'
+    → Opens tells result host told net net'
+opens_at tells result host told net net' least most h = subst (λ (z : ℤ). Opens tells result host z net net') (passed told least most) h
+
+-- the dial failed
+pub opens_undialled : {In Out : Type 0} (tells : Telling In Out) (why : NetFault) (end : StreamEnd) (host : List ℕ) (told : ℤ) (net net' : NetTold) → IsUndialledBy why end → IsFailed net net' → Opens tells (Err end) host told net net'
+opens_undialled tells refused.NoRoom end host told net net' is failed = subst (λ (e : StreamEnd). Opens tells (Err e) host told net net') (sym is) (inl (failed, refused.NoRoom, refl))
+opens_undialled tells refused.InUse end host told net net' is failed = subst (λ (e : StreamEnd). Opens tells (Err e) host told net net') (sym is) (inl (failed, refused.InUse, refl))
+opens_undialled tells refused.NoAddress end host told net net' is failed = subst (λ (e : StreamEnd). Opens tells (Err e) host told net net') (sym is) (inl (failed, refused.NoAddress, refl))
+opens_undialled tells refused.Denied end host told net net' is failed = subst (λ (e : StreamEnd). Opens tells (Err e) host told net net') (sym is) (inl (failed, refused.Denied, refl))
+opens_undialled tells refused.Failed end host told net net' is failed = subst (λ (e : StreamEnd). Opens tells (Err e) host told net net') (sym is) (inl (failed, refused.Failed, refl))
 
 -- the request was sent
-pub opens_lines : {In Out : Type 0} (tells : Telling In Out) (lines : Lines In) (source : In) (host : List ℕ) (zxid : ℤ) (net net' : NetTold) → lines.source ≡ source → IsAt lines (tells.source source) [] [] → Answers tells (Ok tt) host zxid net net' source
-    → Opens tells (Ok lines) host zxid net net'
-opens_lines {In = In} tells lines source host zxid net net' is at answers =
-    (subst (λ (s : In). IsAt lines (tells.source s) [] []) (sym is) at, subst (λ (s : In). Answers tells (Ok tt) host zxid net net' s) (sym is) answers)
+pub opens_lines : {In Out : Type 0} (tells : Telling In Out) (lines : Lines In) (source : In) (host : List ℕ) (told : ℤ) (net net' : NetTold) → lines.source ≡ source → IsAt lines (tells.source source) [] [] → Answers tells (Ok tt) host told net net' source
+    → Opens tells (Ok lines) host told net net'
+opens_lines {In = In} tells lines source host told net net' is at answers =
+    (subst (λ (s : In). IsAt lines (tells.source s) [] []) (sym is) at, subst (λ (s : In). Answers tells (Ok tt) host told net net' s) (sym is) answers)
 
 -- it was not sent: the sink had a fault, or memory was refused
-pub opens_none : {In Out : Type 0} (tells : Telling In Out) (why : HttpFault) (end : StreamEnd) (host : List ℕ) (zxid : ℤ) (net net' : NetTold) → IsUnsentBy why end → OpensNone tells why host zxid net net' → Opens tells (Err end) host zxid net net'
-opens_none tells why (stream.Closes end) host zxid net net' unsent none = (unsent.0, subst (λ (w : HttpFault). OpensNone tells w host zxid net net') unsent.1 none)
-opens_none tells http.WriteFault (stream.Over told barren) host zxid net net' unsent none = (unsent.0, inr none)
-opens_none tells http.Memory (stream.Over told barren) host zxid net net' unsent none = absurd (unsent.1 refl)
-opens_none tells http.Head (stream.Over told barren) host zxid net net' unsent none = absurd (none.answers).sends
-opens_none tells (http.Status n) (stream.Over told barren) host zxid net net' unsent none = absurd (none.answers).sends
-opens_none tells http.Route (stream.Over told barren) host zxid net net' unsent none = absurd (none.answers).sends
-opens_none tells (http.Body place) (stream.Over told barren) host zxid net net' unsent none = absurd (none.answers).sends
-opens_none tells (http.TooLong n) (stream.Over told barren) host zxid net net' unsent none = absurd (none.answers).sends
-opens_none tells (http.Ended n) (stream.Over told barren) host zxid net net' unsent none = absurd (none.answers).sends
-opens_none tells http.Idle (stream.Over told barren) host zxid net net' unsent none = absurd (none.answers).sends
-opens_none tells http.ReadFault (stream.Over told barren) host zxid net net' unsent none = absurd (none.answers).sends
-opens_none tells why stream.Stopped host zxid net net' unsent none = absurd unsent
+pub opens_none : {In Out : Type 0} (tells : Telling In Out) (why : HttpFault) (end : StreamEnd) (host : List ℕ) (told : ℤ) (net net' : NetTold) → IsUnsentBy why end → OpensNone tells why host told net net' → Opens tells (Err end) host told net net'
+opens_none tells why (stream.Closes end) host told net net' unsent none = (unsent.0, subst (λ (w : HttpFault). OpensNone tells w host told net net') unsent.1 none)
+opens_none tells http.WriteFault (stream.Over why barren) host told net net' unsent none = inr (unsent.0, none)
+opens_none tells http.Memory (stream.Over cause barren) host told net net' unsent none = absurd (unsent.1 refl)
+opens_none tells http.Head (stream.Over cause barren) host told net net' unsent none = absurd (none.answers).sends
+opens_none tells (http.Status n) (stream.Over cause barren) host told net net' unsent none = absurd (none.answers).sends
+opens_none tells http.Route (stream.Over cause barren) host told net net' unsent none = absurd (none.answers).sends
+opens_none tells (http.Body place) (stream.Over cause barren) host told net net' unsent none = absurd (none.answers).sends
+opens_none tells (http.TooLong n) (stream.Over cause barren) host told net net' unsent none = absurd (none.answers).sends
+opens_none tells (http.Ended n) (stream.Over cause barren) host told net net' unsent none = absurd (none.answers).sends
+opens_none tells http.Idle (stream.Over cause barren) host told net net' unsent none = absurd (none.answers).sends
+opens_none tells http.ReadFault (stream.Over cause barren) host told net net' unsent none = absurd (none.answers).sends
+opens_none tells why stream.Stopped host told net net' unsent none = absurd unsent
 
 -- a dial that read no line
-pub dials_none : {In Out : Type 0} (tells : Telling In Out) (host : List ℕ) (end : StreamEnd) (net net' : NetTold) (list : Published) (zxid : ℤ) (n : ℕ) → Opens tells (Err end) host zxid net net' → DialsOnce tells host end net net' list list zxid zxid n n
-dials_none tells host (stream.Over why barren) net net' list zxid n (counts, inl failed) = record {
-  dial = record { host = host; before = net; after = net'; zxid = zxid; said = []; entries = [] };
+pub dials_none : {In Out : Type 0} (tells : Telling In Out) (host : List ℕ) (end : StreamEnd) (net net' : NetTold) (list : Published) (told : ℤ) (n : ℕ) → Opens tells (Err end) host told net net' → DialsOnce tells host end net net' list list told told n n
+dials_none tells host (stream.Over why barren) net net' list told n (inl (failed, cause, counts)) = record {
+  dial = record { host = host; before = net; after = net'; told = told; said = []; entries = [] };
   starts = refl;
   stops = refl;
   asks = refl;
@@ -61,11 +72,11 @@ dials_none tells host (stream.Over why barren) net net' list zxid n (counts, inl
   is = inl (failed, (refl, refl));
   left = [];
   publishes = publishes_nothing list;
-  zxid_is = refl;
-  comes = (refl, refl, inl ((failed, (refl, refl)), counts));
+  told_is = refl;
+  comes = (refl, refl, inl ((failed, (refl, refl)), cause, counts));
 }
-dials_none tells host (stream.Over why barren) net net' list zxid n (counts, inr none) = record {
-  dial = record { host = host; before = net; after = net'; zxid = zxid; said = []; entries = [] };
+dials_none tells host (stream.Over why barren) net net' list told n (inr (counts, none)) = record {
+  dial = record { host = host; before = net; after = net'; told = told; said = []; entries = [] };
   starts = refl;
   stops = refl;
   asks = refl;
@@ -73,11 +84,11 @@ dials_none tells host (stream.Over why barren) net net' list zxid n (counts, inr
   is = inr (inl (http.WriteFault, (none, (refl, refl))));
   left = [];
   publishes = publishes_nothing list;
-  zxid_is = refl;
+  told_is = refl;
   comes = (refl, refl, inr (inl ((none, (refl, refl)), counts)));
 }
-dials_none tells host (stream.Closes end) net net' list zxid n opens =
-    let d : Dial = record { host = host; before = net; after = net'; zxid = zxid; said = []; entries = [] } in
+dials_none tells host (stream.Closes end) net net' list told n opens =
+    let d : Dial = record { host = host; before = net; after = net'; told = told; said = []; entries = [] } in
     record {
       dial = d;
       starts = refl;
@@ -87,31 +98,32 @@ dials_none tells host (stream.Closes end) net net' list zxid n opens =
       is = inr (inl (http.Memory, (opens.1, (refl, refl))));
       left = [];
       publishes = publishes_nothing list;
-      zxid_is = refl;
+      told_is = refl;
       comes = subst (λ (e : FeedEnd). Comes tells host (stream.Closes e) d [] list n n) (sym opens.0) (proper_memory, tt, refl);
     }
-dials_none tells host stream.Stopped net net' list zxid n opens = absurd opens
+dials_none tells host stream.Stopped net net' list told n opens = absurd opens
 
 -- the worker stays at its place
-pub goes_on_unopened : {In Out : Type 0} (tells : Telling In Out) (end : StreamEnd) (host : List ℕ) (zxid : ℤ) (net net' : NetTold) (list : Published) (place : Place) → Opens tells (Err end) host zxid net net' → IsPlaced list place → GoesOn end list place
-goes_on_unopened tells (stream.Over why barren) host zxid net net' list place opens placed = placed
-goes_on_unopened tells (stream.Closes end) host zxid net net' list place opens placed = placed.is_open
-goes_on_unopened tells stream.Stopped host zxid net net' list place opens placed = absurd opens
+pub goes_on_unopened : {In Out : Type 0} (tells : Telling In Out) (end : StreamEnd) (host : List ℕ) (told : ℤ) (net net' : NetTold) (list : Published) (place : Place) → Opens tells (Err end) host told net net' → IsPlaced list place → GoesOn end list place
+goes_on_unopened tells (stream.Over why barren) host told net net' list place opens placed = placed
+goes_on_unopened tells (stream.Closes end) host told net net' list place opens placed = placed.is_open
+goes_on_unopened tells stream.Stopped host told net net' list place opens placed = absurd opens
 
-comes_read : {In Out : Type 0} (tells : Telling In Out) (host : List ℕ) (end : StreamEnd) (d : Dial) (before after : Published) (zxid zxid' : ℤ) (n n' : ℕ) (w : WasRead tells host d) (r : ReadsStream tells.source w.source end before after zxid zxid' n n')
-    → d.said ≡ r.said → Comes tells host end d r.left after n n'
-comes_read tells host stream.Stopped d before after zxid zxid' n n' w r same = r.ends
-comes_read tells host (stream.Over why barren) d before after zxid zxid' n n' w r same =
-    ((r.ends).0, (r.ends).1, inr (inr (w, subst (λ (said : List Said). IsOver tells.source w.source said barren) (sym same) (r.ends).2)))
-comes_read tells host (stream.Closes end) d before after zxid zxid' n n' w r same =
+comes_read : {In Out : Type 0} (tells : Telling In Out) (host : List ℕ) (end : StreamEnd) (d : Dial) (before after : Published) (told told' : ℤ) (n n' : ℕ) (w : WasRead tells host d) (r : ReadsStream tells.source w.source end before after told told' n n')
+    → d.said ≡ r.said → d.told ≡ told → Comes tells host end d r.left after n n'
+comes_read tells host stream.Stopped d before after told told' n n' w r same asks = r.ends
+comes_read tells host (stream.Over why barren) d before after told told' n n' w r same asks =
+    let over : IsOver tells.source w.source told d.said barren = subst (λ (said : List Said). IsOver tells.source w.source told said barren) (sym same) (r.ends).2 in
+    ((r.ends).0, (r.ends).1, inr (inr (w, subst (λ (z : ℤ). IsOver tells.source w.source z d.said barren) (sym asks) over)))
+comes_read tells host (stream.Closes end) d before after told told' n n' w r same asks =
     ((r.ends).0, subst (λ (said : List Said). Explains end after said r.left) (sym same) (r.ends).1, (r.ends).2)
 
 -- a dial whose stream was read
-pub dials_read : {In Out : Type 0} (tells : Telling In Out) (lines : Lines In) (host : List ℕ) (end : StreamEnd) (net net' : NetTold) (before after : Published) (zxid zxid' : ℤ) (n n' : ℕ) → Opens tells (Ok lines) host zxid net net'
-    → ReadsStream tells.source lines.source end before after zxid zxid' n n' → DialsOnce tells host end net net' before after zxid zxid' n n'
-dials_read tells lines host end net net' before after zxid zxid' n n' opens r =
-    let d : Dial = record { host = host; before = net; after = net'; zxid = zxid; said = r.said; entries = r.entries } in
-    let w : WasRead tells host d = record { source = lines.source; answers = opens.1; lines = r.lines; read = r.read } in
+pub dials_read : {In Out : Type 0} (tells : Telling In Out) (lines : Lines In) (host : List ℕ) (end : StreamEnd) (net net' : NetTold) (before after : Published) (told told' : ℤ) (n n' : ℕ) → Opens tells (Ok lines) host told net net'
+    → ReadsStream tells.source lines.source end before after told told' n n' → DialsOnce tells host end net net' before after told told' n n'
+dials_read tells lines host end net net' before after told told' n n' opens r =
+    let d : Dial = record { host = host; before = net; after = net'; told = told; said = r.said; entries = r.entries } in
+    let w : WasRead tells host d = record { source = lines.source; answers = opens.1; lines = r.lines; read = r.read; waited = r.waited; heeded = r.heeded } in
     record {
       dial = d;
       starts = refl;
@@ -121,9 +133,16 @@ dials_read tells lines host end net net' before after zxid zxid' n n' opens r =
       is = inr (inr w);
       left = r.left;
       publishes = r.publishes;
-      zxid_is = r.zxid_is;
-      comes = comes_read tells host end d before after zxid zxid' n n' w r refl;
+      told_is = r.told_is;
+      comes = comes_read tells host end d before after told told' n n' w r refl refl;
     }
+
+-- the net was told that the stream was of use, and tells the same
+pub settled : {In Out : Type 0} (tells : Telling In Out) (host : List ℕ) (end : StreamEnd) (net : NetTold) (counts counts' : NetCounts) (streams streams' : Option (List (List ℕ))) (before after : Published) (told told' : ℤ) (n n' : ℕ) → counts' ≡ counts → streams' ≡ streams
+    → DialsOnce tells host end net (record { counts = counts; streams = streams }) before after told told' n n' → DialsOnce tells host end net (record { counts = counts'; streams = streams' }) before after told told' n n'
+settled tells host end net counts counts' streams streams' before after told told' n n' same_counts same_streams h =
+    subst (λ (c : NetCounts). DialsOnce tells host end net (record { counts = c; streams = streams' }) before after told told' n n') (sym same_counts)
+    (subst (λ (s : Option (List (List ℕ))). DialsOnce tells host end net (record { counts = counts; streams = s }) before after told told' n n') (sym same_streams) h)
 
 -- ---- one more dial
 
@@ -139,11 +158,11 @@ at_push : (text : List ℕ) (at : ℕ) (ds : List Dial) (d : Dial) → at_after 
 at_push text at [] d = refl
 at_push text at (first ∷ ds) d = at_push text (host_after text at) ds d
 
-dials_push : {In Out : Type 0} (tells : Telling In Out) (text : List ℕ) (at : ℕ) (net now : NetTold) (zxid : ℤ) (ds : List Dial) (d : Dial) → AreDials tells text at net zxid ds now → d.before ≡ now → d.zxid ≡ zxid_after zxid (entries_of ds)
-    → d.host ≡ host_at text (at_after text at ds) → IsDial tells d.host d → AreDials tells text at net zxid (ds ++ d ∷ []) d.after
-dials_push tells text at net now zxid [] d dials starts asks names is = (starts ∙ dials, asks, names, is, refl)
-dials_push tells text at net now zxid (first ∷ ds) d dials starts asks names is =
-    (dials.0, dials.1, dials.2, dials.3, dials_push tells text (host_after text at) first.after now (zxid_after zxid first.entries) ds d dials.4 starts (asks ∙ zxid_join zxid first.entries (entries_of ds)) names is)
+dials_push : {In Out : Type 0} (tells : Telling In Out) (text : List ℕ) (at : ℕ) (net now : NetTold) (told : ℤ) (ds : List Dial) (d : Dial) → AreDials tells text at net told ds now → d.before ≡ now → d.told ≡ told_after told (said_of ds) (entries_of ds)
+    → d.host ≡ host_at text (at_after text at ds) → IsDial tells d.host d → AreDials tells text at net told (ds ++ d ∷ []) d.after
+dials_push tells text at net now told [] d dials starts asks names is = (starts ∙ dials, asks, names, is, refl)
+dials_push tells text at net now told (first ∷ ds) d dials starts asks names is =
+    (dials.0, dials.1, dials.2, dials.3, dials_push tells text (host_after text at) first.after now (told_after told first.said first.entries) ds d dials.4 starts (asks ∙ told_join told first.said (said_of ds) first.entries (entries_of ds)) names is)
 
 counts_push : {In Out : Type 0} (tells : Telling In Out) (n m : ℕ) (ds : List Dial) (d : Dial) (barren : Bool) → CountsTo tells n ds m → m < 10 → IsOverDial tells d.host d barren → CountsTo tells n (ds ++ d ∷ []) (barren_after barren m)
 counts_push tells n m [] d barren h small over = (subst (λ (k : ℕ). k < 10) h small, barren, over, ap (barren_after barren) h)
@@ -169,11 +188,11 @@ end_barren tells n ds d true h over = record {
 }
 end_barren tells n ds d false h over = record { earlier = ds ++ d ∷ []; last = []; split = sym (append-nil (ds ++ d ∷ [])); count = refl; barren = tt }
 
-followed_push : {In Out : Type 0} (tells : Telling In Out) (text host : List ℕ) (at : ℕ) (end : StreamEnd) (net now net' : NetTold) (zxid zxid' zxid'' : ℤ) (before list after : Published) (barren n n' : ℕ)
-    → (b : IsBetween tells text net now zxid before list zxid' barren at) → barren < 10 → host ≡ host_at text at → (o : DialsOnce tells host end now net' list after zxid' zxid'' n n') → Followed tells text net net' zxid (b.dials ++ o.dial ∷ []) o.left before after
-followed_push tells text host at end net now net' zxid zxid' zxid'' before list after barren n n' b small is_host o = record {
-  dials = subst (AreDials tells text 0 net zxid (b.dials ++ o.dial ∷ [])) o.stops
-      (dials_push tells text 0 net now zxid b.dials o.dial (b.followed).dials o.starts (o.asks ∙ b.asks) (o.names ∙ is_host ∙ ap (host_at text) b.next) o.is);
+followed_push : {In Out : Type 0} (tells : Telling In Out) (text host : List ℕ) (at : ℕ) (end : StreamEnd) (net now net' : NetTold) (told told' told'' : ℤ) (before list after : Published) (barren n n' : ℕ)
+    → (b : IsBetween tells text net now told before list told' barren at) → barren < 10 → host ≡ host_at text at → (o : DialsOnce tells host end now net' list after told' told'' n n') → Followed tells text net net' told (b.dials ++ o.dial ∷ []) o.left before after
+followed_push tells text host at end net now net' told told' told'' before list after barren n n' b small is_host o = record {
+  dials = subst (AreDials tells text 0 net told (b.dials ++ o.dial ∷ [])) o.stops
+      (dials_push tells text 0 net now told b.dials o.dial (b.followed).dials o.starts (o.asks ∙ b.asks) (o.names ∙ is_host ∙ ap (host_at text) b.next) o.is);
   few = few_push tells 0 barren b.dials o.dial b.counts small;
   publishes = subst (λ (es : List Entry). Publishes (heads_of (said_of (b.dials ++ o.dial ∷ []))) es o.left before after) (sym (entries_push b.dials o.dial))
       (subst (λ (heads : List Kv). Publishes heads (entries_of b.dials ++ (o.dial).entries) o.left before after) (sym (ap heads_of (said_push b.dials o.dial) ∙ heads_join (said_of b.dials) (o.dial).said))
@@ -182,8 +201,8 @@ followed_push tells text host at end net now net' zxid zxid' zxid'' before list 
 
 -- ---- all dials
 
-pub between_starts : {In Out : Type 0} (tells : Telling In Out) (text : List ℕ) (net : NetTold) (zxid : ℤ) (list : Published) → IsBetween tells text net net zxid list list zxid 0 0
-between_starts tells text net zxid list = record {
+pub between_starts : {In Out : Type 0} (tells : Telling In Out) (text : List ℕ) (net : NetTold) (told : ℤ) (list : Published) → IsBetween tells text net net told list list told 0 0
+between_starts tells text net told list = record {
   dials = [];
   followed = record { dials = refl; few = tt; publishes = publishes_nothing list };
   counts = refl;
@@ -192,33 +211,37 @@ between_starts tells text net zxid list = record {
   none = record { earlier = []; last = []; split = refl; count = refl; barren = tt };
 }
 
-pub between_goes : {In Out : Type 0} (tells : Telling In Out) (text host : List ℕ) (at at' : ℕ) (why : Fault) (is_barren : Bool) (net now net' : NetTold) (zxid zxid' zxid'' : ℤ) (before list after : Published) (barren barren' n n' : ℕ)
-    → IsBetween tells text net now zxid before list zxid' barren at → barren < 10 → host ≡ host_at text at → DialsOnce tells host (stream.Over why is_barren) now net' list after zxid' zxid'' n n'
-    → barren' ≡ barren_after is_barren barren → at' ≡ host_after text at → IsBetween tells text net net' zxid before after zxid'' barren' at'
-between_goes tells text host at at' why is_barren net now net' zxid zxid' zxid'' before list after barren barren' n n' b small is_host o counted turned = record {
+pub between_goes : {In Out : Type 0} (tells : Telling In Out) (text host : List ℕ) (at at' : ℕ) (why : Fault) (is_barren : Bool) (net now net' : NetTold) (told told' told'' : ℤ) (before list after : Published) (barren barren' n n' : ℕ)
+    → IsBetween tells text net now told before list told' barren at → barren < 10 → host ≡ host_at text at → DialsOnce tells host (stream.Over why is_barren) now net' list after told' told'' n n'
+    → barren' ≡ barren_after is_barren barren → at' ≡ host_after text at → IsBetween tells text net net' told before after told'' barren' at'
+between_goes tells text host at at' why is_barren net now net' told told' told'' before list after barren barren' n n' b small is_host o counted turned = record {
   dials = b.dials ++ o.dial ∷ [];
-  followed = subst (λ (left : List Kv). Followed tells text net net' zxid (b.dials ++ o.dial ∷ []) left before after) (o.comes).0
-      (followed_push tells text host at (stream.Over why is_barren) net now net' zxid zxid' zxid'' before list after barren n n' b small is_host o);
+  followed = subst (λ (left : List Kv). Followed tells text net net' told (b.dials ++ o.dial ∷ []) left before after) (o.comes).0
+      (followed_push tells text host at (stream.Over why is_barren) net now net' told told' told'' before list after barren n n' b small is_host o);
   counts = subst (λ (k : ℕ). CountsTo tells 0 (b.dials ++ o.dial ∷ []) k) (sym counted) (counts_push tells 0 barren b.dials o.dial is_barren b.counts small (o.comes).2);
   next = turned ∙ ap (host_after text) b.next ∙ sym (at_push text 0 b.dials o.dial);
-  asks = o.zxid_is ∙ ap (λ (z : ℤ). zxid_after z (o.dial).entries) b.asks ∙ sym (zxid_join zxid (entries_of b.dials) (o.dial).entries) ∙ ap (zxid_after zxid) (sym (entries_push b.dials o.dial));
+  asks = o.told_is
+      ∙ ap (λ (z : ℤ). told_after z (o.dial).said (o.dial).entries) b.asks
+      ∙ sym (told_join told (said_of b.dials) (o.dial).said (entries_of b.dials) (o.dial).entries)
+      ∙ ap (λ (said : List Said). told_after told said (entries_of b.dials ++ (o.dial).entries)) (sym (said_push b.dials o.dial))
+      ∙ ap (told_after told (said_of (b.dials ++ o.dial ∷ []))) (sym (entries_push b.dials o.dial));
   none = subst (λ (k : ℕ). EndBarren tells k (b.dials ++ o.dial ∷ [])) (sym counted) (end_barren tells barren b.dials o.dial is_barren b.none (o.comes).2);
 }
 
 -- the word to stop was set, between two dials
-pub stops_between : {In Out : Type 0} (tells : Telling In Out) (text : List ℕ) (at : ℕ) (net now : NetTold) (zxid zxid' : ℤ) (before list : Published) (barren n n' : ℕ) → IsBetween tells text net now zxid before list zxid' barren at → list.end ≡ None → n' ≡ one_more n
-    → Stops tells text None net now zxid before list n n'
-stops_between tells text at net now zxid zxid' before list barren n n' b is_open counted = (is_open, counted, b.dials, b.followed)
+pub stops_between : {In Out : Type 0} (tells : Telling In Out) (text : List ℕ) (at : ℕ) (net now : NetTold) (told told' : ℤ) (before list : Published) (barren n n' : ℕ) → IsBetween tells text net now told before list told' barren at → list.end ≡ None → n' ≡ one_more n
+    → Stops tells text None net now told before list n n'
+stops_between tells text at net now told told' before list barren n n' b is_open counted = (is_open, counted, b.dials, b.followed)
 
 -- the word to stop was set while a stream was read
-pub stops_within : {In Out : Type 0} (tells : Telling In Out) (text host : List ℕ) (at : ℕ) (net now net' : NetTold) (zxid zxid' zxid'' : ℤ) (before list after : Published) (barren first n n' : ℕ) → IsBetween tells text net now zxid before list zxid' barren at → barren < 10
-    → host ≡ host_at text at → DialsOnce tells host stream.Stopped now net' list after zxid' zxid'' n n' → after.end ≡ None → n ≡ first → Stops tells text None net net' zxid before after first n'
-stops_within tells text host at net now net' zxid zxid' zxid'' before list after barren first n n' b small is_host o is_open unset = (
+pub stops_within : {In Out : Type 0} (tells : Telling In Out) (text host : List ℕ) (at : ℕ) (net now net' : NetTold) (told told' told'' : ℤ) (before list after : Published) (barren first n n' : ℕ) → IsBetween tells text net now told before list told' barren at → barren < 10
+    → host ≡ host_at text at → DialsOnce tells host stream.Stopped now net' list after told' told'' n n' → after.end ≡ None → n ≡ first → Stops tells text None net net' told before after first n'
+stops_within tells text host at net now net' told told' told'' before list after barren first n n' b small is_host o is_open unset = (
   is_open,
   (o.comes).1 ∙ ap one_more unset,
   b.dials ++ o.dial ∷ [],
-  subst (λ (left : List Kv). Followed tells text net net' zxid (b.dials ++ o.dial ∷ []) left before after) (o.comes).0
-      (followed_push tells text host at stream.Stopped net now net' zxid zxid' zxid'' before list after barren n n' b small is_host o),
+  subst (λ (left : List Kv). Followed tells text net net' told (b.dials ++ o.dial ∷ []) left before after) (o.comes).0
+      (followed_push tells text host at stream.Stopped net now net' told told' told'' before list after barren n n' b small is_host o),
 )
 
 gives_up : {In Out : Type 0} (tells : Telling In Out) (end : FeedEnd) (list : Published) (ds : List Dial) (d : Dial) (left : List Kv) → Explains end list d.said left → GivesUp tells end list (ds ++ d ∷ []) left
@@ -229,22 +252,22 @@ gives_up tells ends.NoLine list ds d left why = absurd why.4
 gives_up tells ends.Memory list ds d left why = (ds, d, refl, why)
 
 -- the updates cannot be followed any further
-pub closes : {In Out : Type 0} (tells : Telling In Out) (text host : List ℕ) (at : ℕ) (end : FeedEnd) (net now net' : NetTold) (zxid zxid' zxid'' : ℤ) (before list after : Published) (barren first n n' : ℕ) → IsBetween tells text net now zxid before list zxid' barren at → barren < 10
-    → host ≡ host_at text at → DialsOnce tells host (stream.Closes end) now net' list after zxid' zxid'' n n' → after.end ≡ None → n ≡ first → Stops tells text (Some end) net net' zxid before after first n'
-closes tells text host at end net now net' zxid zxid' zxid'' before list after barren first n n' b small is_host o is_open unset = (
+pub closes : {In Out : Type 0} (tells : Telling In Out) (text host : List ℕ) (at : ℕ) (end : FeedEnd) (net now net' : NetTold) (told told' told'' : ℤ) (before list after : Published) (barren first n n' : ℕ) → IsBetween tells text net now told before list told' barren at → barren < 10
+    → host ≡ host_at text at → DialsOnce tells host (stream.Closes end) now net' list after told' told'' n n' → after.end ≡ None → n ≡ first → Stops tells text (Some end) net net' told before after first n'
+closes tells text host at end net now net' told told' told'' before list after barren first n n' b small is_host o is_open unset = (
   is_open,
   (o.comes).2 ∙ unset,
   (o.comes).0,
   b.dials ++ o.dial ∷ [],
   o.left,
-  followed_push tells text host at (stream.Closes end) net now net' zxid zxid' zxid'' before list after barren n n' b small is_host o,
+  followed_push tells text host at (stream.Closes end) net now net' told told' told'' before list after barren n n' b small is_host o,
   gives_up tells end after b.dials o.dial o.left (o.comes).1,
 )
 
 -- ten dials in a row gave no line
-pub no_line : {In Out : Type 0} (tells : Telling In Out) (text : List ℕ) (at : ℕ) (net now : NetTold) (zxid zxid' : ℤ) (before list : Published) (barren first n : ℕ) → IsBetween tells text net now zxid before list zxid' barren at → barren ≡ 10 → list.end ≡ None → n ≡ first
-    → Stops tells text (Some ends.NoLine) net now zxid before list first n
-no_line tells text at net now zxid zxid' before list barren first n b ten is_open unset =
+pub no_line : {In Out : Type 0} (tells : Telling In Out) (text : List ℕ) (at : ℕ) (net now : NetTold) (told told' : ℤ) (before list : Published) (barren first n : ℕ) → IsBetween tells text net now told before list told' barren at → barren ≡ 10 → list.end ≡ None → n ≡ first
+    → Stops tells text (Some ends.NoLine) net now told before list first n
+no_line tells text at net now told told' before list barren first n b ten is_open unset =
     (is_open, unset, proper_no_line, b.dials, [], b.followed, (refl, subst (λ (k : ℕ). EndBarren tells k b.dials) ten b.none))
 
 pub barren_small : (is_barren : Bool) (n : ℕ) → n < 10 → barren_after is_barren n ≤ 10
@@ -255,7 +278,7 @@ pub ten_barren : (n : ℕ) → n ≤ 10 → 10 ≤ n → n ≡ 10
 ten_barren n most least = omega (arith, most, least)
 
 -- the list is closed for the end
-pub follows_closed : {In Out : Type 0} (tells : Telling In Out) (text : List ℕ) (end end' : FeedEnd) (net net' : NetTold) (zxid : ℤ) (before between after : Published) (n n' : ℕ) → Stops tells text (Some end) net net' zxid before between n n' → end' ≡ end → after ≡ with_end between end
-    → Follows tells text (Some end') net net' zxid before after n n'
-follows_closed tells text end end' net net' zxid before between after n n' stops same closed =
-    subst (λ (e : FeedEnd). Follows tells text (Some e) net net' zxid before after n n') (sym same) (between, stops, closed)
+pub follows_closed : {In Out : Type 0} (tells : Telling In Out) (text : List ℕ) (end end' : FeedEnd) (net net' : NetTold) (told : ℤ) (before between after : Published) (n n' : ℕ) → Stops tells text (Some end) net net' told before between n n' → end' ≡ end → after ≡ with_end between end
+    → Follows tells text (Some end') net net' told before after n n'
+follows_closed tells text end end' net net' told before between after n n' stops same closed =
+    subst (λ (e : FeedEnd). Follows tells text (Some e) net net' told before after n n') (sym same) (between, stops, closed)

@@ -17,9 +17,12 @@ use Rattle.zw_hub.specs.declared.feed.FeedEnd.{FeedEnd}
 use Rattle.zw_hub.specs.declared.feed.FeedEnd.TheVariants as ends
 use Rattle.zw_hub.specs.declared.published.Published.{Published}
 use Rattle.zx_net.specs.Nets.{GivesNext, IsFreshSink, IsFreshSource, NetCounts}
+use Rattle.zx_net.specs.declared.net.NetFault.{NetFault}
+use Rattle.zx_net.specs.declared.net.NetFault.TheVariants as refused
+use Rattle.ev_words.specs.declared.fault.Fault.TheVariants as fault
 use Rattle.zx_outside.specs.Counts.{InputCounts, OutputCounts, one_more}
-use Rattle.zw_follow.specs.Publishing.{Explains, Publishes, Said, heads_of, zxid_after}
-use Rattle.zw_follow.specs.Streams.{IsOver, IsReadTo, spelled}
+use Rattle.zw_follow.specs.Publishing.{Explains, Publishes, Said, heads_of, told_after}
+use Rattle.zw_follow.specs.Streams.{IsHeeded, IsOver, IsReadTo, IsWaitedFor, spelled}
 use Rattle.zw_follow.specs.declared.stream.StreamEnd.{StreamEnd}
 use Rattle.zw_follow.specs.declared.stream.StreamEnd.TheVariants as stream
 
@@ -48,34 +51,34 @@ abbrev pub request_with : List ℕ → List ℕ → List ℕ
 request_with host body = request_head host route.Watch (length body) ++ body
 
 abbrev pub watch_request : List ℕ → ℤ → List ℕ
-watch_request host zxid = request_with host (watch_text (zxid +ℤ pos 1) (codes "zk/head"))
+watch_request host told = request_with host (watch_text (told +ℤ pos 1) (codes "zk/head"))
 
 -- the dial failed, which is counted
 abbrev pub IsFailed : NetTold → NetTold → Type 0
 IsFailed net net' = net' ≡ record net { counts = record (net.counts) { dial_faults = one_more (net.counts).dial_faults } }
 
 -- The dial gave both ends of a stream, the next one of the net where that is told; and the sending of the request came to this.
-pub record Answers {In Out : Type 0} (tells : Telling In Out) (sent : Result (Unit {0}) HttpFault) (host : List ℕ) (zxid : ℤ) (net net' : NetTold) (source : In) : Type 0 where
+pub record Answers {In Out : Type 0} (tells : Telling In Out) (sent : Result (Unit {0}) HttpFault) (host : List ℕ) (told : ℤ) (net net' : NetTold) (source : In) : Type 0 where
   pub counts : net'.counts ≡ net.counts
   pub gives : GivesNext net.streams net'.streams (tells.source source).left
   pub fresh : IsFreshSource (tells.source source).given (tells.source source).counts (tells.source source).ended (tells.source source).name 0
   pub sink : Out
   pub fresh_sink : IsFreshSink (tells.taken sink) (tells.counts sink) (tells.name sink) 0
   pub after : Out
-  pub sends : Sends sent (watch_request host zxid) (tells.taken sink) (tells.taken after) (tells.counts sink) (tells.counts after) (tells.name sink) (tells.name after)
+  pub sends : Sends sent (watch_request host told) (tells.taken sink) (tells.taken after) (tells.counts sink) (tells.counts after) (tells.name sink) (tells.name after)
 
 -- it gave both ends of a stream, and the request was not sent, for this reason
-pub record OpensNone {In Out : Type 0} (tells : Telling In Out) (why : HttpFault) (host : List ℕ) (zxid : ℤ) (net net' : NetTold) : Type 0 where
+pub record OpensNone {In Out : Type 0} (tells : Telling In Out) (why : HttpFault) (host : List ℕ) (told : ℤ) (net net' : NetTold) : Type 0 where
   pub source : In
-  pub answers : Answers tells (Err why) host zxid net net' source
+  pub answers : Answers tells (Err why) host told net net' source
 
--- One dial: the address that was dialled, what the net told before and after it, the zxid after whose revision it asks, the lines that
--- its stream gave, and the entries that were published of them.
+-- One dial: the address that was dialled, what the net told before and after it, the revision up to which all was told before, and after
+-- which it asks, the lines that its stream gave, and the entries that were published of them.
 pub record Dial : Type 0 where
   pub host : List ℕ
   pub before : NetTold
   pub after : NetTold
-  pub zxid : ℤ
+  pub told : ℤ
   pub said : List Said
   pub entries : List Entry
 
@@ -85,25 +88,35 @@ GaveNothing d = (d.said ≡ []) × (d.entries ≡ [])
 abbrev pub WasRefused : Dial → Type 0
 WasRefused d = IsFailed d.before d.after × GaveNothing d
 
+-- whether a dial that failed so counts as one that gave no line: not where no descriptor was left, which says nothing of the member
+abbrev pub is_barren_dial : NetFault → Bool
+is_barren_dial refused.NoRoom = false
+is_barren_dial refused.InUse = true
+is_barren_dial refused.NoAddress = true
+is_barren_dial refused.Denied = true
+is_barren_dial refused.Failed = true
+
 -- the request was not sent, for this reason
 abbrev pub WasUnsent : {In Out : Type 0} → Telling In Out → List ℕ → HttpFault → Dial → Type 0
-WasUnsent tells host why d = OpensNone tells why host d.zxid d.before d.after × GaveNothing d
+WasUnsent tells host why d = OpensNone tells why host d.told d.before d.after × GaveNothing d
 
--- the request was sent, and these lines were read of what came
+-- The request was sent, and these lines were read of what came, none of them after one that says that the member is behind.
 pub record WasRead {In Out : Type 0} (tells : Telling In Out) (host : List ℕ) (d : Dial) : Type 0 where
   pub source : In
-  pub answers : Answers tells (Ok tt) host d.zxid d.before d.after source
+  pub answers : Answers tells (Ok tt) host d.told d.before d.after source
   pub lines : Lines In
   pub read : IsReadTo tells.source source lines (spelled d.said)
+  pub waited : IsWaitedFor tells.source source lines d.said
+  pub heeded : IsHeeded d.told d.said
 
 abbrev pub IsDial : {In Out : Type 0} → Telling In Out → List ℕ → Dial → Type 0
 IsDial tells host d = WasRefused d ⊎ (((why : HttpFault) × WasUnsent tells host why d) ⊎ WasRead tells host d)
 
 -- The dial failed, its sink had a fault, or its stream is over; and whether it counts as one that gave no line.
 abbrev pub IsOverDial : {In Out : Type 0} → Telling In Out → List ℕ → Dial → Bool → Type 0
-IsOverDial tells host d barren = (WasRefused d × (barren ≡ true))
+IsOverDial tells host d barren = (WasRefused d × (why : NetFault) × (barren ≡ is_barren_dial why))
     ⊎ ((WasUnsent tells host http.WriteFault d × (barren ≡ true))
-    ⊎ ((r : WasRead tells host d) × IsOver tells.source r.source d.said barren))
+    ⊎ ((r : WasRead tells host d) × IsOver tells.source r.source d.told d.said barren))
 
 -- ---- dials in a row
 
@@ -127,13 +140,13 @@ abbrev pub at_after : List ℕ → ℕ → List Dial → ℕ
 at_after text at [] = at
 at_after text at (d ∷ ds) = at_after text (host_after text at) ds
 
--- Dials in a row, of the addresses of a text in turn, each of which asks for what comes after the last entry that was published before it.
+-- Dials in a row, of the addresses of a text in turn, each of which asks for what comes after the revision up to which all was told before.
 abbrev pub AreDials : {In Out : Type 0} → Telling In Out → List ℕ → ℕ → NetTold → ℤ → List Dial → NetTold → Type 0
-AreDials tells text at net zxid [] net' = net' ≡ net
-AreDials tells text at net zxid (d ∷ ds) net' =
-    (d.before ≡ net) × (d.zxid ≡ zxid) × (d.host ≡ host_at text at) × IsDial tells d.host d × AreDials tells text (host_after text at) d.after (zxid_after zxid d.entries) ds net'
+AreDials tells text at net told [] net' = net' ≡ net
+AreDials tells text at net told (d ∷ ds) net' =
+    (d.before ≡ net) × (d.told ≡ told) × (d.host ≡ host_at text at) × IsDial tells d.host d × AreDials tells text (host_after text at) d.after (told_after told d.said d.entries) ds net'
 
--- how many dials in a row gave no line, with one more: one that gave a line starts the count anew
+-- how many dials in a row gave no line, with one more: one that does not count so starts the count anew
 abbrev pub barren_after : Bool → ℕ → ℕ
 barren_after true n = n + 1
 barren_after false n = 0
@@ -162,8 +175,8 @@ pub record EndBarren {In Out : Type 0} (tells : Telling In Out) (n : ℕ) (ds : 
 
 -- These dials were made, one after the other, and the list grew by the entries of the lines that they gave, each once and in order; these
 -- heads are left.
-pub record Followed {In Out : Type 0} (tells : Telling In Out) (text : List ℕ) (net net' : NetTold) (zxid : ℤ) (ds : List Dial) (left : List Kv) (before after : Published) : Type 0 where
-  pub dials : AreDials tells text 0 net zxid ds net'
+pub record Followed {In Out : Type 0} (tells : Telling In Out) (text : List ℕ) (net net' : NetTold) (told : ℤ) (ds : List Dial) (left : List Kv) (before after : Published) : Type 0 where
+  pub dials : AreDials tells text 0 net told ds net'
   pub few : AreFewEnough tells 0 ds
   pub publishes : Publishes (heads_of (said_of ds)) (entries_of ds) left before after
 
@@ -174,24 +187,30 @@ GivesUp tells end list ds left = (earlier : List Dial) × (d : Dial) × (ds ≡ 
 
 -- What all streams come to, by the readings that found the word to stop set, before and after; the list is open.
 abbrev pub Stops : {In Out : Type 0} → Telling In Out → List ℕ → Option FeedEnd → NetTold → NetTold → ℤ → Published → Published → ℕ → ℕ → Type 0
-Stops tells text None net net' zxid before after n n' = (after.end ≡ None) × (n' ≡ one_more n) × (ds : List Dial) × Followed tells text net net' zxid ds [] before after
-Stops tells text (Some end) net net' zxid before after n n' =
-    (after.end ≡ None) × (n' ≡ n) × IsProper end × (ds : List Dial) × (left : List Kv) × Followed tells text net net' zxid ds left before after × GivesUp tells end after ds left
+Stops tells text None net net' told before after n n' = (after.end ≡ None) × (n' ≡ one_more n) × (ds : List Dial) × Followed tells text net net' told ds [] before after
+Stops tells text (Some end) net net' told before after n n' =
+    (after.end ≡ None) × (n' ≡ n) × IsProper end × (ds : List Dial) × (left : List Kv) × Followed tells text net net' told ds left before after × GivesUp tells end after ds left
 
 -- What a worker that follows the head comes to: it was told to stop, and the list is open; or the list is closed for the end that it
 -- gives.
 abbrev pub Follows : {In Out : Type 0} → Telling In Out → List ℕ → Option FeedEnd → NetTold → NetTold → ℤ → Published → Published → ℕ → ℕ → Type 0
-Follows tells text None net net' zxid before after n n' = Stops tells text None net net' zxid before after n n'
-Follows tells text (Some end) net net' zxid before after n n' = (between : Published) × Stops tells text (Some end) net net' zxid before between n n' × (after ≡ with_end between end)
+Follows tells text None net net' told before after n n' = Stops tells text None net net' told before after n n'
+Follows tells text (Some end) net net' told before after n n' = (between : Published) × Stops tells text (Some end) net net' told before between n n' × (after ≡ with_end between end)
 
 -- ---- for clauses of private functions
 
+-- what it means that a dial failed so
+abbrev pub IsUndialledBy : NetFault → StreamEnd → Type 0
+IsUndialledBy refused.NoRoom end = end ≡ stream.Over fault.NoRoom false
+IsUndialledBy why end = end ≡ stream.Over fault.Dial true
+
 -- what a dial comes to before any line is read
 abbrev pub Opens : {In Out : Type 0} → Telling In Out → Result (Lines In) StreamEnd → List ℕ → ℤ → NetTold → NetTold → Type 0
-Opens tells (Ok lines) host zxid net net' = IsAt lines (tells.source lines.source) [] [] × Answers tells (Ok tt) host zxid net net' lines.source
-Opens tells (Err (stream.Over why barren)) host zxid net net' = (barren ≡ true) × (IsFailed net net' ⊎ OpensNone tells http.WriteFault host zxid net net')
-Opens tells (Err (stream.Closes end)) host zxid net net' = (end ≡ ends.Memory) × OpensNone tells http.Memory host zxid net net'
-Opens tells (Err stream.Stopped) host zxid net net' = ⊥
+Opens tells (Ok lines) host told net net' = IsAt lines (tells.source lines.source) [] [] × Answers tells (Ok tt) host told net net' lines.source
+Opens tells (Err (stream.Over why barren)) host told net net' =
+    (IsFailed net net' × (cause : NetFault) × (barren ≡ is_barren_dial cause)) ⊎ ((barren ≡ true) × OpensNone tells http.WriteFault host told net net')
+Opens tells (Err (stream.Closes end)) host told net net' = (end ≡ ends.Memory) × OpensNone tells http.Memory host told net net'
+Opens tells (Err stream.Stopped) host told net net' = ⊥
 
 -- what came of one dial, by its end: its lines, and what they added to the list
 abbrev pub Comes : {In Out : Type 0} → Telling In Out → List ℕ → StreamEnd → Dial → List Kv → Published → ℕ → ℕ → Type 0
@@ -199,16 +218,16 @@ Comes tells host stream.Stopped d left list n n' = (left ≡ []) × (n' ≡ one_
 Comes tells host (stream.Over why barren) d left list n n' = (left ≡ []) × (n' ≡ n) × IsOverDial tells host d barren
 Comes tells host (stream.Closes end) d left list n n' = IsProper end × Explains end list d.said left × (n' ≡ n)
 
-pub record DialsOnce {In Out : Type 0} (tells : Telling In Out) (host : List ℕ) (end : StreamEnd) (net net' : NetTold) (before after : Published) (zxid zxid' : ℤ) (n n' : ℕ) : Type 0 where
+pub record DialsOnce {In Out : Type 0} (tells : Telling In Out) (host : List ℕ) (end : StreamEnd) (net net' : NetTold) (before after : Published) (told told' : ℤ) (n n' : ℕ) : Type 0 where
   pub dial : Dial
   pub starts : dial.before ≡ net
   pub stops : dial.after ≡ net'
-  pub asks : dial.zxid ≡ zxid
+  pub asks : dial.told ≡ told
   pub names : dial.host ≡ host
   pub is : IsDial tells dial.host dial
   pub left : List Kv
   pub publishes : Publishes (heads_of dial.said) dial.entries left before after
-  pub zxid_is : zxid' ≡ zxid_after zxid dial.entries
+  pub told_is : told' ≡ told_after told dial.said dial.entries
   pub comes : Comes tells dial.host end dial left after n n'
 
 -- All of them are over, each was made where fewer than ten in a row had given no line, and so many in a row gave none before these, and
@@ -218,10 +237,10 @@ CountsTo tells n [] n' = n' ≡ n
 CountsTo tells n (d ∷ ds) n' = (n < 10) × (barren : Bool) × IsOverDial tells d.host d barren × CountsTo tells (barren_after barren n) ds n'
 
 -- some dials were made, and are over, and the address with this number is next
-pub record IsBetween {In Out : Type 0} (tells : Telling In Out) (text : List ℕ) (net now : NetTold) (zxid : ℤ) (before list : Published) (zxid' : ℤ) (barren at : ℕ) : Type 0 where
+pub record IsBetween {In Out : Type 0} (tells : Telling In Out) (text : List ℕ) (net now : NetTold) (told : ℤ) (before list : Published) (told' : ℤ) (barren at : ℕ) : Type 0 where
   pub dials : List Dial
-  pub followed : Followed tells text net now zxid dials [] before list
+  pub followed : Followed tells text net now told dials [] before list
   pub counts : CountsTo tells 0 dials barren
   pub next : at ≡ at_after text 0 dials
-  pub asks : zxid' ≡ zxid_after zxid (entries_of dials)
+  pub asks : told' ≡ told_after told (said_of dials) (entries_of dials)
   pub none : EndBarren tells barren dials

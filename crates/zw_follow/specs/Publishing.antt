@@ -1,5 +1,6 @@
 -- What lines of a watch on the head add to a list: the entries of their heads, each once and in order (etcd API reference, "Watch").
-use Rattle.std.specs.Prelude.{◌≡◌, ℕ, ℤ, pos, ◌+ℤ◌, ◌≤ℤ◌, ◌<ℤ◌, ◌^◌, List, [], ◌∷◌, ◌++◌, false, None, Result, Ok, Err}
+use Rattle.std.specs.Prelude.{◌≡◌, ◌⊎◌, ℕ, ℤ, pos, ◌+ℤ◌, ◌≤ℤ◌, ◌<ℤ◌, ◌^◌, List, [], ◌∷◌, ◌++◌, fold, true, false, None, Result, Ok, Err}
+use Rattle.std.specs.Int.{int_max}
 use Rattle.ev_types.specs.declared.answer.Kv.{Kv}
 use Rattle.ev_json.specs.Bodies.{reads_line}
 use Rattle.ev_json.specs.declared.line.Line.{Line}
@@ -30,10 +31,10 @@ IsRun n (e ∷ es) = (e.number ≡ n +ℤ pos 1) × (pos 0 ≤ℤ e.zxid) × (e.
 abbrev pub with_entries : Published → List Entry → Published
 with_entries list es = record list { entries = list.entries ++ es }
 
--- the zxid of the last of these entries, which is its revision; before the first it is this revision
-abbrev pub zxid_after : ℤ → List Entry → ℤ
-zxid_after zxid [] = zxid
-zxid_after zxid (e ∷ es) = zxid_after e.zxid es
+-- the zxids of these entries, which are their revisions
+abbrev pub zxids : List Entry → List ℤ
+zxids [] = []
+zxids (e ∷ es) = e.zxid ∷ zxids es
 
 -- The list grew by the entries of these heads, one for each head and with consecutive numbers, up to those heads that are left.
 pub record Publishes (heads : List Kv) (entries : List Entry) (left : List Kv) (before after : Published) : Type 0 where
@@ -54,6 +55,42 @@ pub record Said : Type 0 where
 abbrev pub heads_of : List Said → List Kv
 heads_of [] = []
 heads_of (s ∷ said) = heads_in s.line ++ heads_of said
+
+-- ---- how far all was told
+
+-- the greatest of this revision and those
+abbrev pub greatest : ℤ → List ℤ → ℤ
+greatest revision others = fold int_max revision others
+
+-- A line in which no key was put says that everything up to its revision was told (etcd API reference, "WatchCreateRequest",
+-- `progress_notify`). One with puts says nothing of the kind: its revision may be above theirs. (A line of deletions alone counts as
+-- one without puts; a deletion of the head cannot be read.)
+abbrev pub told_by : Line → List ℤ
+told_by (line.Events revision []) = revision ∷ []
+told_by _ = []
+
+-- the revisions up to which these lines say so
+abbrev pub told_in : List Said → List ℤ
+told_in [] = []
+told_in (s ∷ said) = told_by s.line ++ told_in said
+
+-- The revision up to which everything was told, after these lines, of which these entries were published. Before them it was this one, and
+-- it never goes back.
+abbrev pub told_after : ℤ → List Said → List Entry → ℤ
+told_after revision said es = greatest revision (told_in said ++ zxids es)
+
+-- ---- members that are behind
+
+-- The line says that the watch was created by a member that is at a revision below this one, up to which everything was told: the member
+-- has forgotten updates, or does not have them yet.
+abbrev pub IsBehind : ℤ → Line → Type 0
+IsBehind told (line.Created revision) = revision <ℤ told
+IsBehind told _ = ⊥
+
+-- the line does not say so
+abbrev pub IsNotBehind : ℤ → Line → Type 0
+IsNotBehind told (line.Created revision) = told ≤ℤ revision
+IsNotBehind told _ = Unit {0}
 
 -- ---- ends
 
@@ -89,13 +126,16 @@ pub record Stands (list : Published) (follower : FollowerState) (place : Place) 
 
 -- ---- one line, for clauses of private functions
 
--- what a line that was taken comes to
-abbrev pub TakesLine : Result (Unit {0}) StreamEnd → Line → Published → Published → ℤ → ℤ → Type 0
-TakesLine (Ok _) l before after zxid zxid' = (es : List Entry) × Publishes (heads_in l) es [] before after × (zxid' ≡ zxid_after zxid es)
-TakesLine (Err (stream.Closes ends.Memory)) l before after zxid zxid' = (es : List Entry) × (left : List Kv) × Publishes (heads_in l) es left before after × (zxid' ≡ zxid_after zxid es)
-TakesLine (Err (stream.Closes end)) l before after zxid zxid' = (after ≡ before) × (zxid' ≡ zxid) × IsProper end × IsShown before end l
-TakesLine (Err (stream.Over why barren)) l before after zxid zxid' = (after ≡ before) × (zxid' ≡ zxid) × (l ≡ line.Ended) × (barren ≡ false)
-TakesLine (Err stream.Stopped) l before after zxid zxid' = ⊥
+-- What a line of a watch comes to that was asked for after this revision: what it adds to the list, and up to which revision all was told
+-- before it and after it.
+abbrev pub TakesLine : Result (Unit {0}) StreamEnd → Line → ℤ → Published → Published → ℤ → ℤ → Type 0
+TakesLine (Ok _) l asked before after told told' = IsNotBehind asked l × (es : List Entry) × Publishes (heads_in l) es [] before after × (told' ≡ greatest told (told_by l ++ zxids es))
+TakesLine (Err (stream.Closes ends.Memory)) l asked before after told told' =
+    IsNotBehind asked l × (es : List Entry) × (left : List Kv) × Publishes (heads_in l) es left before after × (told' ≡ greatest told (told_by l ++ zxids es))
+TakesLine (Err (stream.Closes end)) l asked before after told told' = IsNotBehind asked l × (after ≡ before) × (told' ≡ greatest told (told_by l)) × IsProper end × IsShown before end l
+TakesLine (Err (stream.Over why barren)) l asked before after told told' =
+    (after ≡ before) × (told' ≡ told) × (((l ≡ line.Ended) × (barren ≡ false)) ⊎ (IsBehind asked l × (barren ≡ true)))
+TakesLine (Err stream.Stopped) l asked before after told told' = ⊥
 
 -- what a fault of the follower means for its stream
 abbrev pub Means : FeedFault → StreamEnd → Type 0
@@ -106,14 +146,14 @@ Means (fault.Damaged key value) end = end ≡ stream.Closes (ends.Damaged key va
 Means fault.Memory end = end ≡ stream.Closes ends.Memory
 
 -- the first of these entries are published, and the queue is left; the place is the end of the list
-pub record IsPublishing (all queue : List Entry) (before now : Published) (zxid : ℤ) (place : Place) : Type 0 where
+pub record IsPublishing (all queue : List Entry) (before now : Published) (told : ℤ) (place : Place) : Type 0 where
   pub done : List Entry
   pub split : all ≡ done ++ queue
   pub grown : now ≡ with_entries before done
   pub is_open : now.end ≡ None
   pub run : IsRun (last_number now) queue
   pub placed : place.number ≡ last_number now
-  pub zxid_is : place.revision ≡ zxid_after zxid done
+  pub told_is : place.revision ≡ greatest told (zxids done)
   pub revision_least : pos 0 ≤ℤ place.revision
   pub revision_most : place.revision <ℤ pos (2 ^ 62)
 
@@ -121,4 +161,4 @@ pub record IsPublishing (all queue : List Entry) (before now : Published) (zxid 
 abbrev pub PublishesAll : Result (Unit {0}) Memory → List Entry → Published → Published → Place → Place → Type 0
 PublishesAll (Ok _) es before after place place' = IsPublishing es [] before after place.revision place'
 PublishesAll (Err _) es before after place place' = (front : List Entry) × (rest : List Entry) × (es ≡ front ++ rest)
-    × (after ≡ with_entries before front) × (place'.revision ≡ zxid_after place.revision front)
+    × (after ≡ with_entries before front) × (place'.revision ≡ greatest place.revision (zxids front))

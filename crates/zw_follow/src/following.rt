@@ -31,7 +31,8 @@ const MAX_BARREN: u32 = 10;
 ///
 /// - `Compacted`: etcd no longer has the revisions to go on from;
 /// - `Gap`: the next update is missing; `Damaged`: the head's value is no record;
-/// - `NoLine`: ten dials in a row failed, or gave a stream that could not be asked or gave no line;
+/// - `NoLine`: ten dials in a row failed, though descriptors were left, or gave a stream that could not be asked or gave no line, or one of
+///   a member that is behind what was told already;
 /// - `Memory`: memory was refused. Some of the entries of the last line may be published then.
 pub fn follow<R: Wait + Eprint, H: Wait + Drop, N: Net, Q: StopWord>(
     rt: &R,
@@ -95,6 +96,21 @@ pub fn follow_and_ring<R: Wait + Eprint, H: Wait + Drop, N: Net, Q: StopWord, B:
     Some(end)
 }
 
+/// Tells the net that the stream was of use, if it is over and counts as one that gave a line.
+fn settle<N: Net>(net: &mut N, end: &StreamEnd)
+    ensures counts { N.counts net.new ≡ N.counts net.old }
+    ensures streams { N.streams net.new ≡ N.streams net.old }
+{
+    match end {
+        StreamEnd::Over { is_barren, .. } => {
+            if !*is_barren {
+                net.settle();
+            }
+        }
+        StreamEnd::Stopped | StreamEnd::Closes(_) => {}
+    }
+}
+
 /// Dials once, and follows the stream to its end.
 fn follow_stream<R: Wait, H: Wait + Drop, N: Net, Q: StopWord, B: Rings>(
     rt: &R,
@@ -119,7 +135,9 @@ fn follow_stream<R: Wait, H: Wait + Drop, N: Net, Q: StopWord, B: Rings>(
         Ok(lines) => lines,
         Err(end) => return end,
     };
-    read_stream(rt, alloc, &mut lines, place, hub, stop, bells)
+    let end = read_stream(rt, alloc, &mut lines, place, hub, stop, bells);
+    settle(net, &end);
+    end
 }
 
 /// Whether so many dials in a row that gave no line are enough to give up.

@@ -1,12 +1,13 @@
 //! One stream of a watch.
 
-ghost use Rattle.std.specs.Prelude.{◌≡◌, ◌≤ℤ◌, ◌<ℤ◌, ◌^◌, pos, None, [], true, List, OnOk, IfOk, IfErr, IfSome};
+ghost use Rattle.std.specs.Prelude.{◌≡◌, ◌≤ℤ◌, ◌<ℤ◌, ◌^◌, pos, None, [], true, false, List, OnOk, IfOk, IfErr, IfSome};
+ghost use Rattle.std.specs.Int.{int_max};
 ghost use Rattle.ev_http.specs.Stream.{IsAt};
 ghost use Rattle.ev_http.specs.Taking.{told};
 ghost use Rattle.ev_json.specs.Ranges.{LineFits};
 ghost use Rattle.zw_hub.specs.Lists.{last_number};
-ghost use Rattle.zw_follow.specs.Dials.{Opens, telling};
-ghost use Rattle.zw_follow.specs.Publishing.{IsPlaced, IsRun, Means, PublishesAll, Said, Stands, TakesLine};
+ghost use Rattle.zw_follow.specs.Dials.{IsUndialledBy, Opens, telling};
+ghost use Rattle.zw_follow.specs.Publishing.{IsBehind, IsNotBehind, IsPlaced, IsRun, Means, PublishesAll, Said, Stands, TakesLine, greatest, told_by};
 ghost use Rattle.zw_follow.specs.Streams.{GoesOn, IsBrokenBy, IsMissed, IsReadTo, IsUnsentBy, ReadsOn, ReadsStream};
 ghost use Rattle.zw_follow.specs.Streams.{has_no_events, is_nothing, spelled, taken_after};
 
@@ -23,9 +24,13 @@ use zn_layout::Entry;
 use zw_feed::{FeedFault, Follower};
 use zw_hub::{FeedEnd, Hub};
 use zx_base::Memory;
-use zx_net::Net;
+use zx_net::{Net, NetFault};
 use zx_outside::Source;
 use zx_words::StopWord;
+
+/// How many minutes without a line end a stream. An etcd that has nothing else to tell sends a line of progress every ten minutes, and leaves
+/// one out after an update.
+const MAX_SILENCE: u32 = 25;
 
 /// Why a stream is read no further.
 #[derive(Drop)]
@@ -33,7 +38,7 @@ pub enum StreamEnd {
     /// The worker was told to stop.
     Stopped,
     /// The stream is over, and may be dialled again. `is_barren`: it gave no line, or none but that it was created and one that
-    /// cannot be read.
+    /// cannot be read, or its member is behind what was told already.
     Over { fault: Fault, is_barren: bool },
     /// The updates cannot be followed any further.
     Closes(FeedEnd),
@@ -55,6 +60,27 @@ fn barren(fault: Fault) -> StreamEnd
     StreamEnd::Over {
         fault,
         is_barren: true,
+    }
+}
+
+fn not_barren(fault: Fault) -> StreamEnd
+    ensures { result ≡ StreamEnd.Over fault false }
+{
+    StreamEnd::Over {
+        fault,
+        is_barren: false,
+    }
+}
+
+/// What it means that a dial failed. One for which no descriptor was left says nothing of its member.
+fn undialled(fault: NetFault) -> StreamEnd
+    ensures { IsUndialledBy fault result }
+{
+    match fault {
+        NetFault::NoRoom => not_barren(Fault::NoRoom),
+        NetFault::InUse | NetFault::NoAddress | NetFault::Denied | NetFault::Failed => {
+            barren(Fault::Dial)
+        }
     }
 }
 
@@ -91,8 +117,9 @@ pub(crate) fn open<N: Net>(
         (record { counts = N.counts net.old; streams = N.streams net.old })
         (record { counts = N.counts net.new; streams = N.streams net.new }) }
 {
-    let Ok((source, mut sink)) = net.dial(endpoint) else {
-        return Err(barren(Fault::Dial));
+    let (source, mut sink) = match net.dial(endpoint) {
+        Ok(ends) => ends,
+        Err(fault) => return Err(undialled(fault)),
     };
     let Ok(text) = write_watch(alloc, revision + 1, b"zk/head".as_slice()) else {
         return Err(StreamEnd::Closes(FeedEnd::Memory));
@@ -126,7 +153,7 @@ fn next_line<S: Source>(alloc: Global, lines: &mut Lines<S>) -> Result<Option<Li
     ensures fits { IfOk result (λ found. IfSome found LineFits) }
     ensures reads { (dialled : S) (said : List Said)
         → IsReadTo (told S.given S.left S.counts S.ended S.name) dialled lines.old (spelled said)
-        → ReadsOn (told S.given S.left S.counts S.ended S.name) dialled result lines.new said }
+        → ReadsOn (told S.given S.left S.counts S.ended S.name) dialled result lines.old lines.new said }
 {
     let text = match lines.next() {
         Ok(text) => text,
@@ -203,16 +230,22 @@ fn broken(fault: Fault, taken: Taken) -> StreamEnd
         Fault::Http(why) => broken_at(why, taken),
         Fault::Json(why) => broken_before(why, taken),
         Fault::Memory => StreamEnd::Closes(FeedEnd::Memory),
+        Fault::Silent => StreamEnd::Over {
+            fault,
+            is_barren: is_nothing(taken),
+        },
         Fault::First
         | Fault::Dial
         | Fault::Ended
         | Fault::Compacted(_)
         | Fault::Gap(..)
         | Fault::Damaged
-        | Fault::NoLine => StreamEnd::Over {
-            fault,
-            is_barren: false,
-        },
+        | Fault::NoLine
+        | Fault::Behind(_)
+        | Fault::NoRoom
+        | Fault::Listen(_)
+        | Fault::Thread
+        | Fault::Scheme => not_barren(fault),
     }
 }
 
@@ -221,11 +254,49 @@ fn taken_after(line: &Line, before: Taken) -> Taken
     ensures { result ≡ taken_after line.now before }
 {
     match line {
-        Line::Created => match before {
+        Line::Created { .. } => match before {
             Taken::Nothing | Taken::Created => Taken::Created,
             Taken::Events => Taken::Events,
         },
         Line::Events { .. } | Line::Compacted { .. } | Line::Ended => Taken::Events,
+    }
+}
+
+/// The revision at which the member is that created the watch, if it is below this one, up to which everything was told.
+fn behind(line: &Line, told: i64) -> Option<i64>
+    ensures behind { IfSome result (λ _. IsBehind told line.now) }
+    ensures not_behind { result ≡ None → IsNotBehind told line.now }
+{
+    match line {
+        Line::Created { revision } => {
+            if *revision < told {
+                Some(*revision)
+            } else {
+                None
+            }
+        }
+        Line::Events { .. } | Line::Compacted { .. } | Line::Ended => None,
+    }
+}
+
+/// The greater one of two revisions.
+fn later(revision: i64, other: i64) -> i64
+    ensures { result ≡ int_max revision other }
+{
+    if revision < other { other } else { revision }
+}
+
+/// Moves the place on to the revision up to which everything was told, with this line too. Only a line without events says so of its own.
+fn move_on(place: &mut Place, line: &Line)
+    ensures { place.new ≡ record place.old { revision = greatest place.old.revision (told_by line.now) } }
+{
+    match line {
+        Line::Events { revision, kvs } => {
+            if kvs.len() == 0 {
+                place.revision = later(place.revision, *revision);
+            }
+        }
+        Line::Created { .. } | Line::Compacted { .. } | Line::Ended => {}
     }
 }
 
@@ -245,7 +316,7 @@ fn publish<R: Wait + Drop>(
     'entries: while let Some(entry) = queue.pop_front() {
         let next = Place {
             number: entry.number,
-            revision: entry.zxid,
+            revision: later(place.revision, entry.zxid),
         };
         hub.publish(Arc::new(alloc, entry)?)?;
         *place = next;
@@ -258,10 +329,7 @@ fn end_of(fault: FeedFault) -> StreamEnd
     ensures { Means fault result }
 {
     match fault {
-        FeedFault::Ended => StreamEnd::Over {
-            fault: Fault::Ended,
-            is_barren: false,
-        },
+        FeedFault::Ended => not_barren(Fault::Ended),
         FeedFault::Compacted { rev } => StreamEnd::Closes(FeedEnd::Compacted { rev }),
         FeedFault::Gap { expected, found } => StreamEnd::Closes(FeedEnd::Gap { expected, found }),
         FeedFault::Damaged { key, value } => StreamEnd::Closes(FeedEnd::Damaged { key, value }),
@@ -269,20 +337,26 @@ fn end_of(fault: FeedFault) -> StreamEnd
     }
 }
 
-/// Takes a line, and publishes its entries.
+/// Takes a line of a watch that was asked for after this revision, and publishes its entries.
 fn take_line<R: Wait + Drop>(
     alloc: Global,
     follower: &mut Follower,
     line: &Line,
+    asked: i64,
     hub: &mut Hub<R>,
     place: &mut Place,
 ) -> Result<(), StreamEnd>
     requires line { LineFits line.now }
     requires stands { Stands hub.old.list follower.old place.old }
-    ensures takes { TakesLine result line.now hub.old.list hub.new.list place.old.revision place.new.revision }
+    ensures takes { TakesLine result line.now asked hub.old.list hub.new.list place.old.revision place.new.revision }
     ensures stands { OnOk result (Stands hub.new.list follower.new place.new) }
     ensures goes_on { IfErr result (λ end. GoesOn end hub.new.list place.new) }
 {
+    match behind(line, asked) {
+        Some(revision) => return Err(barren(Fault::Behind(revision))),
+        None => {}
+    }
+    move_on(place, line);
     let entries = match follower.take(line) {
         Ok(entries) => entries,
         Err(fault) => return Err(end_of(fault)),
@@ -293,7 +367,8 @@ fn take_line<R: Wait + Drop>(
     }
 }
 
-/// Publishes the entries of a stream, line by line, until it is over or the word to stop is set.
+/// Publishes the entries of a stream, line by line, until it is over or the word to stop is set. A stream that is silent for 25 minutes is
+/// over.
 pub(crate) fn read_stream<R: Wait, H: Wait + Drop, S: Source, Q: StopWord, B: Rings>(
     rt: &R,
     alloc: Global,
@@ -310,8 +385,10 @@ pub(crate) fn read_stream<R: Wait, H: Wait + Drop, S: Source, Q: StopWord, B: Ri
         hub.old.list hub.new.list place.old.revision place.new.revision
         (Q.set_readings stop.old) (Q.set_readings stop.new) }
 {
+    let asked = place.revision;
     let mut follower = Follower::new(alloc, place.number);
     let mut taken = Taken::Nothing;
+    let mut minutes = 0;
     'lines: for _ in rt.forever() {
         if stop.is_set() {
             return StreamEnd::Stopped;
@@ -322,10 +399,17 @@ pub(crate) fn read_stream<R: Wait, H: Wait + Drop, S: Source, Q: StopWord, B: Ri
         };
         let line = match found {
             Some(line) => line,
-            None => continue 'lines,
+            None => {
+                minutes += 1;
+                if minutes >= MAX_SILENCE {
+                    return broken(Fault::Silent, taken);
+                }
+                continue 'lines;
+            }
         };
+        minutes = 0;
         taken = taken_after(&line, taken);
-        match take_line(alloc, &mut follower, &line, hub, place) {
+        match take_line(alloc, &mut follower, &line, asked, hub, place) {
             Ok(()) => {}
             Err(end) => return end,
         }
