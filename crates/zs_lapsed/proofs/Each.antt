@@ -5,7 +5,7 @@ use Rattle.std.proofs.lemmas.List.{take-append-drop, take_more}
 use Rattle.ev_call.specs.Calls.{Call}
 use Rattle.zs_lapsed.specs.declared.calling.TurnFault.{TurnFault}
 use Rattle.zs_lapsed.specs.Calling.{LinkTold, Makes}
-use Rattle.zs_lapsed.specs.Reaping.{AfterReap, Reaps, ReapsEach, or_damaged}
+use Rattle.zs_lapsed.specs.Reaping.{AfterFirst, Reaps, ReapsEach, or_damaged}
 use Rattle.zs_lapsed.proofs.Making.{made_then, no_calls}
 
 abbrev told : Bool → Result Bool TurnFault
@@ -42,7 +42,7 @@ more-others m n ms d also damaged cs own mine later (Err f) on is one e same = a
 
 more-first : (m n : ℤ) (ms : List ℤ) (d also : Bool) (cs own mine later : List Call) (first : Result Bool TurnFault)
     → ((rest : Bool) → ReapsEach ms (Ok rest) later → ReapsEach (ms ++ n ∷ []) (Ok (rest || also)) (later ++ own))
-    → cs ≡ mine ++ later → Reaps m first mine → AfterReap first (Ok d) later (λ others. ReapsEach ms others later) → ReapsEach (m ∷ (ms ++ n ∷ [])) (Ok (d || also)) (cs ++ own)
+    → cs ≡ mine ++ later → Reaps m first mine → AfterFirst first (Ok d) later (λ others. ReapsEach ms others later) → ReapsEach (m ∷ (ms ++ n ∷ [])) (Ok (d || also)) (cs ++ own)
 more-first m n ms d also cs own mine later (Ok damaged) on is one after = more-others m n ms d also damaged cs own mine later after.0 on is one after.1 after.2
 more-first m n ms d also cs own mine later (Err f) on is one after = absurd (ok-err d f after.0)
 
@@ -65,7 +65,7 @@ cut-others m n ms onward d damaged f cs own mine later (Err g) on is one e same 
 
 cut-first : (m n : ℤ) (ms onward : List ℤ) (d : Bool) (f : TurnFault) (cs own mine later : List Call) (first : Result Bool TurnFault)
     → ((rest : Bool) → ReapsEach ms (Ok rest) later → ReapsEach (ms ++ n ∷ onward) (Err f) (later ++ own))
-    → cs ≡ mine ++ later → Reaps m first mine → AfterReap first (Ok d) later (λ others. ReapsEach ms others later) → ReapsEach (m ∷ (ms ++ n ∷ onward)) (Err f) (cs ++ own)
+    → cs ≡ mine ++ later → Reaps m first mine → AfterFirst first (Ok d) later (λ others. ReapsEach ms others later) → ReapsEach (m ∷ (ms ++ n ∷ onward)) (Err f) (cs ++ own)
 cut-first m n ms onward d f cs own mine later (Ok damaged) on is one after = cut-others m n ms onward d damaged f cs own mine later after.0 on is one after.1 after.2
 cut-first m n ms onward d f cs own mine later (Err g) on is one after = absurd (ok-err d g after.0)
 

@@ -9,17 +9,39 @@ use Rattle.ev_link.specs.Dialling.{undialled}
 use Rattle.ev_link.specs.Reaching.{undialled_times}
 use Rattle.zx_net.specs.Nets.{NetCounts}
 use Rattle.zs_lapsed.specs.declared.calling.TurnFault.{TurnFault}
+use Rattle.zs_lapsed.specs.declared.calling.TurnFault.TheVariants as turn
 use Rattle.zs_lapsed.specs.Calling.{LinkTold, Makes}
-use Rattle.zs_lapsed.specs.Turning.{DialsFor, DialsOver, IsLeftNone, Turns, TurnsOn, TurnsOver, begun_from, damage_told, fault_in, max_lists}
+use Rattle.zs_lapsed.specs.Turning.{DialsFor, DialsOver, IsLeftNone, Turns, TurnsOn, TurnsOver, begun_from, damage_told, fault_in}
 use Rattle.zs_lapsed.specs.Working.{OnlyDials}
 
 -- ---- the link
 
-pub kept_on : (damaged : Bool) (old new : LinkTold) (result : Result (Unit {0}) Fault) → Makes (Turns max_lists [] (Ok damaged)) old new → result ≡ damage_told damaged → TurnsOn old (Some new) result
-kept_on damaged old new result m is = (damaged, m, is)
+pub kept_on : (damaged : Bool) (old new : LinkTold) (result : Result (Unit {0}) Fault) → Makes (Turns (Ok damaged)) old new → result ≡ damage_told damaged → TurnsOn old (Some new) result
+kept_on damaged old new result m is = inl (damaged, m, is)
 
-pub none_on : (why : TurnFault) (fault : Fault) (old new : LinkTold) → Makes (Turns max_lists [] (Err why)) old new → TurnsOn old None (Err fault)
-none_on why fault old new m = (fault, why, new, refl, m)
+pub met_on : (old new : LinkTold) → Makes (Turns (Err turn.Met)) old new → TurnsOn old (Some new) (Ok tt)
+met_on old new m = inr (m, refl)
+
+none-on : (why : TurnFault) (fault : Fault) (old new : LinkTold) → (why ≡ turn.Met → ⊥) → Makes (Turns (Err why)) old new → TurnsOn old None (Err fault)
+none-on why fault old new other m = (fault, why, new, refl, other, m)
+
+failed-met : turn.Failed ≡ turn.Met → ⊥
+failed-met e = cc
+
+unlisted-met : turn.NoList ≡ turn.Met → ⊥
+unlisted-met e = cc
+
+starved-met : turn.Memory ≡ turn.Met → ⊥
+starved-met e = cc
+
+pub failed_on : (fault : Fault) (old new : LinkTold) → Makes (Turns (Err turn.Failed)) old new → TurnsOn old None (Err fault)
+failed_on fault old new m = none-on turn.Failed fault old new failed-met m
+
+pub unlisted_on : (fault : Fault) (old new : LinkTold) → Makes (Turns (Err turn.NoList)) old new → TurnsOn old None (Err fault)
+unlisted_on fault old new m = none-on turn.NoList fault old new unlisted-met m
+
+pub starved_on : (fault : Fault) (old new : LinkTold) → Makes (Turns (Err turn.Memory)) old new → TurnsOn old None (Err fault)
+starved_on fault old new m = none-on turn.Memory fault old new starved-met m
 
 pub over_link : (old new : Option LinkTold) (begun : LinkTold) (result : Result (Unit {0}) Fault) → begun ≡ begun_from old → TurnsOn begun new result → TurnsOver old new result
 over_link old new begun result is t = inl (subst (λ (x : LinkTold). TurnsOn x new result) is t)
@@ -50,6 +72,12 @@ for_told (Err (told.Compacted rev)) size counts counts' h other = h
 for_told (Err (told.Gap expected found)) size counts counts' h other = h
 for_told (Err told.Damaged) size counts counts' h other = h
 for_told (Err told.NoLine) size counts counts' h other = h
+for_told (Err told.Silent) size counts counts' h other = h
+for_told (Err (told.Behind rev)) size counts counts' h other = h
+for_told (Err told.NoRoom) size counts counts' h other = h
+for_told (Err (told.Listen why)) size counts counts' h other = h
+for_told (Err told.Thread) size counts counts' h other = h
+for_told (Err told.Scheme) size counts counts' h other = h
 for_told (Err told.Memory) size counts counts' h other = h
 
 -- the same, where a link may have been kept
@@ -68,6 +96,12 @@ for_unlinked A B (told.Compacted rev) size counts counts' h = h
 for_unlinked A B (told.Gap expected found) size counts counts' h = h
 for_unlinked A B told.Damaged size counts counts' h = h
 for_unlinked A B told.NoLine size counts counts' h = h
+for_unlinked A B told.Silent size counts counts' h = h
+for_unlinked A B (told.Behind rev) size counts counts' h = h
+for_unlinked A B told.NoRoom size counts counts' h = h
+for_unlinked A B (told.Listen why) size counts counts' h = h
+for_unlinked A B told.Thread size counts counts' h = h
+for_unlinked A B told.Scheme size counts counts' h = h
 for_unlinked A B told.Memory size counts counts' h = h
 
 -- there is no link
@@ -93,6 +127,12 @@ for-dials (Err (told.Compacted rev)) size counts counts' h = record { failed = h
 for-dials (Err (told.Gap expected found)) size counts counts' h = record { failed = h.0; counted = h.2 }
 for-dials (Err told.Damaged) size counts counts' h = record { failed = h.0; counted = h.2 }
 for-dials (Err told.NoLine) size counts counts' h = record { failed = h.0; counted = h.2 }
+for-dials (Err told.Silent) size counts counts' h = record { failed = h.0; counted = h.2 }
+for-dials (Err (told.Behind rev)) size counts counts' h = record { failed = h.0; counted = h.2 }
+for-dials (Err told.NoRoom) size counts counts' h = record { failed = h.0; counted = h.2 }
+for-dials (Err (told.Listen why)) size counts counts' h = record { failed = h.0; counted = h.2 }
+for-dials (Err told.Thread) size counts counts' h = record { failed = h.0; counted = h.2 }
+for-dials (Err told.Scheme) size counts counts' h = record { failed = h.0; counted = h.2 }
 for-dials (Err told.Memory) size counts counts' h = record { failed = h.0; counted = h.2 }
 
 over-dials : {L : Type 0} (kept : Option L) (result : Result (Unit {0}) Fault) (size : ℕ) (counts counts' : NetCounts) → DialsOver kept result size counts counts' → OnlyDials counts counts'

@@ -42,6 +42,15 @@ none-failed is = cc
 none-memory : unlisted ≡ starved → ⊥
 none-memory is = cc
 
+abbrev met : Result Answer TurnFault
+met = Err turn.Met
+
+met-failed : met ≡ failed → ⊥
+met-failed is = cc
+
+met-memory : met ≡ starved → ⊥
+met-memory is = cc
+
 call-differs : call-starved ≡ call-failed → ⊥
 call-differs is = cc
 
@@ -71,28 +80,35 @@ came_none (Ok a) is = ok-failed a turn.NoList (sym is)
 came_none (Err call.Failed) is = none-failed is
 came_none (Err call.Memory) is = none-memory is
 
+pub came_met : (came : Result Answer CallFault) → Err turn.Met ≡ told_as came → ⊥
+came_met (Ok a) is = ok-failed a turn.Met (sym is)
+came_met (Err call.Failed) is = met-failed is
+came_met (Err call.Memory) is = met-memory is
+
 pub one_is : (q p : Ask) (came was : Result Answer CallFault) (cs : List Call) → q ≡ p → came ≡ was → cs ≡ record { ask = q; result = came } ∷ [] → cs ≡ record { ask = p; result = was } ∷ []
 one_is q p came was cs asked is one = one ∙ ap (λ (a : Ask). record { ask = a; result = came } ∷ []) asked ∙ ap (λ (r : Result Answer CallFault). record { ask = p; result = r } ∷ []) is
 
 -- ---- one list
 
-answered : (from : List ℕ) (a : Answer) (result : Result Listed TurnFault) (cs : List Call) → cs ≡ record { ask = list_ask from; result = Ok a } ∷ [] → Shows a result → Lists from result cs
-answered from a (Ok listed) cs one shows = (a, one, shows)
-answered from a (Err turn.NoList) cs one shows = (a, one, shows)
-answered from a (Err turn.Failed) cs one shows = absurd shows
-answered from a (Err turn.Memory) cs one shows = inr (Ok a, one, call-ok a)
+answered : (from end : List ℕ) (a : Answer) (result : Result Listed TurnFault) (cs : List Call) → cs ≡ record { ask = list_ask from end; result = Ok a } ∷ [] → Shows a result → Lists from end result cs
+answered from end a (Ok listed) cs one shows = (a, one, shows)
+answered from end a (Err turn.NoList) cs one shows = (a, one, shows)
+answered from end a (Err turn.Failed) cs one shows = absurd shows
+answered from end a (Err turn.Memory) cs one shows = inr (Ok a, one, call-ok a)
+answered from end a (Err turn.Met) cs one shows = absurd shows
 
-unanswered : (from : List ℕ) (q : Ask) (e : TurnFault) (cs : List Call) → q ≡ list_ask from → Calls q (Err e) cs → Lists from (Err e) cs
-unanswered from q turn.Failed cs asked c = one_is q (list_ask from) c.0 (Err call.Failed) cs asked (came_failed c.0 c.2) c.1
-unanswered from q turn.Memory cs asked c = inr (Err call.Memory, one_is q (list_ask from) c.0 (Err call.Memory) cs asked (came_memory c.0 c.2) c.1, call-differs)
-unanswered from q turn.NoList cs asked c = absurd (came_none c.0 c.2)
+unanswered : (from end : List ℕ) (q : Ask) (e : TurnFault) (cs : List Call) → q ≡ list_ask from end → Calls q (Err e) cs → Lists from end (Err e) cs
+unanswered from end q turn.Failed cs asked c = one_is q (list_ask from end) c.0 (Err call.Failed) cs asked (came_failed c.0 c.2) c.1
+unanswered from end q turn.Memory cs asked c = inr (Err call.Memory, one_is q (list_ask from end) c.0 (Err call.Memory) cs asked (came_memory c.0 c.2) c.1, call-differs)
+unanswered from end q turn.NoList cs asked c = absurd (came_none c.0 c.2)
+unanswered from end q turn.Met cs asked c = absurd (came_met c.0 c.2)
 
-pub list_none : (from : List ℕ) (t : LinkTold) → Makes (Lists from (Err turn.Memory)) t t
-list_none from t = no_calls (Lists from (Err turn.Memory)) t (inl refl)
+pub list_none : (from end : List ℕ) (t : LinkTold) → Makes (Lists from end (Err turn.Memory)) t t
+list_none from end t = no_calls (Lists from end (Err turn.Memory)) t (inl refl)
 
-pub list_shown : (from : List ℕ) (q : Ask) (a : Answer) (result : Result Listed TurnFault) (old new : LinkTold) → q ≡ list_ask from → Makes (Calls q (Ok a)) old new → Shows a result → Makes (Lists from result) old new
-list_shown from q a result old new asked m shows =
-    made_as (Calls q (Ok a)) (Lists from result) old new (λ cs c. answered from a result cs (one_is q (list_ask from) c.0 (Ok a) cs asked (came_ok a c.0 c.2) c.1) shows) m
+pub list_shown : (from end : List ℕ) (q : Ask) (a : Answer) (result : Result Listed TurnFault) (old new : LinkTold) → q ≡ list_ask from end → Makes (Calls q (Ok a)) old new → Shows a result → Makes (Lists from end result) old new
+list_shown from end q a result old new asked m shows =
+    made_as (Calls q (Ok a)) (Lists from end result) old new (λ cs c. answered from end a result cs (one_is q (list_ask from end) c.0 (Ok a) cs asked (came_ok a c.0 c.2) c.1) shows) m
 
-pub list_failed : (from : List ℕ) (q : Ask) (e : TurnFault) (old new : LinkTold) → q ≡ list_ask from → Makes (Calls q (Err e)) old new → Makes (Lists from (Err e)) old new
-list_failed from q e old new asked m = made_as (Calls q (Err e)) (Lists from (Err e)) old new (λ cs. unanswered from q e cs asked) m
+pub list_failed : (from end : List ℕ) (q : Ask) (e : TurnFault) (old new : LinkTold) → q ≡ list_ask from end → Makes (Calls q (Err e)) old new → Makes (Lists from end (Err e)) old new
+list_failed from end q e old new asked m = made_as (Calls q (Err e)) (Lists from end (Err e)) old new (λ cs. unanswered from end q e cs asked) m

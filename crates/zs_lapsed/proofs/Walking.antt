@@ -8,15 +8,14 @@ use Rattle.ev_call.specs.declared.etcd.CallFault.{CallFault}
 use Rattle.ev_call.specs.declared.etcd.CallFault.TheVariants as call
 use Rattle.zs_session.specs.declared.fault.StepFault.TheVariants.{Damaged}
 use Rattle.zs_reap.specs.Steps.{IsReapFault, MayStepReaper, ReaperSteps}
-use Rattle.zs_reap.specs.declared.reap.Phase.TheVariants.{Over}
 use Rattle.zs_reap.specs.declared.reap.Reap.{Reap}
 use Rattle.zs_reap.specs.declared.reap.ReapStep.{ReapStep}
 use Rattle.zs_reap.specs.declared.reap.ReapStep.TheVariants as steps
 use Rattle.zs_lapsed.specs.declared.calling.TurnFault.{TurnFault}
 use Rattle.zs_lapsed.specs.declared.calling.TurnFault.TheVariants as turn
 use Rattle.zs_lapsed.specs.Calling.{Calls, LinkTold, Makes}
-use Rattle.zs_lapsed.specs.Reaping.{IsReapedTo, Reaps, Walks, begun, max_asks}
-use Rattle.zs_lapsed.proofs.Listed.{came_failed, came_memory, came_none, came_ok}
+use Rattle.zs_lapsed.specs.Reaping.{IsReapedTo, Reaps, Walks, WasThere, begun, max_asks}
+use Rattle.zs_lapsed.proofs.Listed.{came_failed, came_memory, came_met, came_none, came_ok}
 use Rattle.zs_lapsed.proofs.Making.{made_as, made_then, no_calls}
 
 -- after so many calls, all answered, a reap of this session stands so
@@ -68,12 +67,22 @@ cut : (session : ℤ) (r : Reap) (a : Option Answer) (n : ℕ) (q : Ask) (next :
 cut session r a n q next turn.Failed may st xs ys s c = reaps-of session r a n (Err turn.Failed) xs (xs ++ ys) s may (q, next, st, ap (λ (l : List Call). xs ++ l) (one-of q c.0 (Err call.Failed) ys (came_failed c.0 c.2) c.1))
 cut session r a n q next turn.Memory may st xs ys s c = reaps-of session r a n (Err turn.Memory) xs (xs ++ ys) s may (inr (q, next, st, ap (λ (l : List Call). xs ++ l) (one-of q c.0 (Err call.Memory) ys (came_memory c.0 c.2) c.1)))
 cut session r a n q next turn.NoList may st xs ys s c = absurd (came_none c.0 c.2)
+cut session r a n q next turn.Met may st xs ys s c = absurd (came_met c.0 c.2)
 
 pub reap_cut : (session : ℤ) (r : Reap) (a : Option Answer) (n : ℕ) (q : Ask) (next : Reap) (e : TurnFault) (old mid new : LinkTold) → Makes (Stands session r a n) old mid → MayStepReaper r a → ReaperSteps r a (steps.Ask q) next → Makes (Calls q (Err e)) mid new → Makes (Reaps session (Err e)) old new
 reap_cut session r a n q next e old mid new m may st c = made_then (Stands session r a n) (Calls q (Err e)) (Reaps session (Err e)) old mid new (cut session r a n q next e may st) m c
 
-pub reap_ended : (session : ℤ) (r : Reap) (a : Option Answer) (n : ℕ) (step : ReapStep) (over : Reap) (old new : LinkTold) → Makes (Stands session r a n) old new → MayStepReaper r a → ReaperSteps r a step over → over.phase ≡ Over → Makes (Reaps session (Ok false)) old new
-reap_ended session r a n step over old new m may st is = made_as (Stands session r a n) (Reaps session (Ok false)) old new (λ cs s. reaps-of session r a n (Ok false) cs cs s may (refl, inl (step, over, st, is))) m
+ended-with : (session : ℤ) (r : Reap) (a : Option Answer) (n : ℕ) (step : ReapStep) (over : Reap) (old new : LinkTold) → Makes (Stands session r a n) old new → MayStepReaper r a → ReaperSteps r a step over → WasThere step → Makes (Reaps session (Ok false)) old new
+ended-with session r a n step over old new m may st there = made_as (Stands session r a n) (Reaps session (Ok false)) old new (λ cs s. reaps-of session r a n (Ok false) cs cs s may (refl, inl (step, over, st, there))) m
+
+pub reap_ended : (session : ℤ) (r : Reap) (a : Option Answer) (n : ℕ) (zxid : ℤ) (over : Reap) (old new : LinkTold) → Makes (Stands session r a n) old new → MayStepReaper r a → ReaperSteps r a (steps.Reaped zxid) over → Makes (Reaps session (Ok false)) old new
+reap_ended session r a n zxid over old new m may st = ended-with session r a n (steps.Reaped zxid) over old new m may st tt
+
+pub reap_kept : (session : ℤ) (r : Reap) (a : Option Answer) (n : ℕ) (rev : ℤ) (over : Reap) (old new : LinkTold) → Makes (Stands session r a n) old new → MayStepReaper r a → ReaperSteps r a (steps.Kept rev) over → Makes (Reaps session (Ok false)) old new
+reap_kept session r a n rev over old new m may st = ended-with session r a n (steps.Kept rev) over old new m may st tt
+
+pub reap_gone : (session : ℤ) (r : Reap) (a : Option Answer) (n : ℕ) (rev : ℤ) (over : Reap) (old new : LinkTold) → Makes (Stands session r a n) old new → MayStepReaper r a → ReaperSteps r a (steps.Gone rev) over → Makes (Reaps session (Err turn.Met)) old new
+reap_gone session r a n rev over old new m may st = made_as (Stands session r a n) (Reaps session (Err turn.Met)) old new (λ cs s. reaps-of session r a n (Err turn.Met) cs cs s may (refl, (rev, over, st))) m
 
 pub reap_damaged : (session : ℤ) (r : Reap) (a : Option Answer) (n : ℕ) (key value : List ℕ) (old new : LinkTold) → Makes (Stands session r a n) old new → MayStepReaper r a → IsReapFault r a (Damaged key value) → Makes (Reaps session (Ok true)) old new
 reap_damaged session r a n key value old new m may fault = made_as (Stands session r a n) (Reaps session (Ok true)) old new (λ cs s. reaps-of session r a n (Ok true) cs cs s may (refl, (key, value, fault))) m

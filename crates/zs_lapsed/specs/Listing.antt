@@ -26,15 +26,19 @@ use Rattle.zs_lapsed.specs.declared.listing.Listed.{Listed}
 abbrev pub max_listed : ℕ
 max_listed = 1000
 
--- the keys of one kind, without their values, from this number on
+-- the keys of one kind, without their values, from this number on, before that one
 abbrev pub names_from : List ℕ → List ℕ → List ℕ → Act
-names_from kind from end = act.Range (record { key = kind ++ from; end = end; revision = pos 0; limit = pos max_listed; keys_only = true })
+names_from kind from end = act.Range (record { key = kind ++ from; end = kind ++ end; revision = pos 0; limit = pos max_listed; keys_only = true })
 
--- one transaction without guards: the keys of open sessions and those of the sessions that live, from this number on
-abbrev pub list_ask : List ℕ → Ask
-list_ask from = ask.Txn (record {
+-- it stands behind all numbers, since each is 16 hex digits
+abbrev pub behind : List ℕ
+behind = codes "g"
+
+-- one transaction without guards: the keys of open sessions and those of the sessions that live, from this number on, before that one
+abbrev pub list_ask : List ℕ → List ℕ → Ask
+list_ask from end = ask.Txn (record {
   guards = [];
-  success = names_from (codes "zk/s/") from (codes "zk/s0") ∷ names_from (codes "zk/l/") from (codes "zk/l0") ∷ [];
+  success = names_from (codes "zk/s/") from end ∷ names_from (codes "zk/l/") from end ∷ [];
   failure = [];
 })
 
@@ -82,15 +86,17 @@ Shows a (Ok listed) = (opened alive : List Kv) × (found_at (parts_of a) 0 ≡ S
 Shows a (Err turn.NoList) = (found_at (parts_of a) 0 ≡ None) ⊎ (found_at (parts_of a) 1 ≡ None)
 Shows a (Err turn.Memory) = Unit {0}
 Shows a (Err turn.Failed) = ⊥
+Shows a (Err turn.Met) = ⊥
 
 -- ---- one list
 
 -- it is one call, or none where memory was refused; and its answer shows the sessions
-abbrev pub Lists : List ℕ → Result Listed TurnFault → List Call → Type 0
-Lists from (Ok listed) calls = (a : Answer) × (calls ≡ record { ask = list_ask from; result = Ok a } ∷ []) × Shows a (Ok listed)
-Lists from (Err turn.NoList) calls = (a : Answer) × (calls ≡ record { ask = list_ask from; result = Ok a } ∷ []) × Shows a (Err turn.NoList)
-Lists from (Err turn.Failed) calls = calls ≡ record { ask = list_ask from; result = Err call.Failed } ∷ []
-Lists from (Err turn.Memory) calls = (calls ≡ []) ⊎ ((came : Result Answer CallFault) × (calls ≡ record { ask = list_ask from; result = came } ∷ []) × (came ≡ Err call.Failed → ⊥))
+abbrev pub Lists : List ℕ → List ℕ → Result Listed TurnFault → List Call → Type 0
+Lists from end (Ok listed) calls = (a : Answer) × (calls ≡ record { ask = list_ask from end; result = Ok a } ∷ []) × Shows a (Ok listed)
+Lists from end (Err turn.NoList) calls = (a : Answer) × (calls ≡ record { ask = list_ask from end; result = Ok a } ∷ []) × Shows a (Err turn.NoList)
+Lists from end (Err turn.Failed) calls = calls ≡ record { ask = list_ask from end; result = Err call.Failed } ∷ []
+Lists from end (Err turn.Memory) calls = (calls ≡ []) ⊎ ((came : Result Answer CallFault) × (calls ≡ record { ask = list_ask from end; result = came } ∷ []) × (came ≡ Err call.Failed → ⊥))
+Lists from end (Err turn.Met) calls = ⊥
 
 -- ---- what this means
 

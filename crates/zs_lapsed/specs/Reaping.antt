@@ -6,7 +6,7 @@ use Rattle.ev_call.specs.Calls.{Call}
 use Rattle.ev_call.specs.declared.etcd.CallFault.{CallFault}
 use Rattle.ev_call.specs.declared.etcd.CallFault.TheVariants as call
 use Rattle.zs_session.specs.declared.fault.StepFault.TheVariants.{Damaged}
-use Rattle.zs_reap.specs.declared.reap.Phase.TheVariants.{Unasked, Over}
+use Rattle.zs_reap.specs.declared.reap.Phase.TheVariants.{Unasked}
 use Rattle.zs_reap.specs.declared.reap.Reap.{Reap}
 use Rattle.zs_reap.specs.declared.reap.ReapStep.{ReapStep}
 use Rattle.zs_reap.specs.declared.reap.ReapStep.TheVariants as steps
@@ -32,9 +32,19 @@ Walks r a (c ∷ cs) r' a' = (next : Reap) × (got : Answer) × MayStepReaper r 
 
 -- ---- how they end
 
--- a step asks nothing: the session is gone, or lives
+-- a step asks nothing: this ended the session, or it lives
+abbrev pub WasThere : ReapStep → Type 0
+WasThere (steps.Ask q) = ⊥
+WasThere (steps.Reaped zxid) = Unit {0}
+WasThere (steps.Kept rev) = Unit {0}
+WasThere (steps.Gone rev) = ⊥
+
 abbrev pub IsEnded : Reap → Option Answer → Type 0
-IsEnded r a = (step : ReapStep) × (over : Reap) × ReaperSteps r a step over × (over.phase ≡ Over)
+IsEnded r a = (step : ReapStep) × (over : Reap) × ReaperSteps r a step over × WasThere step
+
+-- a step asks nothing, since another ended the session
+abbrev pub IsGone : Reap → Option Answer → Type 0
+IsGone r a = (rev : ℤ) × (over : Reap) × ReaperSteps r a (steps.Gone rev) over
 
 -- the last step's ask was called, and this came of it
 abbrev pub IsCalled : Reap → Option Answer → List Call → Result Answer CallFault → List Call → Type 0
@@ -46,6 +56,7 @@ IsReapedTo r a answered (Ok false) calls = (calls ≡ answered) × (IsEnded r a 
 IsReapedTo r a answered (Ok true) calls = (calls ≡ answered) × ((key value : List ℕ) × IsReapFault r a (Damaged key value))
 IsReapedTo r a answered (Err turn.Failed) calls = IsCalled r a answered (Err call.Failed) calls
 IsReapedTo r a answered (Err turn.Memory) calls = (calls ≡ answered) ⊎ IsCalled r a answered (Err call.Memory) calls
+IsReapedTo r a answered (Err turn.Met) calls = (calls ≡ answered) × IsGone r a
 IsReapedTo r a answered (Err turn.NoList) calls = ⊥
 
 -- one reap, from its begin
@@ -64,13 +75,13 @@ abbrev pub or_damaged : Bool → Result Bool TurnFault → Result Bool TurnFault
 or_damaged damaged (Ok also) = Ok (damaged || also)
 or_damaged damaged (Err fault) = Err fault
 
--- the first session's reap, and then those of the others; a fault stops them
-abbrev pub AfterReap : Result Bool TurnFault → Result Bool TurnFault → List Call → (Result Bool TurnFault → Type 0) → Type 0
-AfterReap (Ok damaged) result later Others = (others : Result Bool TurnFault) × Others others × (result ≡ or_damaged damaged others)
-AfterReap (Err fault) result later Others = (result ≡ Err fault) × (later ≡ [])
+-- the first, and then the others; a fault stops them
+abbrev pub AfterFirst : Result Bool TurnFault → Result Bool TurnFault → List Call → (Result Bool TurnFault → Type 0) → Type 0
+AfterFirst (Ok damaged) result later Others = (others : Result Bool TurnFault) × Others others × (result ≡ or_damaged damaged others)
+AfterFirst (Err fault) result later Others = (result ≡ Err fault) × (later ≡ [])
 
--- a reap of each of these sessions, in their order
+-- a reap of each of these sessions, in their order, up to the first that another has ended
 abbrev pub ReapsEach : List ℤ → Result Bool TurnFault → List Call → Type 0
 ReapsEach [] result calls = (result ≡ Ok false) × (calls ≡ [])
 ReapsEach (n ∷ ns) result calls =
-    (first : Result Bool TurnFault) × (own : List Call) × (later : List Call) × (calls ≡ own ++ later) × Reaps n first own × AfterReap first result later (λ others. ReapsEach ns others later)
+    (first : Result Bool TurnFault) × (own : List Call) × (later : List Call) × (calls ≡ own ++ later) × Reaps n first own × AfterFirst first result later (λ others. ReapsEach ns others later)

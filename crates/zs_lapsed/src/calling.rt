@@ -19,6 +19,8 @@ pub enum TurnFault {
     NoList,
     /// Memory was refused.
     Memory,
+    /// Another had ended a session since it was listed: somebody else is at work here.
+    Met,
 }
 
 impl From<Memory> for TurnFault {

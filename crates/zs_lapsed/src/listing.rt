@@ -17,17 +17,14 @@ const MAX_LISTED: i64 = 1000;
 /// The keys of open sessions begin so.
 const OPEN: &[u8] = b"zk/s/";
 
-/// The end of the keys of open sessions.
-const OPEN_END: &[u8] = b"zk/s0";
-
 /// The keys of sessions that live begin so.
 const ALIVE: &[u8] = b"zk/l/";
 
-/// The end of the keys of sessions that live.
-const ALIVE_END: &[u8] = b"zk/l0";
+/// What stands behind the numbers of all sessions, each 16 hex digits.
+pub(crate) const BEHIND: &[u8] = b"g";
 
 /// How many bytes of a session's key say which kind it is.
-const KIND: usize = 5;
+pub(crate) const KIND: usize = 5;
 
 /// What a list of some sessions shows.
 #[derive(Drop)]
@@ -38,29 +35,31 @@ pub struct Listed {
     pub next: Option<Bytes>,
 }
 
-/// The names of the keys of one kind, from this number on.
+/// The names of the keys of one kind, from this number on, before that one.
 fn names(alloc: Global, kind: &[u8], from: &[u8], end: &[u8]) -> Result<Act, Memory>
     ensures { IfOk result (λ a. a ≡ names_from kind.now from.now end.now) }
 {
     let mut key = Vec::from_slice(alloc, kind)?;
     key.extend_from_slice(from)?;
+    let mut past = Vec::from_slice(alloc, kind)?;
+    past.extend_from_slice(end)?;
     Ok(Act::Range(RangeReq {
         key: Bytes::from_vec(key),
-        end: Bytes::copy_of(alloc, end)?,
+        end: Bytes::from_vec(past),
         revision: 0,
         limit: MAX_LISTED,
         keys_only: true,
     }))
 }
 
-/// Asks for the keys of the next open sessions and of those that live, from this number on. A session that lives is open, so each of
+/// Asks for the keys of the next open sessions and of those that live, from this number on, before that one. A session that lives is open, so each of
 /// the open ones listed that lives is among those that are listed as living.
-fn list_ask(alloc: Global, from: &[u8]) -> Result<Ask, Memory>
-    ensures { IfOk result (λ q. q ≡ ask_from from.now) }
+fn list_ask(alloc: Global, from: &[u8], end: &[u8]) -> Result<Ask, Memory>
+    ensures { IfOk result (λ q. q ≡ ask_from from.now end.now) }
 {
     let mut success = Seq::new(alloc);
-    success.push(names(alloc, OPEN, from, OPEN_END)?)?;
-    success.push(names(alloc, ALIVE, from, ALIVE_END)?)?;
+    success.push(names(alloc, OPEN, from, end)?)?;
+    success.push(names(alloc, ALIVE, from, end)?)?;
     Ok(Ask::Txn(TxnReq {
         guards: Seq::new(alloc),
         success,
@@ -172,12 +171,17 @@ fn shown(alloc: Global, answer: &Answer) -> Result<Listed, TurnFault>
     })
 }
 
-/// Lists the next sessions from this number on.
+/// Lists the next sessions from this number on, before that one.
 #[tactic(auto, using(crate::proofs::Listed::list_none, crate::proofs::Listed::list_shown, crate::proofs::Listed::list_failed))]
-pub(crate) fn list<L: Etcd>(alloc: Global, link: &mut L, from: &[u8]) -> Result<Listed, TurnFault>
-    ensures { Makes (Lists from.now result) (link_told L.told L.failures link.old) (link_told L.told L.failures link.new) }
+pub(crate) fn list<L: Etcd>(
+    alloc: Global,
+    link: &mut L,
+    from: &[u8],
+    end: &[u8],
+) -> Result<Listed, TurnFault>
+    ensures { Makes (Lists from.now end.now result) (link_told L.told L.failures link.old) (link_told L.told L.failures link.new) }
 {
-    let Ok(ask) = list_ask(alloc, from) else {
+    let Ok(ask) = list_ask(alloc, from, end) else {
         return Err(TurnFault::Memory);
     };
     match call(link, &ask) {

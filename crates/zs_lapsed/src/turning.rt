@@ -1,26 +1,29 @@
-//! One turn: lists all sessions, and ends those that have lapsed.
+//! One turn: lists all sessions, from some place on and round, and ends those that have lapsed.
 
-ghost use Rattle.std.specs.Prelude.{◌≡◌, [], length, None, Err, IfOk, OnErr};
+ghost use Rattle.std.specs.Prelude.{◌≡◌, pos, ◌≤ℤ◌, [], length, None, Err, IfOk, OnErr};
 ghost use Rattle.ev_addresses.specs.Lists.{addresses_in};
 ghost use Rattle.ev_call.specs.Addresses.{IsAddress};
 ghost use Rattle.ev_call.specs.Calls.{calls_of};
 ghost use Rattle.zs_lapsed.specs.Calling.{Makes, link_told, of_kept, tells};
-ghost use Rattle.zs_lapsed.specs.Turning.{DialsFor, DialsOver, IsLeftNone, IsPage, Turns, TurnsOn, TurnsOver, begun_from, damage_told, max_lists};
+ghost use Rattle.zs_lapsed.specs.Turning.{DialsFor, DialsOver, IsLeftNone, IsPage, IsPlace, Pages, Turns, TurnsOn, TurnsOver, begun_from, damage_told, max_lists, place_of};
 
 use crate::calling::TurnFault;
 use crate::failure::fault_of;
-use crate::listing::list;
+use crate::listing::{BEHIND, KIND, list};
+use crate::pace::Pace;
 use crate::reaping::{either, reap_each};
 use ev_call::Etcd;
 use ev_json::{Field, JsonFault};
 use ev_link::{HttpLink, NoLink, link_to};
 use ev_words::Fault;
 use std::alloc::Global;
-use zx_base::Bytes;
+use zn_layout::session_key;
+use zp_turns::Reaps;
+use zx_base::{Bytes, Memory};
 use zx_net::Net;
 use zx_outside::{Sink, Source};
 
-/// The most lists of one turn.
+/// The most lists of half a turn.
 const MAX_LISTS: u32 = 1000;
 
 /// What came of one list, and of the reaps after it.
@@ -32,16 +35,23 @@ pub struct Page {
     pub next: Option<Bytes>,
 }
 
-/// Lists the next sessions from this number on, and ends those that have lapsed.
+/// Lists the next sessions from this number on, before that one, and ends those that have lapsed.
 #[tactic(auto, using(crate::proofs::Paging::page_unlisted, crate::proofs::Paging::page_cut, crate::proofs::Paging::page_whole))]
-fn list_and_reap<L: Etcd>(alloc: Global, link: &mut L, from: &[u8]) -> Result<Page, TurnFault>
-    ensures { Makes (IsPage from.now result) (link_told L.told L.failures link.old) (link_told L.told L.failures link.new) }
+fn list_and_reap<L: Etcd, U: Reaps>(
+    alloc: Global,
+    link: &mut L,
+    turns: &mut U,
+    pace: &mut Pace,
+    from: &[u8],
+    end: &[u8],
+) -> Result<Page, TurnFault>
+    ensures { Makes (IsPage from.now end.now result) (link_told L.told L.failures link.old) (link_told L.told L.failures link.new) }
 {
-    let listed = match list(alloc, link, from) {
+    let listed = match list(alloc, link, from, end) {
         Ok(listed) => listed,
         Err(fault) => return Err(fault),
     };
-    match reap_each(alloc, link, listed.lapsed.as_slice()) {
+    match reap_each(alloc, link, turns, pace, listed.lapsed.as_slice()) {
         Ok(is_damaged) => Ok(Page {
             is_damaged,
             next: listed.next,
@@ -50,25 +60,85 @@ fn list_and_reap<L: Etcd>(alloc: Global, link: &mut L, from: &[u8]) -> Result<Pa
     }
 }
 
-/// One turn, over at most a million sessions. Answers whether a key has a value that is no record.
-#[tactic(auto, using(crate::proofs::Paging::turns_first, crate::proofs::Paging::turns_more, crate::proofs::Paging::turns_last, crate::proofs::Paging::turns_cut, crate::proofs::Paging::turns_left))]
-fn turn<L: Etcd>(alloc: Global, link: &mut L) -> Result<bool, TurnFault>
-    ensures { Makes (Turns max_lists [] result) (link_told L.told L.failures link.old) (link_told L.told L.failures link.new) }
+/// Half a turn, over at most a million sessions: those from this number on, before that one. Answers whether a key has a value that is
+/// no record.
+#[tactic(auto, using(crate::proofs::Paging::pages_starved, crate::proofs::Paging::pages_first, crate::proofs::Paging::pages_more, crate::proofs::Paging::pages_last, crate::proofs::Paging::pages_cut, crate::proofs::Paging::pages_left))]
+fn pages<L: Etcd, U: Reaps>(
+    alloc: Global,
+    link: &mut L,
+    turns: &mut U,
+    pace: &mut Pace,
+    from: &[u8],
+    end: &[u8],
+) -> Result<bool, TurnFault>
+    ensures { Makes (Pages max_lists from.now end.now result) (link_told L.told L.failures link.old) (link_told L.told L.failures link.new) }
 {
-    let mut from = Bytes::new(alloc);
+    let Ok(mut next) = Bytes::copy_of(alloc, from) else {
+        return Err(TurnFault::Memory);
+    };
     let mut is_damaged = false;
     'pages: for made in 0..MAX_LISTS {
-        let page = match list_and_reap(alloc, link, from.as_slice()) {
+        let page = match list_and_reap(alloc, link, turns, pace, next.as_slice(), end) {
             Ok(page) => page,
             Err(fault) => return Err(fault),
         };
         is_damaged = either(is_damaged, page.is_damaged);
         match page.next {
-            Some(next) => from = next,
+            Some(after) => next = after,
             None => return Ok(is_damaged),
         }
     }
     Ok(is_damaged)
+}
+
+/// The key of the session of this number, after its kind.
+fn place(alloc: Global, number: i64) -> Result<Bytes, Memory>
+    requires { pos 1 ≤ℤ number }
+    ensures { IfOk result (λ b. b ≡ place_of number) }
+{
+    let key = session_key(alloc, number)?;
+    let key = key.as_slice();
+    Bytes::copy_of(alloc, &key[KIND.min(key.len())..])
+}
+
+/// One turn, from this place on to the last session, and then from the first on to that place. Answers whether a key has a value that
+/// is no record.
+#[tactic(auto, using(crate::proofs::Paging::turns_stopped, crate::proofs::Paging::turns_whole, crate::proofs::Paging::turns_cut))]
+fn round<L: Etcd, U: Reaps>(
+    alloc: Global,
+    link: &mut L,
+    turns: &mut U,
+    pace: &mut Pace,
+    place: &[u8],
+) -> Result<bool, TurnFault>
+    requires { IsPlace place.now }
+    ensures { Makes (Turns result) (link_told L.told L.failures link.old) (link_told L.told L.failures link.new) }
+{
+    let is_damaged = match pages(alloc, link, turns, pace, place, BEHIND) {
+        Ok(is_damaged) => is_damaged,
+        Err(fault) => return Err(fault),
+    };
+    match pages(alloc, link, turns, pace, &[], place) {
+        Ok(damaged) => Ok(either(is_damaged, damaged)),
+        Err(fault) => Err(fault),
+    }
+}
+
+/// One turn, from the place of some session's number on.
+#[tactic(auto, using(crate::proofs::Paging::turns_unplaced, crate::proofs::Paging::drawn))]
+fn turn<L: Etcd, U: Reaps>(
+    alloc: Global,
+    link: &mut L,
+    turns: &mut U,
+    pace: &mut Pace,
+) -> Result<bool, TurnFault>
+    ensures { Makes (Turns result) (link_told L.told L.failures link.old) (link_told L.told L.failures link.new) }
+{
+    let number = pace.number();
+    let Ok(place) = place(alloc, number) else {
+        return Err(TurnFault::Memory);
+    };
+    round(alloc, link, turns, pace, place.as_slice())
 }
 
 /// A new link, to the first endpoint that can be dialled.
@@ -106,20 +176,6 @@ fn link_of<N: Net>(
     }
 }
 
-/// What a turn's fault is told as.
-#[tactic(auto, using(crate::proofs::Keeping::linked_fault))]
-fn fault_after<S: Source + Drop, K: Sink + Drop>(link: &HttpLink<S, K>, why: TurnFault) -> Fault
-    ensures { result ≡ Fault.Dial → ⊥ }
-{
-    match why {
-        TurnFault::Failed => fault_of(link),
-        TurnFault::NoList => Fault::Json(JsonFault::Unreadable {
-            field: Field::Responses,
-        }),
-        TurnFault::Memory => Fault::Memory,
-    }
-}
-
 /// What is told of a whole turn.
 fn damage(is_damaged: bool) -> Result<(), Fault>
     ensures { result ≡ damage_told is_damaged }
@@ -131,34 +187,47 @@ fn damage(is_damaged: bool) -> Result<(), Fault>
     }
 }
 
-/// One turn over a link, which is kept where it did not fail.
-#[tactic(auto, using(crate::proofs::Keeping::kept_on, crate::proofs::Keeping::none_on, crate::proofs::Keeping::damage_linked))]
-fn turn_on<S: Source + Drop, K: Sink + Drop>(
+/// One turn over a link, which is kept where it did not fail. A turn that met another at work succeeds.
+#[tactic(auto, using(crate::proofs::Keeping::kept_on, crate::proofs::Keeping::met_on, crate::proofs::Keeping::failed_on, crate::proofs::Keeping::unlisted_on, crate::proofs::Keeping::starved_on, crate::proofs::Keeping::linked_fault, crate::proofs::Keeping::damage_linked))]
+fn turn_on<S: Source + Drop, K: Sink + Drop, U: Reaps>(
     alloc: Global,
     link: HttpLink<S, K>,
     kept: &mut Option<HttpLink<S, K>>,
+    turns: &mut U,
+    pace: &mut Pace,
 ) -> Result<(), Fault>
     requires { kept.old ≡ None }
     ensures turns { TurnsOn (tells (calls_of link.asks.items link.results.items) link.failures) (of_kept kept.new (λ l. tells (calls_of l.asks.items l.results.items) l.failures)) result }
     ensures linked { result ≡ Err Fault.Dial → ⊥ }
 {
     let mut link = link;
-    match turn(alloc, &mut link) {
+    match turn(alloc, &mut link, turns, pace) {
         Ok(is_damaged) => {
             *kept = Some(link);
             damage(is_damaged)
         }
-        Err(why) => Err(fault_after(&link, why)),
+        Err(TurnFault::Met) => {
+            pace.work();
+            *kept = Some(link);
+            Ok(())
+        }
+        Err(TurnFault::Failed) => Err(fault_of(&link)),
+        Err(TurnFault::NoList) => Err(Fault::Json(JsonFault::Unreadable {
+            field: Field::Responses,
+        })),
+        Err(TurnFault::Memory) => Err(Fault::Memory),
     }
 }
 
 /// One turn over the link, where there is one, and otherwise over one that is dialled. The link is kept where it did not fail.
 #[tactic(auto, using(crate::proofs::Keeping::over_link, crate::proofs::Keeping::over_none, crate::proofs::Keeping::dials_told, crate::proofs::Keeping::dials_unlinked))]
-pub(crate) fn turn_over<N: Net>(
+pub(crate) fn turn_over<N: Net, U: Reaps>(
     alloc: Global,
     net: &mut N,
     endpoint: &str,
     link: &mut Option<HttpLink<N::In, N::Out>>,
+    turns: &mut U,
+    pace: &mut Pace,
 ) -> Result<(), Fault>
     requires { IsAddress endpoint.now }
     ensures turns { TurnsOver (of_kept link.old (λ l. tells (calls_of l.asks.items l.results.items) l.failures)) (of_kept link.new (λ l. tells (calls_of l.asks.items l.results.items) l.failures)) result }
@@ -166,7 +235,7 @@ pub(crate) fn turn_over<N: Net>(
 {
     let kept = link.take();
     match link_of(alloc, net, endpoint, kept) {
-        Ok(mine) => turn_on(alloc, mine, link),
+        Ok(mine) => turn_on(alloc, mine, link, turns, pace),
         Err(fault) => Err(fault),
     }
 }

@@ -10,7 +10,7 @@ pub returns-in-Err : goal.returns-in-Err
 returns-in-Err g c =
     let began = (link_told g.L.Etcd.told g.L.Etcd.failures c.args.link.now) in
     let here = (link_told g.L.Etcd.told g.L.Etcd.failures c.sessions.link) in
-    let ended = (link_told g.L.Etcd.told g.L.Etcd.failures c.reap_one.new.link) in
+    let ended = (link_told g.L.Etcd.told g.L.Etcd.failures c.reap_one-reaped.new.link) in
     let n = get_or c.args.sessions.now c.sessions.session-index (pos 0) in
     let fits : SFits w64 n = search rules in
     each_cut c.args.sessions.now c.sessions.session-index (pos 0) c.sessions.is_damaged c.in-Err.fault began here ended c.sessions-test.true c.sessions.invariant
@@ -20,7 +20,7 @@ pub sessions-preserved : goal.sessions-preserved
 sessions-preserved g c =
     let began = (link_told g.L.Etcd.told g.L.Etcd.failures c.args.link.now) in
     let here = (link_told g.L.Etcd.told g.L.Etcd.failures c.sessions.link) in
-    let ended = (link_told g.L.Etcd.told g.L.Etcd.failures c.reap_one.new.link) in
+    let ended = (link_told g.L.Etcd.told g.L.Etcd.failures c.reap_one-reaped.new.link) in
     let n = get_or c.args.sessions.now c.sessions.session-index (pos 0) in
     let fits : SFits w64 n = search rules in
     subst (λ (b : Bool). Makes (ReapsEach (take (c.sessions.session-index + 1) c.args.sessions.now) (Ok b)) began ended) (sym c.either-is_damaged.ensures)

@@ -14,7 +14,7 @@ pub returns-in-Err : goal.returns-in-Err
 returns-in-Err g c =
     let began = (link_told g.L.Etcd.told g.L.Etcd.failures c.args.link.now) in
     let here = (link_told g.L.Etcd.told g.L.Etcd.failures c.asks.link) in
-    let ended = (link_told g.L.Etcd.told g.L.Etcd.failures c.call.new.link) in
+    let ended = (link_told g.L.Etcd.told g.L.Etcd.failures c.call_in_turn.new.link) in
     let number = to_z w64 (of_z w64 c.args.session) in
     let same : number ≡ c.args.session = to_z-of_z w64 c.args.session c.ranges.session in
     let stepped : ReaperSteps c.asks.reaper c.asks.answer (steps.Ask c.in-Ok-Ask.ask) c.step.new.self = subst (λ (a : Option Answer). ReaperSteps c.asks.reaper a (steps.Ask c.in-Ok-Ask.ask) c.step.new.self) c.as_ref.ensures.value (rw c.in-Ok-Ask.field-0-is at c.in-Ok-Ask.ensures.ok) in
@@ -25,7 +25,7 @@ pub asks-preserved : goal.asks-preserved
 asks-preserved g c =
     let began = (link_told g.L.Etcd.told g.L.Etcd.failures c.args.link.now) in
     let here = (link_told g.L.Etcd.told g.L.Etcd.failures c.asks.link) in
-    let ended = (link_told g.L.Etcd.told g.L.Etcd.failures c.call.new.link) in
+    let ended = (link_told g.L.Etcd.told g.L.Etcd.failures c.call_in_turn.new.link) in
     let number = to_z w64 (of_z w64 c.args.session) in
     let stepped : ReaperSteps c.asks.reaper c.asks.answer (steps.Ask c.in-Ok-Ask.ask) c.step.new.self = subst (λ (a : Option Answer). ReaperSteps c.asks.reaper a (steps.Ask c.in-Ok-Ask.ask) c.step.new.self) c.as_ref.ensures.value (rw c.in-Ok-Ask.field-0-is at c.in-Ok-Ask.ensures.ok) in
     record {
