@@ -65,7 +65,7 @@ pub fn followed<R: Wait + Eprint + Copy + Drop>(
     let Ok(from) = from.parse::<u64>() else {
         return Ok(None);
     };
-    let (mut hub, _readers) = hub(*rt, alloc, 1, 1)?;
+    let (mut hub, _readers, _keeper) = hub(*rt, alloc, 1, 1)?;
     let mut net = MemNet::new(alloc, Vec::new(alloc), streams);
     let mut stop = MemStop::new(from);
     let end = follow(rt, alloc, &mut net, "etcd:2379", 1, 2, &mut hub, &mut stop);

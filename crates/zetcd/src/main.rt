@@ -19,9 +19,11 @@ ghost use Rattle.zx_outside.specs.Writing.{counts_after_write};
 ghost use Rattle.zx_outside.specs.declared.sink.Took.TheVariants.{Failed as TookFailed};
 
 mod meaning;
+mod standard;
 mod words;
 
 use crate::meaning::meaning;
+use crate::standard::take_closed;
 use crate::words::{lent, words_of};
 use ev_call::Cluster;
 use ev_failover::{DialEndpoints, FailoverLink};
@@ -35,9 +37,10 @@ use zetcd_cmd::{Status, zetcd};
 use zx_net::{Clock, Net, Spawner, Wakes};
 use zx_outside::{Sink, Source, StdSink, StdSource};
 use zx_sockets::{StdClock, StdNet, ThreadSpawner};
-use zx_words::{HangsUp, RandWord, Random};
+use zx_words::{HangsUp, LetsGo, RandWord, Random};
 
 fn main(rt: HostRuntime) -> ExitCode {
+    take_closed(&rt);
     let alloc = rt.alloc();
     let mut input = StdSource::new(rt.stdin());
     let mut out = StdSink::new(rt.stdout());
@@ -91,6 +94,7 @@ fn over_endpoints<
 ) -> Status
 where
     N::In: Wakes + HangsUp,
+    N::Out: LetsGo,
     N::Door: Send,
     requires { (N.counts net.old).accepted ≡ 0 }
 {
@@ -158,6 +162,7 @@ fn with_words<
 ) -> Result<Status, AllocError>
 where
     N::In: Wakes + HangsUp,
+    N::Out: LetsGo,
     N::Door: Send,
     requires { (N.counts net.old).accepted ≡ 0 }
     ensures untouched { IfErr result (λ e. (input.new ≡ input.old) × (out.new ≡ out.old) × (net.new ≡ net.old)) }

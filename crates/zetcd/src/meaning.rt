@@ -16,9 +16,7 @@ pub fn meaning(status: &Status) -> Option<&'static str>
             "standard input could not be read, or gave nothing at 1,000 reads",
         ),
         Status::WriteFault => Some("standard output could not be written"),
-        Status::Net => Some(
-            "etcd did not answer, a thread could not be started, the address could not be listened on, or the listening socket broke",
-        ),
+        Status::Net => Some("stopped: the line before this one says what failed"),
         Status::Memory => Some("out of memory: the output is not complete"),
         Status::Feed(_) => Some(
             "updates cannot be followed any further: the last line of the output says why",

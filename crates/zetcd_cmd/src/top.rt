@@ -14,14 +14,15 @@ use crate::command::plain;
 use crate::status::Status;
 use crate::words::{etcd_words, serve_words};
 use ev_call::Cluster;
+use ev_words::{Fault, tell};
 use std::alloc::Global;
 use std::sync::Wait;
 use std::time::Clock as SystemClock;
 use zd_etcd::{EtcdEnd, etcd};
 use zp_server::{NoBook, OpenGate, ServeEnd, serve};
-use zx_net::{Clock, Net, Spawner, Wakes};
+use zx_net::{Clock, Net, NetFault, Spawner, Wakes};
 use zx_outside::{Sink, Source};
-use zx_words::{HangsUp, Random};
+use zx_words::{HangsUp, LetsGo, Random};
 
 /// The status of an etcd in memory that ended so.
 fn status_of_etcd(end: EtcdEnd) -> Status
@@ -51,8 +52,8 @@ fn status_of_serve(end: ServeEnd) -> Status
 /// Runs the command that `words`, the command line without the program's name, are. It reads `input` and writes `out`; for words
 /// that are no command it writes the usage line. `etcd` and `serve` listen by `net`, have each connection served by a job that
 /// `spawner` starts, and take the time from `clock`. `serve` asks the etcd first by `cluster` and then by links that `net` dials, and
-/// gives a new session a number and a password of `random`'s words; on standard error it says each fault of the etcd. No other
-/// command uses these. The net has accepted no connection before, since it names connections by how many it has accepted, and the
+/// gives a new session a number and a password of `random`'s words. No other command uses these. On standard error `serve` says each
+/// fault of the etcd, and both say why they could not start. The net has accepted no connection before, since it names connections by how many it has accepted, and the
 /// lines of `serve` count them from 1. Addresses of other bytes than visible ASCII are in no row of the usage line.
 #[tactic(auto, using(crate::proofs::Servings::one_word, crate::proofs::Proxyings::one_word, crate::proofs::Proxyings::not_both, crate::proofs::Proxyings::only_serve))]
 pub fn zetcd<
@@ -78,6 +79,7 @@ pub fn zetcd<
 ) -> Status
 where
     N::In: Wakes + HangsUp,
+    N::Out: LetsGo,
     N::Door: Send,
     // The net has accepted nothing yet, so that the numbers of connections are those of what it accepts.
     requires { (N.counts net.old).accepted ≡ 0 }
@@ -135,10 +137,18 @@ where
     }
 }
 
+/// Tells the operator of an etcd in memory that could not listen, or whose listening socket broke.
+fn tell_etcd<R: Eprint>(rt: &R, listen: &str, end: EtcdEnd) {
+    match end {
+        EtcdEnd::Net => tell(rt, "listen at", listen, Fault::Listen(NetFault::Failed)),
+        EtcdEnd::Done | EtcdEnd::WriteFault | EtcdEnd::Memory => {}
+    }
+}
+
 /// Runs `etcd`.
 #[tactic(auto, using(crate::proofs::Servings::names_one, crate::proofs::Servings::never_read, crate::proofs::Servings::net_fault, crate::proofs::Servings::no_fault, crate::proofs::Servings::write_counts, crate::proofs::Servings::other_counts))]
 fn run_etcd<
-    W: Wait + SystemClock + Copy + Send + Drop + 'static,
+    W: Wait + SystemClock + Eprint + Copy + Send + Drop + 'static,
     O: Sink,
     N: Net,
     P: Spawner,
@@ -163,7 +173,9 @@ fn run_etcd<
     let Some((listen, limit)) = etcd_words(words) else {
         unreachable!()
     };
-    status_of_etcd(etcd(rt, alloc, listen, limit, out, net, spawner, &*clock))
+    let end = etcd(rt, alloc, listen, limit, out, net, spawner, &*clock);
+    tell_etcd(rt, listen, end);
+    status_of_etcd(end)
 }
 
 /// Runs `serve`.
@@ -189,6 +201,7 @@ fn run_serve<
 ) -> Status
 where
     N::In: Wakes + HangsUp,
+    N::Out: LetsGo,
     N::Door: Send,
     requires names { NamesServe words.now }
     requires fresh { (N.counts net.old).accepted ≡ 0 }

@@ -18,6 +18,7 @@ use Rattle.zp_server.specs.declared.ends.Stop.{Stop}
 use Rattle.zp_server.specs.declared.ends.Stop.TheVariants as stop
 use Rattle.zp_server.specs.declared.ends.ServeEnd.{ServeEnd}
 use Rattle.zp_server.specs.declared.ends.ServeEnd.TheVariants as ends
+use Rattle.zp_server.proofs.Heads.{begins_failures, begins_why}
 use Rattle.zp_server.proofs.Logging.{logs_met}
 
 seen_is : (s t : Seen) → t.net ≡ s.net → t.out ≡ s.out → t.book ≡ s.book → t ≡ s
@@ -174,22 +175,22 @@ ended size (Err stop.Memory) (ends.Feed told) listen limit failures failures' re
 ended size (Err (stop.Feed end)) ends.Done listen limit failures failures' refusals refusals' t s t' asked from net book fin = absurd fin
 ended size (Err (stop.Feed end)) ends.Net listen limit failures failures' refusals refusals' t s t' asked from net book fin = absurd fin
 
--- the first ask failed, or memory was refused for it
-pub unasked : (size : ℕ) (why : Stop) (end : ServeEnd) (listen : List ℕ) (limit refusals refusals' : ℕ) (c c' : ClusterTold) (t t' : Seen) → Begins (Err why) c c'
+-- a first ask failed, or memory was refused for it
+pub unasked : (size now : ℕ) (why : Stop) (end : ServeEnd) (listen : List ℕ) (limit refusals refusals' : ℕ) (c c' : ClusterTold) (t t' : Seen) → Begins now (Err why) c c'
     → t'.net ≡ t.net → t'.book ≡ t.book → ServeFinishes (Err why) end t.out t'.out → ServeEnds size end listen limit c.failures c'.failures refusals refusals' t t'
-unasked size stop.Net ends.Net listen limit refusals refusals' c c' t t' begins net book fin = inl (record { rose = inl begins.failures; tells = record { net = net; out = fin; book = book } })
-unasked size stop.Net ends.WriteFault listen limit refusals refusals' c c' t t' begins net book fin =
+unasked size now stop.Net ends.Net listen limit refusals refusals' c c' t t' begins net book fin = inl (record { rose = inl (begins_failures now (Err stop.Net) c c' begins); tells = record { net = net; out = fin; book = book } })
+unasked size now stop.Net ends.WriteFault listen limit refusals refusals' c c' t t' begins net book fin =
     record { text = fault_text; from = t; writing = inr (inl (refl, inl refl)); cut = cuts_of fault_text t t' net book fin }
-unasked size stop.Memory ends.Memory listen limit refusals refusals' c c' t t' begins net book fin = inl (seen_is t t' net fin book)
-unasked size stop.Net ends.Done listen limit refusals refusals' c c' t t' begins net book fin = absurd fin
-unasked size stop.Net ends.Memory listen limit refusals refusals' c c' t t' begins net book fin = absurd fin
-unasked size stop.Net (ends.Feed told) listen limit refusals refusals' c c' t t' begins net book fin = absurd fin
-unasked size stop.Memory ends.Done listen limit refusals refusals' c c' t t' begins net book fin = absurd fin
-unasked size stop.Memory ends.WriteFault listen limit refusals refusals' c c' t t' begins net book fin = absurd fin
-unasked size stop.Memory ends.Net listen limit refusals refusals' c c' t t' begins net book fin = absurd fin
-unasked size stop.Memory (ends.Feed told) listen limit refusals refusals' c c' t t' begins net book fin = absurd fin
-unasked size stop.Write end listen limit refusals refusals' c c' t t' begins net book fin = absurd begins
-unasked size (stop.Feed e) end listen limit refusals refusals' c c' t t' begins net book fin = absurd begins
+unasked size now stop.Memory ends.Memory listen limit refusals refusals' c c' t t' begins net book fin = inl (seen_is t t' net fin book)
+unasked size now stop.Net ends.Done listen limit refusals refusals' c c' t t' begins net book fin = absurd fin
+unasked size now stop.Net ends.Memory listen limit refusals refusals' c c' t t' begins net book fin = absurd fin
+unasked size now stop.Net (ends.Feed told) listen limit refusals refusals' c c' t t' begins net book fin = absurd fin
+unasked size now stop.Memory ends.Done listen limit refusals refusals' c c' t t' begins net book fin = absurd fin
+unasked size now stop.Memory ends.WriteFault listen limit refusals refusals' c c' t t' begins net book fin = absurd fin
+unasked size now stop.Memory ends.Net listen limit refusals refusals' c c' t t' begins net book fin = absurd fin
+unasked size now stop.Memory (ends.Feed told) listen limit refusals refusals' c c' t t' begins net book fin = absurd fin
+unasked size now stop.Write end listen limit refusals refusals' c c' t t' begins net book fin = absurd (begins_why now stop.Write c c' begins)
+unasked size now (stop.Feed e) end listen limit refusals refusals' c c' t t' begins net book fin = absurd (begins_why now (stop.Feed e) c c' begins)
 
 -- ---- what the calls make of these
 
@@ -231,6 +232,13 @@ refused size stop.Net listen limit refusals between refusals' t t' before starts
 refused size stop.Memory listen limit refusals between refusals' t t' before starts net out book = inl (seen_is t t' net out book)
 refused size stop.Write listen limit refusals between refusals' t t' before starts net out book = absurd starts
 refused size (stop.Feed end) listen limit refusals between refusals' t t' before starts net out book = absurd starts
+
+-- a worker could not be started, after others were
+pub starts_later : (why : Stop) (refusals between refusals' : ℕ) → between ≡ refusals → Starts (Err why) between refusals' → Starts (Err why) refusals refusals'
+starts_later stop.Net refusals between refusals' before starts = starts ∙ ap one_more before
+starts_later stop.Memory refusals between refusals' before starts = tt
+starts_later stop.Write refusals between refusals' before starts = absurd starts
+starts_later (stop.Feed end) refusals between refusals' before starts = absurd starts
 
 -- both were started
 pub begun : (size : ℕ) (r : Result (Unit {0}) Stop) (listen : List ℕ) (limit refusals refusals' : ℕ) (t t' : Seen) → Clients size r listen limit t t' → ServesFrom size r listen limit refusals refusals' t t'

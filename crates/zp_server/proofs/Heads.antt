@@ -1,6 +1,7 @@
--- The head that the first ask finds.
-use Rattle.std.proofs.Common.{◌≡◌, ℕ, zero, suc, ◌-◌, List, [], ◌∷◌, Option, Some, None, Ok, Err, refl, subst, sym, ap, ◌∙◌, arith}
-use Rattle.std.specs.Prelude.{ℤ, All, IfSome, length, slice_get}
+-- The head that the first asks find.
+use Rattle.std.proofs.Common.{◌≡◌, ◌⊎◌, ℕ, zero, suc, ◌-◌, Bool, true, false, List, [], ◌∷◌, Option, Some, None, Ok, Err, refl, subst, sym, ap, ◌∙◌, inl, inr, arith}
+use Rattle.std.specs.Prelude.{ℤ, All, IfOk, IfSome, Result, is_some, length, option_copied, slice_get}
+use denote.Ref.{Bor}
 use Rattle.std.proofs.lemmas.Int.{ints}
 use Rattle.ev_types.specs.Answers.{revision_in}
 use Rattle.ev_types.specs.Store.{chosen}
@@ -15,12 +16,13 @@ use Rattle.ev_types.specs.declared.ask.Act.TheVariants as act
 use Rattle.ev_types.specs.declared.ask.Ask.{Ask}
 use Rattle.ev_types.specs.declared.ask.Ask.TheVariants as ask
 use Rattle.ev_call.specs.Asks.{IsGrantable}
-use Rattle.ev_call.specs.Calls.{Call, failures_after, with_call}
+use Rattle.ev_call.specs.Calls.{Call}
 use Rattle.ev_call.specs.Fitting.{AreCounts, Fits, IsCount, IsFoundWithin, PartFits, PartsFit}
-use Rattle.ev_call.specs.declared.etcd.CallFault.TheVariants as fault
 use Rattle.zn_layout.specs.Begin.{begin_ask}
 use Rattle.zw_follow.specs.declared.place.Place.{Place}
-use Rattle.zp_server.specs.Beginning.{BeginFailed, Began, IsPlace, first_of, found_by, last_part, number_at, place_in}
+use Rattle.zp_server.specs.Beginning.{Asks, Begins, ClusterTold, Comes, IsAnswered, IsPlace, first_of, found_by, head_in, last_part, look_ask, number_at, place_in}
+use Rattle.zp_server.specs.declared.ends.Stop.{Stop}
+use Rattle.zp_server.specs.declared.ends.Stop.TheVariants as stop
 use Rattle.zx_outside.specs.Counts.{one_more}
 use Rattle.zx_base.proofs.Options.{none_some, some_is}
 
@@ -95,30 +97,103 @@ place_fits : (q : Ask) (a : Answer) → Fits q a → IsPlace (place_in a)
 place_fits q a fits = is_place (number_at (first_of (found_by (last_part a)))) (revision_in a)
     (number_counts (first_of (found_by (last_part a))) (head_counts (found_by (last_part a)) (found_fits q a fits))) (revision_counts q a fits)
 
--- ---- the first ask
+-- ---- the asks
 
--- it may be asked
-pub first_grantable : (now : ℕ) (q : Ask) → q ≡ begin_ask now → IsGrantable q
+-- both may be asked
+pub look_grantable : (q : Ask) → q ≡ look_ask → IsGrantable q
+look_grantable q is = subst IsGrantable (sym is) tt
+
+pub making_grantable : (now : ℕ) (q : Ask) → q ≡ begin_ask now → IsGrantable q
 unfolding begin_ask
-first_grantable now q is = subst IsGrantable (sym is) tt
+making_grantable now q is = subst IsGrantable (sym is) tt
 
--- it was answered
-pub began : (p : Place) (q : Ask) (a : Answer) (time f f' f'' : ℕ) (calls calls' calls'' : Option (List Call)) → f' ≡ f → calls' ≡ calls → q ≡ begin_ask time → Fits q a → f'' ≡ failures_after (Ok a) f' → calls'' ≡ with_call calls' q (Ok a) → p ≡ place_in a
-    → Began p (record { failures = f; calls = calls }) (record { failures = f''; calls = calls'' })
-began p q a time f f' f'' calls calls' calls'' unfailed untold is fits counted told shown = record {
-  is_place = subst IsPlace (sym shown) (place_fits q a fits);
-  failures = counted ∙ unfailed;
-  at = time;
-  given = a;
-  asked = told ∙ ap (λ (cs : Option (List Call)). with_call cs q (Ok a)) untold ∙ ap (λ (x : Ask). with_call calls x (Ok a)) is;
-  shown = shown;
-}
+-- ---- what they come to
 
--- it failed
-pub begin_failed : (q : Ask) (time f f' f'' : ℕ) (calls calls' calls'' : Option (List Call)) → f' ≡ f → calls' ≡ calls → q ≡ begin_ask time → f'' ≡ failures_after (Err fault.Failed) f' → calls'' ≡ with_call calls' q (Err fault.Failed)
-    → BeginFailed (record { failures = f; calls = calls }) (record { failures = f''; calls = calls'' })
-begin_failed q time f f' f'' calls calls' calls'' unfailed untold is counted told = record {
-  failures = counted ∙ ap one_more unfailed;
-  at = time;
-  asked = told ∙ ap (λ (cs : Option (List Call)). with_call cs q (Err fault.Failed)) untold ∙ ap (λ (x : Ask). with_call calls x (Err fault.Failed)) is;
-}
+-- whether there is a head, by the reference to it
+pub copied_some : {A : Type 0} (o : Option (Bor A)) (head : Option A) (shows seen : Bool) → shows ≡ seen → shows ≡ is_some o → option_copied o ≡ head → is_some head ≡ seen
+copied_some None head shows seen is tested copied = ap is_some (sym copied) ∙ sym tested ∙ is
+copied_some (Some x) head shows seen is tested copied = ap is_some (sym copied) ∙ sym tested ∙ is
+
+-- where the updates stand by an answer is in range
+comes_within : (last : Result Answer Stop) (r : Result Place Stop) (q : Ask) → IfOk last (Fits q) → Comes last r → IfOk r IsPlace
+comes_within (Ok a) (Ok p) q fits comes = subst IsPlace (sym comes) (place_fits q a fits)
+comes_within (Err e) (Err e') q fits comes = tt
+comes_within (Ok a) (Err e) q fits comes = absurd comes
+comes_within (Err e) (Ok p) q fits comes = absurd comes
+
+told_same : (f f' : ℕ) (calls calls' : Option (List Call)) → f' ≡ f → calls' ≡ calls → ◌≡◌ {A = ClusterTold} (record { failures = f'; calls = calls' }) (record { failures = f; calls = calls })
+told_same f f' calls calls' same untold = ap (λ (n : ℕ). record { failures = n; calls = calls' }) same ∙ ap (λ (cs : Option (List Call)). record { failures = f; calls = cs }) untold
+
+-- memory was refused before the look
+pub begins_unnamed : (now f f' : ℕ) (calls calls' : Option (List Call)) → f' ≡ f → calls' ≡ calls → Begins now (Err stop.Memory) (record { failures = f; calls = calls }) (record { failures = f'; calls = calls' })
+begins_unnamed now f f' calls calls' unfailed untold =
+    (tt, inl (record { last = Err stop.Memory; asked = record { failures = unfailed; calls = inl untold }; found = tt; comes = refl }))
+
+-- the look showed the head
+pub begins_found : (now f f' f'' : ℕ) (calls calls' calls'' : Option (List Call)) (seen : Answer) (p : Place) → f' ≡ f → calls' ≡ calls → Fits look_ask seen
+    → IsAnswered look_ask seen (record { failures = f'; calls = calls' }) (record { failures = f''; calls = calls'' }) → is_some (head_in seen) ≡ true → p ≡ place_in seen
+    → Begins now (Ok p) (record { failures = f; calls = calls }) (record { failures = f''; calls = calls'' })
+begins_found now f f' f'' calls calls' calls'' seen p unfailed untold fits asked found shown = (
+  comes_within (Ok seen) (Ok p) look_ask fits shown,
+  inl (record {
+    last = Ok seen;
+    asked = subst (λ (c : ClusterTold). IsAnswered look_ask seen c (record { failures = f''; calls = calls'' })) (told_same f f' calls calls' unfailed untold) asked;
+    found = found;
+    comes = shown;
+  }),
+)
+
+-- the look showed no head
+pub begins_made : (now f f' f'' f''' : ℕ) (calls calls' calls'' calls''' : Option (List Call)) (seen : Answer) (last : Result Answer Stop) (r : Result Place Stop) → f' ≡ f → calls' ≡ calls
+    → IsAnswered look_ask seen (record { failures = f'; calls = calls' }) (record { failures = f''; calls = calls'' }) → is_some (head_in seen) ≡ false → IfOk last (Fits (begin_ask now))
+    → Asks last (begin_ask now) (record { failures = f''; calls = calls'' }) (record { failures = f'''; calls = calls''' }) → Comes last r
+    → Begins now r (record { failures = f; calls = calls }) (record { failures = f'''; calls = calls''' })
+begins_made now f f' f'' f''' calls calls' calls'' calls''' seen last r unfailed untold looked none fits asked comes = (
+  comes_within last r (begin_ask now) fits comes,
+  inr (record {
+    seen = seen;
+    between = record { failures = f''; calls = calls'' };
+    looked = subst (λ (c : ClusterTold). IsAnswered look_ask seen c (record { failures = f''; calls = calls'' })) (told_same f f' calls calls' unfailed untold) looked;
+    none = none;
+    last = last;
+    asked = asked;
+    comes = comes;
+  }),
+)
+
+-- ---- the failures that are counted
+
+-- the last ask alone may have failed
+abbrev pub failures_of : Result Place Stop → ℕ → ℕ
+failures_of (Err stop.Net) count = one_more count
+failures_of _ count = count
+
+asks_failures : (last : Result Answer Stop) (r : Result Place Stop) (q : Ask) (c c' : ClusterTold) → Asks last q c c' → Comes last r → c'.failures ≡ failures_of r c.failures
+asks_failures (Ok a) (Ok p) q c c' asked comes = asked.failures
+asks_failures (Ok a) (Err e) q c c' asked comes = absurd comes
+asks_failures (Err e) (Ok p) q c c' asked comes = absurd comes
+asks_failures (Err stop.Net) (Err e) q c c' asked comes = subst (λ (w : Stop). c'.failures ≡ failures_of (Err w) c.failures) (sym comes) asked.failures
+asks_failures (Err stop.Memory) (Err e) q c c' asked comes = subst (λ (w : Stop). c'.failures ≡ failures_of (Err w) c.failures) (sym comes) asked.failures
+asks_failures (Err stop.Write) (Err e) q c c' asked comes = absurd asked
+asks_failures (Err (stop.Feed end)) (Err e) q c c' asked comes = absurd asked
+
+pub begins_failures : (now : ℕ) (r : Result Place Stop) (c c' : ClusterTold) → Begins now r c c' → c'.failures ≡ failures_of r c.failures
+begins_failures now r c c' (within, inl h) = asks_failures h.last r look_ask c c' h.asked h.comes
+begins_failures now r c c' (within, inr h) = asks_failures h.last r (begin_ask now) h.between c' h.asked h.comes ∙ ap (failures_of r) (h.looked).failures
+
+-- without an answer it is known why
+abbrev pub IsWhy : Stop → Type 0
+IsWhy stop.Net = Unit {0}
+IsWhy stop.Memory = Unit {0}
+IsWhy _ = ⊥
+
+asks_why : (last : Result Answer Stop) (why : Stop) (q : Ask) (c c' : ClusterTold) → Asks last q c c' → Comes last (Err why) → IsWhy why
+asks_why (Ok a) why q c c' asked comes = absurd comes
+asks_why (Err stop.Net) why q c c' asked comes = subst IsWhy (sym comes) tt
+asks_why (Err stop.Memory) why q c c' asked comes = subst IsWhy (sym comes) tt
+asks_why (Err stop.Write) why q c c' asked comes = absurd asked
+asks_why (Err (stop.Feed end)) why q c c' asked comes = absurd asked
+
+pub begins_why : (now : ℕ) (why : Stop) (c c' : ClusterTold) → Begins now (Err why) c c' → IsWhy why
+begins_why now why c c' (within, inl h) = asks_why h.last why look_ask c c' h.asked h.comes
+begins_why now why c c' (within, inr h) = asks_why h.last why (begin_ask now) h.between c' h.asked h.comes

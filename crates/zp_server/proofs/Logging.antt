@@ -98,6 +98,9 @@ logs_none size met busy t = record {
   unharmed = refl;
 }
 
+pub logs_same : (size : ℕ) (met : Bool) (busy busy' : List ℕ) (t : Seen) → busy' ≡ busy → Logs size met 0 [] busy busy' t t
+logs_same size met busy busy' t same = subst (λ (numbers : List ℕ). Logs size met 0 [] busy numbers t t) (sym same) (logs_none size met busy t)
+
 -- a client was accepted
 pub logs_accepted : (size : ℕ) (met : Bool) (busy : List ℕ) (t t' : Seen) → (t'.net).accepted ≡ one_more (t.net).accepted → (t'.net).door_faults ≡ (t.net).door_faults
     → (t'.net).dial_faults ≡ (t.net).dial_faults → t'.out ≡ t.out → t'.book ≡ t.book → Logs size met 1 [] busy busy t t'

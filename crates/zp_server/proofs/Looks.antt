@@ -1,12 +1,16 @@
 -- Looks at the hub, one after the other.
-use Rattle.std.proofs.Common.{◌≡◌, ℕ, ◌+◌, ℤ, refl, sym, ◌∙◌, inl, inr, subst, arith}
-use Rattle.std.specs.Prelude.{Result, Ok, Err, OnOk}
+use Rattle.std.proofs.Common.{◌≡◌, ℕ, ◌+◌, ℤ, List, [], ◌∷◌, ◌++◌, refl, sym, ◌∙◌, inl, inr, subst, arith}
+use Rattle.std.specs.Prelude.{Contains, Result, Ok, Err, OnOk}
+use Rattle.std.proofs.lemmas.List.Elements.{Contains-append_right}
 use Rattle.zw_hub.specs.Feeds.{IsFed, IsOneRead, if_closed}
 use Rattle.zw_hub.specs.Readers.{ReaderState}
 use Rattle.zw_hub.specs.declared.feed.Fed.{Fed}
 use Rattle.zw_hub.specs.declared.feed.Fed.TheVariants as fed
-use Rattle.zp_server.specs.Looking.{FindsOpen, FindsOpenFor, FindsOpenTwice}
+use Rattle.zk_service.specs.declared.cause.Cause.{Cause}
+use Rattle.zp_server.specs.Looking.{Closes, Finds, IsFound, FindsOpen, FindsOpenFor, FindsOpenTwice, Looks}
+use Rattle.zp_server.specs.Telling.{Output, OutputSays}
 use Rattle.zp_server.specs.declared.ends.Stop.{Stop}
+use Rattle.zp_server.specs.declared.ends.Stop.TheVariants as stop
 
 abbrev is_no_want : Fed → Type 0
 is_no_want fed.Memory = ⊥
@@ -31,3 +35,28 @@ open_first s = record { reads = omega arith; unclosed = refl }
 
 pub open_again : (n : ℕ) (s s' s'' : ReaderState) → FindsOpenFor n s s' → FindsOpenTwice s' s'' → FindsOpenFor (n + 1) s s''
 open_again n s s' s'' h (between, a, b) = record { reads = omega (arith, h.reads, a.once, b.once); unclosed = b.unclosed ∙ a.unclosed ∙ h.unclosed }
+
+-- ---- who found the list closed
+
+-- the server's own reader
+pub found_by_own : (why : Stop) (s s' : ReaderState) (free : List ReaderState) → Looks (Err why) s s' → IsFound why s' free
+found_by_own (stop.Feed end) s s' free looks = record { reader = s'; ours = inl refl; closed = looks.0 }
+found_by_own stop.Net s s' free looks = tt
+found_by_own stop.Write s s' free looks = tt
+found_by_own stop.Memory s s' free looks = tt
+
+-- one that a worker handed back
+pub found_by_returned : (r : Result (Unit {0}) Stop) (why : Cause) (s s' own : ReaderState) (free free' : List ReaderState) → Closes r why s s' → free' ≡ free ++ s' ∷ [] → Finds r own free'
+found_by_returned (Ok u) why s s' own free free' closes kept = tt
+found_by_returned (Err (stop.Feed end)) why s s' own free free' closes kept = record { reader = s'; ours = inr (subst (λ (rs : List ReaderState). Contains rs s') (sym kept) (Contains-append_right free (s' ∷ []) s' (0, omega arith, refl))); closed = closes.0 }
+found_by_returned (Err stop.Net) why s s' own free free' closes kept = tt
+found_by_returned (Err stop.Write) why s s' own free free' closes kept = tt
+found_by_returned (Err stop.Memory) why s s' own free free' closes kept = tt
+
+-- a line that was not written tells of no list
+pub nothing_found : (r : Result (Unit {0}) Stop) (text : List ℕ) (o o' : Output) (own : ReaderState) (free : List ReaderState) → OutputSays r text o o' → Finds r own free
+nothing_found (Ok u) text o o' own free says = tt
+nothing_found (Err (stop.Feed end)) text o o' own free says = absurd says
+nothing_found (Err stop.Net) text o o' own free says = tt
+nothing_found (Err stop.Write) text o o' own free says = tt
+nothing_found (Err stop.Memory) text o o' own free says = tt

@@ -1,8 +1,9 @@
 -- What a look at the hub tells.
-use Rattle.std.specs.Prelude.{◌≡◌, ℕ, ◌+◌, ◌*◌, false, Some, None, Result, Ok, Err}
+use Rattle.std.specs.Prelude.{◌≡◌, ◌⊎◌, ℕ, ◌+◌, ◌*◌, false, List, Contains, Some, None, Result, Ok, Err}
 use Rattle.std.specs.Arc.{arc_value}
 use Rattle.zk_service.specs.declared.cause.Cause.{Cause}
 use Rattle.zw_hub.specs.Ends.{MayBeTold}
+use Rattle.zw_hub.specs.declared.feed.FeedEnd.{FeedEnd}
 use Rattle.zw_hub.specs.Readers.{ReaderState}
 use Rattle.zp_server.specs.Lines.{is_feed_closed}
 use Rattle.zp_server.specs.declared.ends.Stop.{Stop}
@@ -25,6 +26,23 @@ Looks (Err _) s s' = ⊥
 abbrev pub Closes : Result (Unit {0}) Stop → Cause → ReaderState → ReaderState → Type 0
 Closes (Ok _) why s s' = is_feed_closed why ≡ false
 Closes (Err e) why s s' = Looks (Err e) s s'
+
+-- ---- who found the list closed
+
+-- one of the server's readers, its own or one that serves nobody now, found the list closed by this end at its last read
+pub record IsFoundClosed (end : FeedEnd) (own : ReaderState) (free : List ReaderState) : Type 0 where
+  pub reader : ReaderState
+  pub ours : (reader ≡ own) ⊎ Contains free reader
+  pub closed : (reader.list).end ≡ Some end
+
+-- a stop for an end of the list: one of the server's readers found the list closed by that end
+abbrev pub IsFound : Stop → ReaderState → List ReaderState → Type 0
+IsFound (stop.Feed end) own free = IsFoundClosed (arc_value end) own free
+IsFound _ own free = Unit {0}
+
+abbrev pub Finds : {E : Type 0} → Result E Stop → ReaderState → List ReaderState → Type 0
+Finds (Ok _) own free = Unit {0}
+Finds (Err why) own free = IsFound why own free
 
 -- ---- before and after an accept
 

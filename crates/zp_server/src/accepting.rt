@@ -6,7 +6,7 @@ ghost use Rattle.ev_call.specs.Addresses.{IsAddress};
 ghost use Rattle.ev_call.specs.Calls.{calls_of};
 ghost use Rattle.zx_net.specs.Nets.{IsFreshSink, IsFreshSource};
 ghost use Rattle.zp_server.specs.Logs.{LogGoes, LogStops};
-ghost use Rattle.zp_server.specs.Looking.{FindsOpenFor, FindsOpenTwice};
+ghost use Rattle.zp_server.specs.Looking.{Finds, FindsOpenFor, FindsOpenTwice};
 
 use crate::admitting::admit;
 use crate::book::Book;
@@ -17,41 +17,43 @@ use crate::gate::Gate;
 use crate::house::House;
 use crate::lines::say_no_link;
 use crate::ready::Ready;
+use crate::turns::in_turn;
 use crate::working::start_work;
 use ev_link::{HttpLink, NoLink, link_to};
 use ev_words::{Fault, tell_link};
 use std::alloc::Global;
 use std::sync::{Arc, Wait};
+use std::time::Clock as SystemClock;
 use zp_core::Fresh;
 use zx_base::Memory;
 use zx_net::{Clock, Net, Spawner, Wakes};
 use zx_outside::Sink;
-use zx_words::{HangsUp, Random};
+use zx_words::{HangsUp, LetsGo, Random};
 
 /// Has a client served over this link by a worker.
 fn start_one<
-    W: Wait + Eprint + Copy + Send + Drop + 'static,
+    W: Wait + SystemClock + Eprint + Copy + Send + Drop + 'static,
     N: Net,
     P: Spawner,
     C: Clock + Send + Drop + 'static,
-    R: Wait + Send + Drop + 'static,
     G: Gate + Send + Sync + Drop + 'static,
     B: Book<N::In, N::Out>,
 >(
     rt: &W,
     alloc: Global,
-    house: &Arc<House<N::In, N::Out, B::T, R, <N::In as Wakes>::Bell, G>, Global>,
+    house: &Arc<House<N::In, N::Out, B::T, <N::In as Wakes>::Bell, G>, Global>,
     number: u64,
     fresh: Fresh,
     ends: (N::In, N::Out),
     link: HttpLink<N::In, N::Out>,
     spawner: &mut P,
     clock: &C,
-    desk: &mut Desk<R>,
+    desk: &mut Desk,
     book: &mut B,
 ) -> Result<(), Memory>
 where
     N::In: Wakes + HangsUp,
+    N::Out: LetsGo,
     requires real { pos 1 ≤ℤ fresh.id }
     requires source { IsFreshSource (N.In.given ends.0) (N.In.counts ends.0) (N.In.ended ends.0) (N.In.name ends.0) number }
     requires sink { IsFreshSink (N.Out.taken ends.1) (N.Out.counts ends.1) (N.Out.name ends.1) number }
@@ -73,30 +75,33 @@ where
         Ok(house) => house,
         Err(_refused) => return Err(Memory),
     };
+    let turns = match in_turn(*rt, alloc, &house.queues) {
+        Ok(turns) => turns,
+        Err(refused) => return Err(refused),
+    };
     match desk.busy.push(number) {
         Ok(()) => {}
         Err(_refused) => return Err(Memory),
     }
     let ready = Ready::new(number, fresh, ends, link, trace, clock.another());
-    start_work(*rt, alloc, spawner, house, ready, reader);
+    start_work(*rt, alloc, spawner, house, ready, reader, turns);
     Ok(())
 }
 
 /// Serves one client that was accepted.
 fn serve_one<
-    W: Wait + Eprint + Copy + Send + Drop + 'static,
+    W: Wait + SystemClock + Eprint + Copy + Send + Drop + 'static,
     N: Net,
     P: Spawner,
     C: Clock + Send + Drop + 'static,
     Q: Random,
-    R: Wait + Send + Drop + 'static,
     O: Sink,
     G: Gate + Send + Sync + Drop + 'static,
     B: Book<N::In, N::Out>,
 >(
     rt: &W,
     alloc: Global,
-    house: &Arc<House<N::In, N::Out, B::T, R, <N::In as Wakes>::Bell, G>, Global>,
+    house: &Arc<House<N::In, N::Out, B::T, <N::In as Wakes>::Bell, G>, Global>,
     net: &mut N,
     endpoint: &str,
     number: u64,
@@ -104,12 +109,13 @@ fn serve_one<
     spawner: &mut P,
     clock: &C,
     random: &mut Q,
-    desk: &mut Desk<R>,
+    desk: &mut Desk,
     out: &mut O,
     book: &mut B,
 ) -> Result<(), Stop>
 where
     N::In: Wakes + HangsUp,
+    N::Out: LetsGo,
     requires address { IsAddress endpoint.now }
     requires source { IsFreshSource (N.In.given ends.0) (N.In.counts ends.0) (N.In.ended ends.0) (N.In.name ends.0) number }
     requires sink { IsFreshSink (N.Out.taken ends.1) (N.Out.counts ends.1) (N.Out.name ends.1) number }
@@ -117,11 +123,12 @@ where
         (record { net = N.counts net.old; out = record { taken = O.taken out.old; counts = O.counts out.old }; book = B.told book.old })
         (record { net = N.counts net.new; out = record { taken = O.taken out.new; counts = O.counts out.new }; book = B.told book.new }) }
     ensures own { desk.new.own ≡ desk.old.own }
+    ensures found { Finds result desk.new.own desk.new.free.items }
 {
     match link_to(alloc, net, endpoint) {
         Ok(link) => {
             let fresh = fresh(random);
-            match start_one::<W, N, P, C, R, G, B>(
+            match start_one::<W, N, P, C, G, B>(
                 rt, alloc, house, number, fresh, ends, link, spawner, clock, desk, book,
             ) {
                 Ok(()) => Ok(()),
@@ -138,19 +145,18 @@ where
 
 /// Accepts the next client after so many, and has it served.
 fn accept_one<
-    W: Wait + Eprint + Copy + Send + Drop + 'static,
+    W: Wait + SystemClock + Eprint + Copy + Send + Drop + 'static,
     N: Net,
     P: Spawner,
     C: Clock + Send + Drop + 'static,
     Q: Random,
-    R: Wait + Send + Drop + 'static,
     O: Sink,
     G: Gate + Send + Sync + Drop + 'static,
     B: Book<N::In, N::Out>,
 >(
     rt: &W,
     alloc: Global,
-    house: &Arc<House<N::In, N::Out, B::T, R, <N::In as Wakes>::Bell, G>, Global>,
+    house: &Arc<House<N::In, N::Out, B::T, <N::In as Wakes>::Bell, G>, Global>,
     net: &mut N,
     door: &mut N::Door,
     endpoint: &str,
@@ -158,12 +164,13 @@ fn accept_one<
     spawner: &mut P,
     clock: &C,
     random: &mut Q,
-    desk: &mut Desk<R>,
+    desk: &mut Desk,
     out: &mut O,
     book: &mut B,
 ) -> Result<(), Stop>
 where
     N::In: Wakes + HangsUp,
+    N::Out: LetsGo,
     requires address { IsAddress endpoint.now }
     requires accepted { (N.counts net.old).accepted ≡ before }
     requires few { before + 1 < 2 ^ 64 }
@@ -171,6 +178,7 @@ where
         (record { net = N.counts net.old; out = record { taken = O.taken out.old; counts = O.counts out.old }; book = B.told book.old })
         (record { net = N.counts net.new; out = record { taken = O.taken out.new; counts = O.counts out.new }; book = B.told book.new }) }
     ensures looked { OnOk result (FindsOpenTwice desk.old.own desk.new.own) }
+    ensures found { Finds result desk.new.own desk.new.free.items }
 {
     match admit(rt, alloc, house, net, door, desk, out, book) {
         Ok(ends) => serve_one(
@@ -194,19 +202,18 @@ where
 
 /// Accepts as many clients as the limit allows, and has each served. The hub is looked at before and after each accept.
 pub fn accept_all<
-    W: Wait + Eprint + Copy + Send + Drop + 'static,
+    W: Wait + SystemClock + Eprint + Copy + Send + Drop + 'static,
     N: Net,
     P: Spawner,
     C: Clock + Send + Drop + 'static,
     Q: Random,
-    R: Wait + Send + Drop + 'static,
     O: Sink,
     G: Gate + Send + Sync + Drop + 'static,
     B: Book<N::In, N::Out>,
 >(
     rt: &W,
     alloc: Global,
-    house: &Arc<House<N::In, N::Out, B::T, R, <N::In as Wakes>::Bell, G>, Global>,
+    house: &Arc<House<N::In, N::Out, B::T, <N::In as Wakes>::Bell, G>, Global>,
     net: &mut N,
     door: &mut N::Door,
     endpoint: &str,
@@ -214,12 +221,13 @@ pub fn accept_all<
     spawner: &mut P,
     clock: &C,
     random: &mut Q,
-    desk: &mut Desk<R>,
+    desk: &mut Desk,
     out: &mut O,
     book: &mut B,
 ) -> Result<(), Stop>
 where
     N::In: Wakes + HangsUp,
+    N::Out: LetsGo,
     requires address { IsAddress endpoint.now }
     requires fresh { (N.counts net.old).accepted ≡ 0 }
     requires idle { desk.old.busy.items ≡ [] }
@@ -227,6 +235,7 @@ where
         (record { net = N.counts net.old; out = record { taken = O.taken out.old; counts = O.counts out.old }; book = B.told book.old })
         (record { net = N.counts net.new; out = record { taken = O.taken out.new; counts = O.counts out.new }; book = B.told book.new }) }
     ensures looked { OnOk result (FindsOpenFor limit desk.old.own desk.new.own) }
+    ensures found { Finds result desk.new.own desk.new.free.items }
 {
     'clients: for before in 0..limit {
         match accept_one(

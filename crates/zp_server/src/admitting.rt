@@ -3,7 +3,7 @@
 ghost use Rattle.std.specs.Prelude.{ℕ, IfOk};
 ghost use Rattle.zx_net.specs.Nets.{IsFreshSink, IsFreshSource};
 ghost use Rattle.zp_server.specs.Logs.{Admits};
-ghost use Rattle.zp_server.specs.Looking.{FindsOpenTwice};
+ghost use Rattle.zp_server.specs.Looking.{Finds, FindsOpenTwice};
 
 use crate::book::Book;
 use crate::desk::Desk;
@@ -19,13 +19,13 @@ use zx_outside::Sink;
 use zx_words::HangsUp;
 
 /// Waits until there is room for one more client, and then for the client.
-pub fn admit<W: Wait, N: Net, R: Wait + Drop, O: Sink, G: Gate + Drop, B: Book<N::In, N::Out>>(
+pub fn admit<W: Wait + Eprint, N: Net, O: Sink, G: Gate + Drop, B: Book<N::In, N::Out>>(
     rt: &W,
     alloc: Global,
-    house: &House<N::In, N::Out, B::T, R, <N::In as Wakes>::Bell, G>,
+    house: &House<N::In, N::Out, B::T, <N::In as Wakes>::Bell, G>,
     net: &mut N,
     door: &mut N::Door,
-    desk: &mut Desk<R>,
+    desk: &mut Desk,
     out: &mut O,
     book: &mut B,
 ) -> Result<(N::In, N::Out), Stop>
@@ -36,6 +36,7 @@ where
         (record { net = N.counts net.new; out = record { taken = O.taken out.new; counts = O.counts out.new }; book = B.told book.new }) }
     ensures source { IfOk result (λ ends. IsFreshSource (N.In.given ends.0) (N.In.counts ends.0) (N.In.ended ends.0) (N.In.name ends.0) (N.counts net.new).accepted) }
     ensures sink { IfOk result (λ ends. IsFreshSink (N.Out.taken ends.1) (N.Out.counts ends.1) (N.Out.name ends.1) (N.counts net.new).accepted) }
+    ensures found { Finds result desk.new.own desk.new.free.items }
     // The server's own reader found the hub open at two looks, before the client was accepted and after it.
     ensures looked { IfOk result (λ ends. FindsOpenTwice desk.old.own desk.new.own) }
 {

@@ -14,30 +14,30 @@ use zx_outside::{Sink, Source};
 /// A connection that has ended, and the reader that served it. Where the connection ended since the hub is closed, that reader was
 /// told so.
 #[derive(Drop)]
-pub struct Returned<I: Source + Drop, O: Sink + Drop, T: Trace + Drop, R: Wait + Drop> {
+pub struct Returned<I: Source + Drop, O: Sink + Drop, T: Trace + Drop> {
     pub served: Served<I, O, T>,
-    pub reader: HubReader<R>,
+    pub reader: HubReader,
     pub ghost fed: { served.cause ≡ FeedClosed → 0 < reader.closings },
 }
 
 /// What came back.
 #[derive(Drop)]
-struct Kept<I: Source + Drop, O: Sink + Drop, T: Trace + Drop, R: Wait + Drop> {
-    returned: Vec<Returned<I, O, T, R>>,
+struct Kept<I: Source + Drop, O: Sink + Drop, T: Trace + Drop> {
+    returned: Vec<Returned<I, O, T>>,
     /// One was lost.
     is_short: bool,
 }
 
 /// What workers hand back, the last first.
 #[derive(Drop)]
-pub struct Back<I: Source + Drop, O: Sink + Drop, T: Trace + Drop, R: Wait + Drop> {
-    kept: Mutex<Kept<I, O, T, R>>,
+pub struct Back<I: Source + Drop, O: Sink + Drop, T: Trace + Drop> {
+    kept: Mutex<Kept<I, O, T>>,
     came: Condvar,
 }
 
-impl<I: Source + Drop, O: Sink + Drop, T: Trace + Drop, R: Wait + Drop> Back<I, O, T, R> {
+impl<I: Source + Drop, O: Sink + Drop, T: Trace + Drop> Back<I, O, T> {
     /// Nothing came back yet; room for so many at once.
-    pub fn with_room(alloc: Global, room: usize) -> Result<Back<I, O, T, R>, Memory> {
+    pub fn with_room(alloc: Global, room: usize) -> Result<Back<I, O, T>, Memory> {
         let returned = Vec::with_capacity(alloc, room)?;
         Ok(Back {
             kept: Mutex::new(Kept {
@@ -49,7 +49,7 @@ impl<I: Source + Drop, O: Sink + Drop, T: Trace + Drop, R: Wait + Drop> Back<I, 
     }
 
     /// Hands one back.
-    pub fn put<W: Wait>(&self, rt: &W, returned: Returned<I, O, T, R>) {
+    pub fn put<W: Wait>(&self, rt: &W, returned: Returned<I, O, T>) {
         let mut kept = self.kept.lock(rt);
         if kept.returned.push(returned).is_err() {
             kept.is_short = true;
@@ -58,7 +58,7 @@ impl<I: Source + Drop, O: Sink + Drop, T: Trace + Drop, R: Wait + Drop> Back<I, 
     }
 
     /// One that came back; `None` where none did.
-    fn look<W: Wait>(&self, rt: &W) -> Result<Option<Returned<I, O, T, R>>, Memory> {
+    fn look<W: Wait>(&self, rt: &W) -> Result<Option<Returned<I, O, T>>, Memory> {
         let mut kept = self.kept.lock(rt);
         if kept.is_short {
             return Err(Memory);
@@ -67,7 +67,7 @@ impl<I: Source + Drop, O: Sink + Drop, T: Trace + Drop, R: Wait + Drop> Back<I, 
     }
 
     /// Waits until one comes back.
-    pub fn wait<W: Wait>(&self, rt: &W) -> Result<Returned<I, O, T, R>, Memory> {
+    pub fn wait<W: Wait>(&self, rt: &W) -> Result<Returned<I, O, T>, Memory> {
         let mut kept = self.came.wait_while(
             rt,
             self.kept.lock(rt),
@@ -84,7 +84,7 @@ impl<I: Source + Drop, O: Sink + Drop, T: Trace + Drop, R: Wait + Drop> Back<I, 
         &self,
         rt: &W,
         is_needed: bool,
-    ) -> Result<Option<Returned<I, O, T, R>>, Memory> {
+    ) -> Result<Option<Returned<I, O, T>>, Memory> {
         match self.look(rt)? {
             Some(returned) => Ok(Some(returned)),
             None if is_needed => match self.wait(rt) {

@@ -3,21 +3,26 @@
 ghost use Rattle.std.specs.Prelude.{◌≡◌, ◌<◌, IfSome, length, slice_get, Some};
 ghost use Rattle.zp_server.specs.Striking.{Strikes};
 
-use std::sync::Wait;
+use crate::telling::tell_full;
 use zw_hub::HubReader;
+
+/// Once the operator was told that all places are taken, so many have to be free before that is told again.
+const ROOM_AGAIN: usize = 16;
 
 /// What a server knows of its connections.
 #[derive(Drop)]
-pub struct Desk<R: Wait + Drop> {
+pub struct Desk {
     /// The server's own reader.
-    pub own: HubReader<R>,
+    pub own: HubReader,
     /// The readers that serve no connection now.
-    pub free: Vec<HubReader<R>>,
+    pub free: Vec<HubReader>,
     /// The numbers of the connections that are served.
     pub busy: Vec<u64>,
+    /// The operator was told that no reader is free, and few were since.
+    pub is_full: bool,
 }
 
-impl<R: Wait + Drop> Desk<R> {
+impl Desk {
     ghost use Rattle.std.specs.Prelude.{◌≡◌, IsTrue, []};
 
     /// Whether no connection is served.
@@ -25,6 +30,21 @@ impl<R: Wait + Drop> Desk<R> {
         ensures { IsTrue result → self.now.busy.items ≡ [] }
     {
         self.busy.as_slice().is_empty()
+    }
+
+    /// Tells the operator if no further client can be served until one leaves, once each time that the places run out.
+    pub fn tell_if_full<W: Eprint>(&mut self, rt: &W)
+        ensures own { self.new.own ≡ self.old.own }
+        ensures busy { self.new.busy.items ≡ self.old.busy.items }
+    {
+        if self.free.is_empty() {
+            if !self.is_full {
+                tell_full(rt, self.busy.len());
+            }
+            self.is_full = true;
+        } else if self.free.len() >= ROOM_AGAIN {
+            self.is_full = false;
+        }
     }
 }
 

@@ -4,12 +4,20 @@
 //!
 //! - The *listener* is the call of [`serve`] itself. It accepts clients, at most 256 at a time, and starts a worker for each. A
 //!   worker hands back what it served as a [`Served`], which the listener writes a line about and gives to a [`Book`].
-//! - The *worker* of a connection serves one client over a link of its own to etcd, and ends the client's stream.
+//! - The *worker* of a connection serves one client over a link of its own to etcd. Then it ends the client's stream and the link's,
+//!   so that their descriptors are free at once.
 //! - The *watch worker* follows the head, the key that each update puts, and publishes an entry for each update at a hub, from
 //!   which the connections read ([`follow`]).
-//! - The *reaper worker* looks for sessions whose lease has lapsed, and removes them with their ephemeral nodes.
+//! - The *reaper workers* look for sessions whose lease has lapsed, and remove them with their ephemeral nodes ([`zs_lapsed`]).
 //!
-//! Two proxies share nothing but the etcd cluster.
+//! Two proxies share nothing but the etcd cluster. Within one proxy, updates that contend wait for each other ([`zp_turns`]), those of
+//! the reapers too.
+//!
+//! # Start
+//!
+//! The head is looked for first. The look only reads, so it goes on to the next endpoint if one does not answer, and the next ask goes
+//! to the one that did. If the look shows no head, the cluster is asked to make the root. After a failed ask the call ends; nothing is
+//! asked twice.
 //!
 //! # Waking
 //!
@@ -29,12 +37,13 @@
 //! # What is written
 //!
 //! To the sink: `listening ADDRESS`; `closed N CAUSE` for each connection, once the listener comes to it, which can be only when
-//! the next client connects; and the end. Until then the link of a connection that has ended stays open. To standard error: a line
-//! in words for each fault of etcd or of the way to it, at once.
+//! the next client connects; and the end. To standard error, at once: a line in words for each fault of etcd or of the way to it, for
+//! each fault at the start, with its address; the session that a connection is given; and once all places for clients are taken.
 #![tactic(auto)]
 
 mod accepting;
 mod admitting;
+mod attached;
 mod back;
 mod begin;
 mod bells;
@@ -51,6 +60,8 @@ mod served;
 mod serving;
 mod starting;
 mod taking;
+mod telling;
+mod turns;
 mod working;
 
 pub use bells::Bells;

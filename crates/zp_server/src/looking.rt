@@ -3,7 +3,6 @@
 ghost use Rattle.zp_server.specs.Looking.{Closes, Looks};
 
 use crate::ends::Stop;
-use std::sync::Wait;
 use zk_service::Cause;
 use zw_hub::{Fed, Feed, HubReader};
 
@@ -12,7 +11,7 @@ const LAST_CURSOR: i64 = i64::MAX;
 
 /// Whether this reader finds the hub closed. No entry stands above the cursor, so one that is found there, or lacking there, counts as
 /// out of memory.
-pub fn look<R: Wait + Drop>(reader: &mut HubReader<R>) -> Result<(), Stop>
+pub fn look(reader: &mut HubReader) -> Result<(), Stop>
     ensures { Looks result reader.old reader.new }
 {
     match reader.next(LAST_CURSOR) {
@@ -24,7 +23,7 @@ pub fn look<R: Wait + Drop>(reader: &mut HubReader<R>) -> Result<(), Stop>
 
 /// Why the hub is closed, where a connection ended for that; its reader tells. It is closed for good, so a reader that finds it
 /// open again, which none does, counts as out of memory.
-pub fn closing_of<R: Wait + Drop>(cause: &Cause, reader: &mut HubReader<R>) -> Result<(), Stop>
+pub fn closing_of(cause: &Cause, reader: &mut HubReader) -> Result<(), Stop>
     ensures { Closes result cause.now reader.old reader.new }
 {
     match cause {

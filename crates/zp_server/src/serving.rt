@@ -6,31 +6,33 @@ ghost use Rattle.ev_call.specs.Addresses.{IsAddress};
 ghost use Rattle.zp_server.specs.Beginning.{IsPlace};
 ghost use Rattle.zp_server.specs.Ends.{Clients, ServeEnds, ServeFinishes, ServesFrom};
 ghost use Rattle.zp_server.specs.Logs.{LogStops};
-ghost use Rattle.zp_server.specs.Telling.{Seen};
+ghost use Rattle.zp_server.specs.Telling.{Seen, Starts};
 ghost use Rattle.zx_net.specs.Nets.{NetCounts};
 
 use crate::accepting::accept_all;
 use crate::begin::begin;
+use crate::bells::Bells;
 use crate::book::Book;
 use crate::desk::Desk;
 use crate::ends::{ServeEnd, Stop};
 use crate::gate::Gate;
 use crate::house::House;
 use crate::lines::{NET_FAULT, feed, listening, write_all};
-use crate::starting::{Home, Opened, begin_at, start_reaper, start_watch};
+use crate::starting::{Home, Opened, begin_at, start_reapers, start_watch};
 use crate::taking::{await_all, await_rest};
+use ev_addresses::{address_at, count_of};
 use ev_call::Cluster;
 use ev_words::{Fault, tell};
 use std::alloc::Global;
 use std::sync::{Arc, Wait};
 use std::time::Clock as SystemClock;
-use zs_lapsed::pause_of;
+use zp_turns::Queues;
 use zw_follow::Place;
-use zw_hub::{FeedEnd, hub};
+use zw_hub::{FeedEnd, Keeper, hub};
 use zx_base::Memory;
-use zx_net::{Clock, Net, Spawner, Wakes};
+use zx_net::{Clock, Net, NetFault, Spawner, Wakes};
 use zx_outside::{Sink, Source};
-use zx_words::{HangsUp, Random, SharedStop};
+use zx_words::{HangsUp, LetsGo, Random, SharedStop};
 
 /// How many clients are served at once.
 const MAX_CLIENTS: usize = 256;
@@ -83,21 +85,46 @@ fn first_fault(stop: &Stop) -> Fault {
     }
 }
 
+/// Tells the operator of addresses with a scheme, which cannot be dialled.
+fn tell_schemes<R: Eprint>(rt: &R, endpoint: &str) {
+    'addresses: for index in 0..count_of(endpoint) {
+        let address = address_at(endpoint, index);
+        if address.contains("://") {
+            tell(rt, "endpoint", address, Fault::Scheme);
+        }
+    }
+}
+
+/// Tells the operator if a worker's thread could not be started.
+fn tell_unstarted<R: Eprint>(rt: &R, what: &str, endpoint: &str, stop: &Stop) {
+    match stop {
+        Stop::Net => tell(rt, what, endpoint, Fault::Thread),
+        Stop::Memory | Stop::Write | Stop::Feed(_) => {}
+    }
+}
+
+/// Tells the operator if the listening socket broke.
+fn tell_broken<R: Eprint>(rt: &R, listen: &str, stopped: &Result<(), Stop>) {
+    match stopped {
+        Err(Stop::Net) => tell(rt, "accept at", listen, Fault::Listen(NetFault::Failed)),
+        Ok(()) | Err(Stop::Memory | Stop::Write | Stop::Feed(_)) => {}
+    }
+}
+
 /// Why no further client is accepted. Where the hub was found closed, every worker is waited for.
 fn waited_for<
     W: Wait,
     I: Source + Wakes + Drop,
     K: Sink + Drop,
-    R: Wait + Drop,
     O: Sink,
     G: Gate + Drop,
     B: Book<I, K>,
 >(
     rt: &W,
     alloc: Global,
-    house: &House<I, K, B::T, R, I::Bell, G>,
+    house: &House<I, K, B::T, I::Bell, G>,
     stop: Stop,
-    desk: &mut Desk<R>,
+    desk: &mut Desk,
     out: &mut O,
     book: &mut B,
 ) -> Stop
@@ -127,7 +154,7 @@ fn serve_at<
 >(
     rt: &W,
     alloc: Global,
-    house: &Arc<Home<N, B, W, G>, Global>,
+    house: &Arc<Home<N, B, G>, Global>,
     net: &mut N,
     door: N::Door,
     endpoint: &str,
@@ -135,12 +162,13 @@ fn serve_at<
     spawner: &mut P,
     clock: &C,
     random: &mut Q,
-    desk: &mut Desk<W>,
+    desk: &mut Desk,
     out: &mut O,
     book: &mut B,
 ) -> Result<(), Stop>
 where
     N::In: Wakes + HangsUp,
+    N::Out: LetsGo,
     requires address { IsAddress endpoint.now }
     requires fresh { (N.counts net.old).accepted ≡ 0 }
     requires idle { desk.old.busy.items ≡ [] }
@@ -172,7 +200,7 @@ fn serve_clients<
 >(
     rt: &W,
     alloc: Global,
-    house: &Arc<Home<N, B, W, G>, Global>,
+    house: &Arc<Home<N, B, G>, Global>,
     net: &mut N,
     listen: &str,
     endpoint: &str,
@@ -180,12 +208,13 @@ fn serve_clients<
     spawner: &mut P,
     clock: &C,
     random: &mut Q,
-    desk: &mut Desk<W>,
+    desk: &mut Desk,
     out: &mut O,
     book: &mut B,
 ) -> Result<(), Stop>
 where
     N::In: Wakes + HangsUp,
+    N::Out: LetsGo,
     requires address { IsAddress endpoint.now }
     requires fresh { (N.counts net.old).accepted ≡ 0 }
     requires idle { desk.old.busy.items ≡ [] }
@@ -199,14 +228,19 @@ where
     };
     let door = match net.bind(listen) {
         Ok(door) => door,
-        Err(_fault) => return Err(Stop::Net),
+        Err(why) => {
+            tell(rt, "listen at", listen, Fault::Listen(why));
+            return Err(Stop::Net);
+        }
     };
     if !write_all(out, text.as_slice()) {
         return Err(Stop::Write);
     }
-    serve_at(
+    let stopped = serve_at(
         rt, alloc, house, net, door, endpoint, limit, spawner, clock, random, desk, out, book,
-    )
+    );
+    tell_broken(rt, listen, &stopped);
+    stopped
 }
 
 /// A hub whose next entry is that after this update, and a desk for its readers at which nobody is served.
@@ -214,24 +248,32 @@ fn open<R: Wait + Copy + Drop>(
     rt: R,
     alloc: Global,
     place: Place,
-) -> Result<(Opened<R>, Desk<R>), Memory>
+) -> Result<(Opened<R>, Desk, Keeper<R>), Memory>
     requires { IsPlace place }
     ensures { IfOk result (λ made. made.1.busy.items ≡ []) }
 {
-    let (list, readers) = hub(rt, alloc, place.number, MAX_CLIENTS + 1)?;
+    let (list, readers, keeper) = hub(rt, alloc, place.number, MAX_CLIENTS + 1)?;
     let mut free = readers;
     let busy = Vec::with_capacity(alloc, MAX_CLIENTS)?;
     match free.pop() {
-        Some(own) => Ok((begin_at(list, place), Desk { own, free, busy })),
+        Some(own) => {
+            let desk = Desk {
+                own,
+                free,
+                busy,
+                is_full: false,
+            };
+            Ok((begin_at(list, place), desk, keeper))
+        }
         None => Err(Memory),
     }
 }
 
 /// What the workers share.
-fn house_of<N: Net, R: Wait + Drop, G: Gate + Drop, B: Book<N::In, N::Out>>(
+fn house_of<N: Net, G: Gate + Drop, B: Book<N::In, N::Out>>(
     alloc: Global,
     gate: G,
-) -> Result<Arc<Home<N, B, R, G>, Global>, Memory>
+) -> Result<Arc<Home<N, B, G>, Global>, Memory>
 where
     N::In: Wakes,
 {
@@ -239,6 +281,49 @@ where
     match Arc::new(alloc, house) {
         Ok(house) => Ok(house),
         Err(_refused) => Err(Memory),
+    }
+}
+
+/// Starts the workers that serve no client. If a thread could not be started, the operator is told whose.
+fn start_workers<
+    W: Wait + SystemClock + Eprint + Copy + Send + Drop + 'static,
+    N: Net + Send + Drop + 'static,
+    P: Spawner,
+    Q: Random,
+>(
+    rt: &W,
+    alloc: Global,
+    bells: &Arc<Bells<<N::In as Wakes>::Bell>, Global>,
+    queues: &Arc<Queues, Global>,
+    net: &N,
+    endpoint: &str,
+    opened: Opened<W>,
+    listen: &str,
+    stop: &SharedStop,
+    random: &mut Q,
+    spawner: &mut P,
+) -> Result<(), Stop>
+where
+    N::In: Wakes,
+    N::Door: Send,
+    requires { IsAddress endpoint.now }
+    ensures { Starts result (P.refusals spawner.old) (P.refusals spawner.new) }
+{
+    match start_watch(
+        *rt, alloc, bells, net, endpoint, opened, listen, stop, spawner,
+    ) {
+        Ok(()) => {}
+        Err(refused) => {
+            tell_unstarted(rt, "watch of", endpoint, &refused);
+            return Err(refused);
+        }
+    }
+    match start_reapers(*rt, alloc, queues, net, endpoint, random, stop, spawner) {
+        Ok(()) => Ok(()),
+        Err(refused) => {
+            tell_unstarted(rt, "reaper at", endpoint, &refused);
+            Err(refused)
+        }
     }
 }
 
@@ -270,6 +355,7 @@ fn serve_from<
 ) -> Result<(), Stop>
 where
     N::In: Wakes + HangsUp,
+    N::Out: LetsGo,
     N::Door: Send,
     requires address { IsAddress endpoint.now }
     requires place { IsPlace place }
@@ -278,37 +364,37 @@ where
         (record { net = N.counts net.old; out = record { taken = O.taken out.old; counts = O.counts out.old }; book = B.told book.old })
         (record { net = N.counts net.new; out = record { taken = O.taken out.new; counts = O.counts out.new }; book = B.told book.new }) }
 {
-    let house = match house_of::<N, W, G, B>(alloc, gate) {
+    let house = match house_of::<N, G, B>(alloc, gate) {
         Ok(house) => house,
         Err(_refused) => return Err(Stop::Memory),
     };
-    let (list, mut desk) = match open(*rt, alloc, place) {
+    let (list, mut desk, keeper) = match open(*rt, alloc, place) {
         Ok(made) => made,
         Err(_refused) => return Err(Stop::Memory),
     };
-    match start_watch(
-        *rt,
+    match start_workers(
+        rt,
         alloc,
         &house.bells,
+        &house.queues,
         net,
         endpoint,
         list,
         listen,
         stop,
+        random,
         spawner,
     ) {
         Ok(()) => {}
         Err(refused) => return Err(refused),
     }
-    let pause = pause_of(random.word());
-    match start_reaper(*rt, alloc, net, endpoint, pause, stop, spawner) {
-        Ok(()) => {}
-        Err(refused) => return Err(refused),
-    }
-    serve_clients(
+    let stopped = serve_clients(
         rt, alloc, &house, net, listen, endpoint, limit, spawner, clock, random, &mut desk, out,
         book,
-    )
+    );
+    // The readers read what it keeps, also once the watch worker has ended.
+    drop(keeper);
+    stopped
 }
 
 /// Serves ZooKeeper clients at `listen`, `HOST:PORT`, until `limit` clients were accepted and have ended, from the etcd cluster whose
@@ -320,7 +406,7 @@ where
 ///
 /// - `Done`: each of the connections 1 to `limit` has one line, and each that had a worker one [`Served`](crate::Served) in the
 ///   book;
-/// - `Net`: the cluster's first call failed, a worker could not be started, the address could not be listened on, or the door had a
+/// - `Net`: a first ask failed, a worker could not be started, the address could not be listened on, or the door had a
 ///   fault. `net fault` is written after the lines so far;
 /// - `Feed`: the hub was found closed. Each connection so far has its line, and `feed` with the cause is written after them. Where
 ///   it was found closed right after an accept, whom that let in is dropped, and has no number and no line;
@@ -354,6 +440,7 @@ pub fn serve<
 ) -> ServeEnd
 where
     N::In: Wakes + HangsUp,
+    N::Out: LetsGo,
     N::Door: Send,
     requires address { IsAddress endpoint.now }
     requires fresh { (N.counts net.old).accepted ≡ 0 }
@@ -362,7 +449,8 @@ where
         (record { net = N.counts net.old; out = record { taken = O.taken out.old; counts = O.counts out.old }; book = B.told book.old })
         (record { net = N.counts net.new; out = record { taken = O.taken out.new; counts = O.counts out.new }; book = B.told book.new }) }
 {
-    let place = match begin(alloc, cluster, clock, endpoint) {
+    tell_schemes(rt, endpoint);
+    let place = match begin(alloc, cluster, clock.now(), endpoint) {
         Ok(place) => place,
         Err(stop) => {
             tell(rt, "first ask of", endpoint, first_fault(&stop));

@@ -12,22 +12,23 @@ use crate::book::Book;
 use crate::ends::Stop;
 use crate::gate::Gate;
 use crate::house::House;
+use crate::turns::in_turn;
 use std::alloc::Global;
 use std::sync::{Arc, Wait};
 use std::time::Clock as SystemClock;
-use zs_lapsed::reap;
+use zp_turns::Queues;
+use zs_lapsed::{REAPERS, reap};
 use zw_follow::{Place, follow_and_ring};
 use zw_hub::Hub;
 use zx_base::Memory;
 use zx_net::{Net, Spawner, Wakes};
-use zx_words::SharedStop;
+use zx_words::{Random, SharedStop};
 
 /// What the workers share, for a net and a book.
-pub type Home<N, B, R, G> = House<
+pub type Home<N, B, G> = House<
     <N as Net>::In,
     <N as Net>::Out,
     <B as Book<<N as Net>::In, <N as Net>::Out>>::T,
-    R,
     <<N as Net>::In as Wakes>::Bell,
     G,
 >;
@@ -118,17 +119,18 @@ where
     }
 }
 
-/// Starts the reaper worker.
-pub fn start_reaper<
+/// Starts a reaper worker, whose word is a random one.
+fn start_reaper<
     W: Wait + SystemClock + Eprint + Copy + Send + Drop + 'static,
     N: Net + Send + Drop + 'static,
     P: Spawner,
 >(
     rt: W,
     alloc: Global,
+    queues: &Arc<Queues, Global>,
     net: &N,
     endpoint: &str,
-    pause: u64,
+    word: u64,
     stop: &SharedStop,
     spawner: &mut P,
 ) -> Result<(), Stop>
@@ -145,15 +147,58 @@ where
         Ok(stop) => stop,
         Err(_refused) => return Err(Stop::Memory),
     };
+    let turns = match in_turn(rt, alloc, queues) {
+        Ok(turns) => turns,
+        Err(_refused) => return Err(Stop::Memory),
+    };
     let net = net.another();
     let job = move ||
         requires { IsAddress (string_bytes endpoint) }
     {
-        let (mut net, mut stop) = (net, stop);
-        reap(&rt, alloc, &mut net, endpoint.as_str(), pause, &mut stop);
+        let (mut net, mut stop, mut turns) = (net, stop, turns);
+        reap(
+            &rt,
+            alloc,
+            &mut net,
+            endpoint.as_str(),
+            word,
+            &mut stop,
+            &mut turns,
+        );
     };
     match spawner.start(job) {
         Ok(()) => Ok(()),
         Err(_job) => Err(Stop::Net),
     }
+}
+
+/// Starts the reaper workers, each with a random word of its own.
+pub fn start_reapers<
+    W: Wait + SystemClock + Eprint + Copy + Send + Drop + 'static,
+    N: Net + Send + Drop + 'static,
+    P: Spawner,
+    Q: Random,
+>(
+    rt: W,
+    alloc: Global,
+    queues: &Arc<Queues, Global>,
+    net: &N,
+    endpoint: &str,
+    random: &mut Q,
+    stop: &SharedStop,
+    spawner: &mut P,
+) -> Result<(), Stop>
+where
+    N::Door: Send,
+    requires { IsAddress endpoint.now }
+    ensures { Starts result (P.refusals spawner.old) (P.refusals spawner.new) }
+{
+    'reapers: for _ in 0..REAPERS {
+        let word = random.word();
+        match start_reaper(rt, alloc, queues, net, endpoint, word, stop, spawner) {
+            Ok(()) => {}
+            Err(refused) => return Err(refused),
+        }
+    }
+    Ok(())
 }

@@ -5,6 +5,7 @@ ghost use Rattle.std.specs.Arc.{arc_value};
 ghost use Rattle.zw_hub.specs.Ends.{MayBeTold};
 ghost use Rattle.zx_net.specs.Nets.{NetCounts};
 ghost use Rattle.zp_server.specs.Logs.{LogGoes, LogHalts, Rests};
+ghost use Rattle.zp_server.specs.Looking.{Finds};
 
 use crate::back::Returned;
 use crate::book::Book;
@@ -21,10 +22,10 @@ use zx_net::Wakes;
 use zx_outside::{Sink, Source};
 
 /// Takes what a worker has handed back: writes its line, and gives it to the book. Its reader is free again.
-pub fn take_back<I: Source + Drop, K: Sink + Drop, R: Wait + Drop, O: Sink, B: Book<I, K>>(
+pub fn take_back<I: Source + Drop, K: Sink + Drop, O: Sink, B: Book<I, K>>(
     alloc: Global,
-    returned: Returned<I, K, B::T, R>,
-    desk: &mut Desk<R>,
+    returned: Returned<I, K, B::T>,
+    desk: &mut Desk,
     out: &mut O,
     book: &mut B,
 ) -> Result<(), Stop>
@@ -32,6 +33,7 @@ pub fn take_back<I: Source + Drop, K: Sink + Drop, R: Wait + Drop, O: Sink, B: B
         (record { net = net; out = record { taken = O.taken out.old; counts = O.counts out.old }; book = B.told book.old })
         (record { net = net; out = record { taken = O.taken out.new; counts = O.counts out.new }; book = B.told book.new }) }
     ensures own { desk.new.own ≡ desk.old.own }
+    ensures found { Finds result desk.new.own desk.new.free.items }
 {
     let Returned { served, reader } = returned;
     // A worker hands back its own connection, and that once.
@@ -56,18 +58,17 @@ pub fn take_back<I: Source + Drop, K: Sink + Drop, R: Wait + Drop, O: Sink, B: B
 
 /// Takes all that came back, and then waits until a reader is free.
 pub fn make_room<
-    W: Wait,
+    W: Wait + Eprint,
     I: Source + Wakes + Drop,
     K: Sink + Drop,
-    R: Wait + Drop,
     O: Sink,
     G: Gate + Drop,
     B: Book<I, K>,
 >(
     rt: &W,
     alloc: Global,
-    house: &House<I, K, B::T, R, I::Bell, G>,
-    desk: &mut Desk<R>,
+    house: &House<I, K, B::T, I::Bell, G>,
+    desk: &mut Desk,
     out: &mut O,
     book: &mut B,
 ) -> Result<(), Stop>
@@ -75,7 +76,9 @@ pub fn make_room<
         (record { net = net; out = record { taken = O.taken out.old; counts = O.counts out.old }; book = B.told book.old })
         (record { net = net; out = record { taken = O.taken out.new; counts = O.counts out.new }; book = B.told book.new }) }
     ensures own { desk.new.own ≡ desk.old.own }
+    ensures found { Finds result desk.new.own desk.new.free.items }
 {
+    desk.tell_if_full(rt);
     'takes: for _ in rt.forever() {
         let returned = match house.back.next(rt, desk.free.is_empty()) {
             Ok(Some(returned)) => returned,
@@ -91,10 +94,10 @@ pub fn make_room<
 }
 
 /// Takes one back where the hub is known to be closed: others may have found it closed too.
-fn take_on<I: Source + Drop, K: Sink + Drop, R: Wait + Drop, O: Sink, B: Book<I, K>>(
+fn take_on<I: Source + Drop, K: Sink + Drop, O: Sink, B: Book<I, K>>(
     alloc: Global,
-    returned: Returned<I, K, B::T, R>,
-    desk: &mut Desk<R>,
+    returned: Returned<I, K, B::T>,
+    desk: &mut Desk,
     out: &mut O,
     book: &mut B,
 ) -> Result<(), Stop>
@@ -116,16 +119,15 @@ pub fn await_rest<
     W: Wait,
     I: Source + Wakes + Drop,
     K: Sink + Drop,
-    R: Wait + Drop,
     O: Sink,
     G: Gate + Drop,
     B: Book<I, K>,
 >(
     rt: &W,
     alloc: Global,
-    house: &House<I, K, B::T, R, I::Bell, G>,
+    house: &House<I, K, B::T, I::Bell, G>,
     end: Arc<FeedEnd, Global>,
-    desk: &mut Desk<R>,
+    desk: &mut Desk,
     out: &mut O,
     book: &mut B,
 ) -> Stop
@@ -154,15 +156,14 @@ fn await_first<
     W: Wait,
     I: Source + Wakes + Drop,
     K: Sink + Drop,
-    R: Wait + Drop,
     O: Sink,
     G: Gate + Drop,
     B: Book<I, K>,
 >(
     rt: &W,
     alloc: Global,
-    house: &House<I, K, B::T, R, I::Bell, G>,
-    desk: &mut Desk<R>,
+    house: &House<I, K, B::T, I::Bell, G>,
+    desk: &mut Desk,
     out: &mut O,
     book: &mut B,
 ) -> Result<(), Stop>
@@ -193,15 +194,14 @@ pub fn await_all<
     W: Wait,
     I: Source + Wakes + Drop,
     K: Sink + Drop,
-    R: Wait + Drop,
     O: Sink,
     G: Gate + Drop,
     B: Book<I, K>,
 >(
     rt: &W,
     alloc: Global,
-    house: &House<I, K, B::T, R, I::Bell, G>,
-    desk: &mut Desk<R>,
+    house: &House<I, K, B::T, I::Bell, G>,
+    desk: &mut Desk,
     out: &mut O,
     book: &mut B,
 ) -> Result<(), Stop>

@@ -3,6 +3,7 @@
 ghost use Rattle.std.specs.Prelude.{◌≡◌, ◌<◌};
 ghost use Rattle.zk_service.specs.declared.cause.Cause.TheVariants.{FeedClosed};
 
+use crate::attached::Attached;
 use crate::back::Returned;
 use crate::gate::Gate;
 use crate::house::House;
@@ -11,24 +12,27 @@ use crate::served::Served;
 use ev_words::tell_link;
 use std::alloc::Global;
 use std::sync::{Arc, Wait};
+use std::time::Clock as SystemClock;
 use zk_service::Cause;
-use zp_conn::{Belled, serve_connection};
+use zp_conn::{Belled, Turns, serve_in_turn};
 use zp_run::Trace;
+use zp_turns::InTurn;
 use zs_lapsed::fault_of;
 use zw_hub::{Feed, HubReader};
 use zx_net::{Bell, Clock, Spawner, Wakes};
 use zx_outside::{Sink, Source};
-use zx_words::HangsUp;
+use zx_words::{HangsUp, LetsGo};
 
-/// Serves a connection over this feed, and ends its stream.
+/// Serves a connection over this feed, and ends its stream and that of its link.
 fn serve_over<
-    W: Wait,
+    W: Wait + Eprint + Copy + Drop,
     I: Source + HangsUp + Drop,
-    O: Sink + Drop,
+    O: Sink + LetsGo + Drop,
     T: Trace + Drop,
     C: Clock + Drop,
     F: Feed,
->(rt: &W, alloc: Global, ready: Ready<I, O, T, C>, feed: &mut F) -> Served<I, O, T>
+    U: Turns,
+>(rt: &W, alloc: Global, ready: Ready<I, O, T, C>, feed: &mut F, turns: &mut U) -> Served<I, O, T>
     ensures { result.cause ≡ FeedClosed → 0 < F.closings feed.new }
 {
     let Ready {
@@ -41,8 +45,9 @@ fn serve_over<
         clock,
     } = ready;
     let (mut source, mut sink) = (source, sink);
-    let (mut link, mut trace, mut clock) = (link, trace, clock);
-    let cause = serve_connection(
+    let (mut link, mut clock) = (link, clock);
+    let mut told = Attached::new(*rt, number, trace);
+    let cause = serve_in_turn(
         rt,
         alloc,
         fresh,
@@ -51,17 +56,20 @@ fn serve_over<
         &mut source,
         &mut sink,
         &mut clock,
-        &mut trace,
+        &mut told,
+        turns,
     );
-    // The listener may come to this connection much later, and the client is to know now.
+    // The listener may come to this connection much later. The client is to know now, and the descriptors are wanted now.
     source.hang_up();
+    sink.let_go();
+    link.hang_up();
     Served {
         number,
         fresh,
         source,
         sink,
         link,
-        trace,
+        trace: told.into_trace(),
         cause,
     }
 }
@@ -79,12 +87,11 @@ fn hung<
     I: Source + Wakes + Drop,
     O: Sink + Drop,
     T: Trace + Drop,
-    R: Wait + Drop,
     C: Clock + Drop,
     G: Gate + Drop,
 >(
     rt: &W,
-    house: &House<I, O, T, R, I::Bell, G>,
+    house: &House<I, O, T, I::Bell, G>,
     ready: &mut Ready<I, O, T, C>,
 ) -> Option<Arc<I::Bell, Global>> {
     let bell = bell_of(ready)?;
@@ -99,27 +106,28 @@ fn hung<
 
 /// Serves a connection, and hands back its reader too. Where it has no bell, whoever waits looks again and again.
 fn serve_by<
-    W: Wait,
+    W: Wait + Eprint + Copy + Drop,
     I: Source + HangsUp + Drop,
-    O: Sink + Drop,
+    O: Sink + LetsGo + Drop,
     T: Trace + Drop,
-    R: Wait + Drop,
     C: Clock + Drop,
     B: Bell + Drop,
+    U: Turns,
 >(
     rt: &W,
     alloc: Global,
     ready: Ready<I, O, T, C>,
-    reader: HubReader<R>,
+    reader: HubReader,
     bell: Option<Arc<B, Global>>,
-) -> Returned<I, O, T, R> {
+    turns: &mut U,
+) -> Returned<I, O, T> {
     let Some(bell) = bell else {
         let mut reader = reader;
-        let served = serve_over(rt, alloc, ready, &mut reader);
+        let served = serve_over(rt, alloc, ready, &mut reader, turns);
         return Returned { served, reader };
     };
     let mut feed = Belled::new(reader, bell);
-    let served = serve_over(rt, alloc, ready, &mut feed);
+    let served = serve_over(rt, alloc, ready, &mut feed, turns);
     let reader = feed.into_feed();
     Returned { served, reader }
 }
@@ -141,25 +149,26 @@ fn tell_of<R: Eprint, I: Source + Drop, O: Sink + Drop, T: Trace + Drop>(
 
 /// Serves a connection to its end, and hands back what it served.
 fn work<
-    W: Wait + Eprint,
+    W: Wait + SystemClock + Eprint + Copy + Drop,
     I: Source + HangsUp + Drop,
-    O: Sink + Drop,
+    O: Sink + LetsGo + Drop,
     T: Trace + Drop,
-    R: Wait + Drop,
     C: Clock + Drop,
     G: Gate + Drop,
     B: Bell + Drop,
 >(
     rt: &W,
     alloc: Global,
-    house: &House<I, O, T, R, B, G>,
+    house: &House<I, O, T, B, G>,
     ready: Ready<I, O, T, C>,
-    reader: HubReader<R>,
+    reader: HubReader,
     bell: Option<Arc<B, Global>>,
+    turns: InTurn<W>,
 ) {
     let number = ready.number;
     house.gate.pass(number);
-    let returned = serve_by(rt, alloc, ready, reader, bell);
+    let mut turns = turns;
+    let returned = serve_by(rt, alloc, ready, reader, bell, &mut turns);
     house.bells.remove(rt, number);
     tell_of(rt, &returned.served);
     house.back.put(rt, returned);
@@ -167,11 +176,10 @@ fn work<
 
 /// Has a connection served by a worker of its own, or in place where the job is handed back. Its bell hangs before it is served.
 pub fn start_work<
-    W: Wait + Eprint + Copy + Send + Drop + 'static,
+    W: Wait + SystemClock + Eprint + Copy + Send + Drop + 'static,
     I: Source + Wakes + HangsUp + Send + Drop + 'static,
-    O: Sink + Send + Drop + 'static,
+    O: Sink + LetsGo + Send + Drop + 'static,
     T: Trace + Send + Drop + 'static,
-    R: Wait + Send + Drop + 'static,
     C: Clock + Send + Drop + 'static,
     G: Gate + Send + Sync + Drop + 'static,
     P: Spawner,
@@ -179,15 +187,16 @@ pub fn start_work<
     rt: W,
     alloc: Global,
     spawner: &mut P,
-    house: Arc<House<I, O, T, R, I::Bell, G>, Global>,
+    house: Arc<House<I, O, T, I::Bell, G>, Global>,
     ready: Ready<I, O, T, C>,
-    reader: HubReader<R>,
+    reader: HubReader,
+    turns: InTurn<W>,
 ) {
     let mut ready = ready;
     let bell = hung(&rt, &house, &mut ready);
     let job = move || {
-        let (ready, reader, bell) = (ready, reader, bell);
-        work(&rt, alloc, &house, ready, reader, bell);
+        let (ready, reader, bell, turns) = (ready, reader, bell, turns);
+        work(&rt, alloc, &house, ready, reader, bell, turns);
     };
     if let Err(job) = spawner.start(job) {
         job();

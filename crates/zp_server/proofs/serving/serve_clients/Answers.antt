@@ -12,4 +12,4 @@ pub returns-then-not-write_all : goal.returns-then-not-write_all
 returns-then-not-write_all g c = unlisted _ _ _ _ _ _ (c.as_slice.ensures.value ∙ c.in-Ok.ensures) c.in-Ok-bind.ensures.counts refl (rw c.if-not-write_all.true at c.write_all.ensures)
 
 pub returns : goal.returns
-returns g c = listened _ c.serve_at.result _ _ _ _ _ _ c.serve_at.ensures (c.as_slice.ensures.value ∙ c.in-Ok.ensures) c.in-Ok-bind.ensures.counts refl (rw c.if-not-write_all.false at c.write_all.ensures)
+returns g c = listened _ c.serve_at-stopped.result _ _ _ _ _ _ c.serve_at-stopped.ensures (c.as_slice.ensures.value ∙ c.in-Ok.ensures) c.in-Ok-bind.ensures.counts refl (rw c.if-not-write_all.false at c.write_all.ensures)

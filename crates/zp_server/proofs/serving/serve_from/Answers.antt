@@ -11,11 +11,8 @@ open-requires g c = c.requires.place
 pub returns-in-Err-open : goal.returns-in-Err-open
 returns-in-Err-open g c = inl refl
 
-pub returns-in-Err-start_watch : goal.returns-in-Err-start_watch
-returns-in-Err-start_watch g c = refused _ c.in-Err-start_watch.refused _ _ _ _ _ _ _ refl c.in-Err-start_watch.ensures refl refl refl
-
-pub returns-in-Err-start_reaper : goal.returns-in-Err-start_reaper
-returns-in-Err-start_reaper g c = refused _ c.in-Err-start_reaper.refused _ _ _ _ _ _ _ c.in-Ok-start_watch.ensures c.in-Err-start_reaper.ensures refl refl refl
+pub returns-in-Err-start_workers : goal.returns-in-Err-start_workers
+returns-in-Err-start_workers g c = refused _ c.in-Err-start_workers.refused _ _ _ _ _ _ _ refl c.in-Err-start_workers.ensures refl refl refl
 
 pub returns : goal.returns
-returns g c = inr c.serve_clients.ensures
+returns g c = inr c.serve_clients-stopped.ensures

@@ -1,10 +1,10 @@
-use Rattle.std.proofs.Common.{false, [], refl, ◌∙◌, arith}
-use Rattle.zp_server.proofs.Logging.{logs_none}
+use Rattle.std.proofs.Common.{false, [], ◌∙◌, arith}
+use Rattle.zp_server.proofs.Logging.{logs_same}
 use Rattle.zp_server.proofs.Halting.{goes_later, goes_on, starves_later}
 use Rattle.zp_server.proofs.taking.make_room.Goals as goal
 
 pub takes-init : goal.takes-init
-takes-init g c = (tt, tt, refl, λ size net. logs_none _ false _ _)
+takes-init g c = (tt, tt, c.tell_if_full.ensures.own, λ size net. logs_same _ false _ _ _ c.tell_if_full.ensures.busy)
 
 pub returns-in-Ok-None-clause-goes : goal.returns-in-Ok-None-clause-goes
 returns-in-Ok-None-clause-goes g c = c.takes.invariant.3

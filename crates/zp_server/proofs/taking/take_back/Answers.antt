@@ -1,5 +1,6 @@
-use Rattle.std.proofs.Common.{[]}
+use Rattle.std.proofs.Common.{[], Err}
 use Rattle.zp_server.proofs.Halting.{not_open, taken_closed, unbooked_closed, unclosed, unkept_closed}
+use Rattle.zp_server.proofs.Looks.{found_by_returned, nothing_found}
 use Rattle.zp_server.proofs.taking.take_back.Goals as goal
 
 pub returns-then-not-strike-clause-goes : goal.returns-then-not-strike-clause-goes
@@ -16,3 +17,9 @@ returns-in-Ok-push-clause-goes g c = λ size net. taken_closed _ c.closing_of-cl
 
 pub returns-in-Err-push-clause-goes : goal.returns-in-Err-push-clause-goes
 returns-in-Err-push-clause-goes g c = λ size net. unkept_closed _ _ _ _ _ net _ _ _ _ (rw c.if-not-strike.false at c.strike.ensures) c.in-Ok.ensures c.in-Ok-take.ensures.ok
+
+pub returns-in-Err-clause-found : goal.returns-in-Err-clause-found
+returns-in-Err-clause-found g c = nothing_found (Err c.in-Err.stop) _ _ _ _ _ c.in-Err.ensures
+
+pub returns-in-Ok-push-clause-found : goal.returns-in-Ok-push-clause-found
+returns-in-Ok-push-clause-found g c = found_by_returned c.closing_of-closing.result _ _ _ _ _ _ c.closing_of-closing.ensures c.in-Ok-push.ensures.items
