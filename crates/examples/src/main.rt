@@ -6,7 +6,7 @@
 //!   `NAME.verdict`: an input and all that is written of it, with `NAME.status` where the status is not 0. The input is handed over
 //!   whole and in pieces of several sizes.
 //! - `stories/NAME.script` with `NAME.transcript`, as in `replay`, and both in words ([`zt_story`]): `NAME.transcript.words`, and
-//!   `NAME.script.words`, from which the same script is made.
+//!   `NAME.script.words`, from which the same script is made. Their lines that begin with `#` are for the reader.
 //! - `runs/NAME.run`: a run of its own, with other words, faults, idle turns, or an input that is too long for a file and is made by
 //!   a rule ([`Run`](crate::run::Run) has its lines).
 //!
