@@ -1,4 +1,5 @@
-"""An etcd and proxies on the loopback, as processes, for bench/clients.sh and bench/serve.sh."""
+"""An etcd, proxies and a ZooKeeper on the loopback, as processes, for the scripts of bench/."""
+import glob
 import json
 import os
 import random
@@ -90,7 +91,7 @@ class Etcd:
 
     def leads(self):
         status = self.status()
-        return status["leader"] == status["header"]["member_id"]
+        return status.get("leader") == status["header"]["member_id"]
 
 
 class Members:
@@ -161,3 +162,33 @@ class Proxy:
         if self.process.poll() is None:
             self.process.kill()
             self.process.wait()
+
+
+class ZooKeeper:
+    def __init__(self, work):
+        self.port = free_port()
+        folder = os.path.join(work, "zookeeper")
+        os.mkdir(folder)
+        with open(f"{folder}/zoo.cfg", "w") as config:
+            config.write(f"tickTime=2000\ndataDir={folder}\nclientPort={self.port}\nmaxClientCnxns=0\nadmin.enableServer=false\n")
+        jars = ":".join(it for it in glob.glob("/usr/share/java/*.jar") if any(
+            it.startswith(f"/usr/share/java/{name}.") for name in
+            ["zookeeper", "zookeeper-jute", "slf4j-api", "slf4j-nop", "snappy-java", "commons-cli", "jackson-core",
+             "jackson-annotations", "jackson-databind"]) or "/netty-" in it or "/metrics-core" in it or "snappy" in it)
+        self.process = subprocess.Popen(
+            ["java", "-cp", jars, "org.apache.zookeeper.server.ZooKeeperServerMain", f"{folder}/zoo.cfg"],
+            stdout=open(f"{folder}/log", "wb"), stderr=subprocess.STDOUT)
+        self.is_up = until(self.serves, 30)
+
+    def serves(self):
+        """Whether it serves; it listens some time before it does."""
+        try:
+            with socket.create_connection(("127.0.0.1", self.port), 1) as it:
+                it.sendall(b"srvr")
+                return b"Zxid" in it.recv(65536)
+        except OSError:
+            return False
+
+    def end(self):
+        self.process.kill()
+        self.process.wait()

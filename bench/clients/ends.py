@@ -38,7 +38,7 @@ def an_address_in_use_is_a_net_fault(program, work):
             taken.listen()
             proxy = Proxy(program, etcd.address, work, port=taken.getsockname()[1], is_awaited=False)
             assert proxy.status() == 6 and proxy.lines() == ["net fault"], proxy.lines()
-            assert len(proxy.faults()) == 1 and "could not be listened on" in proxy.faults()[0], proxy.faults()
+            assert f"listen at {proxy.address}: something listens there already" in proxy.faults()[0], proxy.faults()
     finally:
         etcd.end()
 

@@ -14,6 +14,8 @@ from kazoo.retry import KazooRetry
 from basics import kazoos
 from cluster import Members, Proxy, free_port, until
 from faults import counting, hosts_of, longest_pause
+from parted import PartedMembers
+from wire import CREATE, GET, PING, SET, Client, Closed, create, is_readable, put, read, request
 
 
 @contextmanager
@@ -129,6 +131,7 @@ def no_link_is_told_where_no_member_answers(program, work):
 
 
 HEAD = base64.b64encode(b"zk/head").decode()
+LOOK = {"success": [{"request_range": {"key": HEAD}}]}
 CONNECT = bytes.fromhex("0000002d" + "00000000" + "00" * 8 + "00007530" + "00" * 8 + "00000010" + "00" * 16 + "00")
 
 
@@ -188,12 +191,13 @@ def the_endpoints_are_dialled_in_turn(program, work):
     members = [Told(number, asked) for number in range(3)]
     proxy = Proxy(program, ",".join(it.address for it in members), work)
     try:
-        assert [it[0] for it in asked if it[2].get("compare")] == [0], "the first ask"
+        # The first ask only reads, and there is a head, so nothing is written.
+        assert asked[0][::2] == (0, LOOK) and not any(it[2].get("compare") for it in asked), asked[:3]
         watches = lambda: [number for number, route, _body in list(asked) if route == "/v3/watch"]
         assert until(lambda: len(watches()) >= 7, 30), watches()
         assert watches()[:7] == [0, 1, 2, 0, 1, 2, 0], watches()
         # A client's link is to the first member that can be dialled.
-        connects = lambda: [it[0] for it in list(asked) if it[2] == {"success": [{"request_range": {"key": HEAD}}]}]
+        connects = lambda: [it[0] for it in list(asked)[1:] if it[2] == LOOK]
         for first in (0, 1, 2):
             with socket.create_connection(("127.0.0.1", proxy.port), 5) as client:
                 client.sendall(CONNECT)
@@ -206,5 +210,147 @@ def the_endpoints_are_dialled_in_turn(program, work):
             it.end()
 
 
+class Watcher(threading.Thread):
+    """Reads a node and watches it, again as soon as it is told. `seen` has the time and the version of each reading, and `told` how many
+    notifications came for it before the next one."""
+
+    def __init__(self, port, path):
+        super().__init__(daemon=True)
+        self.client, self.path, self.is_over, self.seen, self.told, self.fault = Client(port), path, threading.Event(), [], [], None
+        self.start()
+
+    def run(self):
+        try:
+            while not self.is_over.is_set():
+                answer = self.client.does(GET, read(self.path, True))
+                if self.seen:
+                    self.told.append(len(self.client.notices))
+                self.client.notices.clear()
+                self.seen.append((time.time(), int.from_bytes(answer[-36:-32], "big")))
+                while not self.client.notices and not self.is_over.is_set():
+                    self.hear()
+            time.sleep(2)
+            while is_readable(self.client.stream, 0.0):
+                self.hear()
+            self.told.append(len(self.client.notices))
+        except Exception as fault:
+            self.fault = fault
+
+    def hear(self):
+        """Takes what comes within a second, and pings if nothing does."""
+        if not is_readable(self.client.stream, 1.0):
+            self.client.stream.sendall(request(-2, PING))
+            return
+        frame = self.client.receive()
+        if frame[:4] == bytes([255] * 4):
+            self.client.notices.append(frame)
+
+    def first_of(self, version):
+        """When it first read this version or a later one."""
+        return next((at for at, found in list(self.seen) if found >= version), None)
+
+
+def watchers_at(member):
+    """How many watches this member of etcd has."""
+    text = urllib.request.urlopen(f"http://{member.address}/metrics", timeout=5).read().decode()
+    return sum(float(line.split()[1]) for line in text.splitlines() if line.startswith("etcd_debugging_mvcc_watcher_total "))
+
+
+def hand_leadership(etcd, member):
+    """Has this member lead."""
+    if not member.leads():
+        etcd.leader().control("move-leader", f"{member.status()['header']['member_id']:x}")
+    assert until(member.leads, 10), "it does not lead"
+
+
+def is_told_while_the_watched_member_is_cut_off(program, work, leads):
+    """Three members: clients have their links at the first one, updates are followed at the second, and a writer has the third."""
+    etcd, proxies = PartedMembers(work), []
+    try:
+        links, watched, third = etcd.members
+        proxies.append(Proxy(program, f"{links.address},{watched.address}", work))
+        # The watch leaves the member at which it was begun when that goes, and does not come back by itself.
+        killed(etcd, links)
+        assert until(lambda: watchers_at(watched), 10), "the watch is not where it is meant to be"
+        proxies.append(Proxy(program, third.address, work))
+        hand_leadership(etcd, watched if leads else third)
+        writer = Client(proxies[1].port)
+        writer.does(CREATE, create(b"/w", b""))
+        watcher = Watcher(proxies[0].port, b"/w")
+        assert until(lambda: watcher.seen, 10), watcher.fault
+        etcd.part(etcd.members.index(watched))
+        assert until(lambda: links.leads() or third.leads(), 20), "no other member leads"
+        late = [told_late(writer, watcher, version) for version in range(1, 5)]
+        etcd.heal()
+        late += [told_late(writer, watcher, version) for version in range(5, 9)]
+        watcher.is_over.set()
+        watcher.join(20)
+        assert watcher.fault is None, watcher.fault
+        assert [version for _, version in watcher.seen] == list(range(9)), watcher.seen
+        assert watcher.told == [1] * 8 + [0], watcher.told
+        for it in proxies:
+            assert it.process.poll() is None, it.lines()
+        return f"told {max(late[:4]):.2f} s after an update at the most, after the heal {max(late[4:]):.2f} s"
+    finally:
+        for it in proxies:
+            it.end()
+        etcd.end()
+
+
+def told_late(writer, watcher, version):
+    """Makes an update that gives this version. Gives how long after it the watcher has read it, in seconds."""
+    time.sleep(1)
+    writer.does(SET, put(watcher.path, b"%d" % version))
+    at = time.time()
+    assert until(lambda: watcher.first_of(version) or watcher.fault, 15), f"nothing of update {version} for 15 s"
+    assert watcher.fault is None, watcher.fault
+    return watcher.first_of(version) - at
+
+
+def a_follower_that_is_cut_off_holds_up_no_watch(program, work):
+    return is_told_while_the_watched_member_is_cut_off(program, work, False)
+
+
+def a_leader_that_is_cut_off_holds_up_no_watch(program, work):
+    return is_told_while_the_watched_member_is_cut_off(program, work, True)
+
+
+def what_comes_of_a_client(proxy):
+    """Whether a client gets a session and makes a node, or is cut off, and after how many seconds."""
+    since = time.time()
+    try:
+        client = Client(proxy.port)
+        client.does(CREATE, create(b"/of-%d" % time.time_ns(), b""))
+        client.end()
+        return f"is served after {time.time() - since:.1f} s"
+    except (OSError, Closed):
+        return f"is cut off after {time.time() - since:.1f} s"
+
+
+def a_proxy_begins_beside_a_member_without_a_leader(program, work):
+    etcd = PartedMembers(work)
+    try:
+        etcd.part(0)
+        assert until(lambda: not etcd.members[0].is_healthy(), 20), "the member that is cut off still has a leader"
+        assert until(lambda: any(it.leads() for it in etcd.members[1:]), 20), "no other member leads"
+        since = time.time()
+        proxy = Proxy(program, etcd.address, work, is_awaited=False)
+        try:
+            assert until(lambda: proxy.lines() or proxy.process.poll() is not None, 30)
+            listens = time.time() - since
+            assert proxy.lines() == [f"listening {proxy.address}"] and listens < 10, f"{proxy.lines()} after {listens:.1f} s"
+            # A client's link is to the first member that takes it, with a leader or without.
+            meanwhile = what_comes_of_a_client(proxy)
+            etcd.heal()
+            assert until(etcd.members[0].is_healthy, 20), "the member that was cut off has no leader again"
+            assert what_comes_of_a_client(proxy).startswith("is served"), "no client is served after the heal"
+        finally:
+            proxy.end()
+        return f"it listens after {listens:.1f} s; a client {meanwhile} while the first member has no leader"
+    finally:
+        etcd.end()
+
+
 checks = [a_killed_member_loses_no_session, a_proxy_begins_where_one_member_is_down, no_link_is_told_where_no_member_answers,
-          the_endpoints_are_dialled_in_turn]
+          the_endpoints_are_dialled_in_turn, a_follower_that_is_cut_off_holds_up_no_watch, a_leader_that_is_cut_off_holds_up_no_watch,
+          a_proxy_begins_beside_a_member_without_a_leader]

@@ -10,8 +10,10 @@ import ends
 import faults
 import history
 import members
+import restore
 
-PARTS = {"basics": basics.checks, "faults": faults.checks, "ends": ends.checks, "history": history.checks, "members": members.checks}
+PARTS = {"basics": basics.checks, "faults": faults.checks, "ends": ends.checks, "history": history.checks, "members": members.checks,
+         "restore": restore.checks}
 
 
 def main():

@@ -1,12 +1,11 @@
 """The measurements of bench/serve.sh: speed.py PROGRAM FOLDER SECONDS."""
-import glob
 import os
 import signal
 import subprocess
 import sys
 import time
 
-from cluster import Etcd, Proxy, answers, free_port, until
+from cluster import Etcd, Proxy, ZooKeeper, until
 
 WHAT = ["get", "set", "create", "sequence", "multi"]
 CONNECTIONS = [1, 16, 128]
@@ -22,27 +21,6 @@ def load(work, port, protocol, what, connections, seconds):
 
 def told(rate):
     return f"{rate[0]:6d} ({rate[1]:6d} {rate[2]:7d})" if rate else "     - (     -       -)"
-
-
-class ZooKeeper:
-    def __init__(self, work):
-        self.port = free_port()
-        folder = os.path.join(work, "zookeeper")
-        os.mkdir(folder)
-        with open(f"{folder}/zoo.cfg", "w") as config:
-            config.write(f"tickTime=2000\ndataDir={folder}\nclientPort={self.port}\nmaxClientCnxns=0\nadmin.enableServer=false\n")
-        jars = ":".join(it for it in glob.glob("/usr/share/java/*.jar") if any(
-            it.startswith(f"/usr/share/java/{name}.") for name in
-            ["zookeeper", "zookeeper-jute", "slf4j-api", "slf4j-nop", "snappy-java", "commons-cli", "jackson-core",
-             "jackson-annotations", "jackson-databind"]) or "/netty-" in it or "/metrics-core" in it or "snappy" in it)
-        self.process = subprocess.Popen(
-            ["java", "-cp", jars, "org.apache.zookeeper.server.ZooKeeperServerMain", f"{folder}/zoo.cfg"],
-            stdout=open(f"{folder}/log", "wb"), stderr=subprocess.STDOUT)
-        self.is_up = until(lambda: answers(self.port), 20)
-
-    def end(self):
-        self.process.kill()
-        self.process.wait()
 
 
 def memory(pid):

@@ -5,6 +5,7 @@ import json
 import os
 import socket
 import threading
+import time
 
 from cluster import free_port
 
@@ -140,3 +141,47 @@ class Relay:
                 it.shutdown(socket.SHUT_RDWR)
             except OSError:
                 pass
+
+
+class Far:
+    """An etcd that is so many seconds away: what is asked of it arrives later by that."""
+
+    def __init__(self, port, seconds):
+        self.etcd, self.seconds, self.port = port, seconds, free_port()
+        self.address = f"127.0.0.1:{self.port}"
+        self.listener = socket.create_server(("127.0.0.1", self.port), backlog=512)
+        threading.Thread(target=self.accept, daemon=True).start()
+
+    def accept(self):
+        while True:
+            try:
+                near, _ = self.listener.accept()
+                far = socket.create_connection(("127.0.0.1", self.etcd))
+            except OSError:
+                return
+            for it in (near, far):
+                it.setsockopt(socket.IPPROTO_TCP, socket.TCP_NODELAY, 1)
+            threading.Thread(target=pass_on, args=(near, far, self.seconds), daemon=True).start()
+            threading.Thread(target=pass_on, args=(far, near, 0.0), daemon=True).start()
+
+    def end(self):
+        try:
+            self.listener.shutdown(socket.SHUT_RDWR)
+        except OSError:
+            pass
+        self.listener.close()
+
+
+def pass_on(source, sink, seconds):
+    """Passes on what comes, each piece so many seconds later, and then the end."""
+    try:
+        while piece := source.recv(1 << 16):
+            time.sleep(seconds)
+            sink.sendall(piece)
+    except OSError:
+        pass
+    for it in (source, sink):
+        try:
+            it.shutdown(socket.SHUT_RDWR)
+        except OSError:
+            pass

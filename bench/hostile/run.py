@@ -5,13 +5,17 @@ import sys
 import time
 import traceback
 
+import behind
 import clients
+import descriptors
 import etcds
 import floods
+import lapses
 import memory
 import watches
 
-PARTS = {"clients": clients.checks, "floods": floods.checks, "etcds": etcds.checks, "watches": watches.checks, "memory": memory.checks}
+PARTS = {"clients": clients.checks, "floods": floods.checks, "descriptors": descriptors.checks, "lapses": lapses.checks,
+         "behind": behind.checks, "etcds": etcds.checks, "watches": watches.checks, "memory": memory.checks}
 
 
 def main():

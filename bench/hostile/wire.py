@@ -112,6 +112,7 @@ class Client:
         answer = self.receive()
         if len(answer) < 16 or answer[8:16] == bytes(8):
             raise Refused("no session")
+        self.session = struct.unpack(">q", answer[8:16])[0]
 
     def take(self, count):
         pieces, left = [], count
