@@ -123,7 +123,7 @@ fn put(alloc: Global) -> Result<Ask, Memory>
 /// Whether the next line says that the watch was created.
 fn is_created<S: Source>(alloc: Global, lines: &mut Lines<S>) -> bool {
     match lines.next() {
-        Ok(line) => matches!(read_line(alloc, line.as_slice()), Ok(Line::Created)),
+        Ok(line) => matches!(read_line(alloc, line.as_slice()), Ok(Line::Created { .. })),
         Err(_) => false,
     }
 }
