@@ -1,13 +1,14 @@
 #!/usr/bin/env bash
 # Sends the same asks to a real etcd 3.4 and to `zetcd etcd`, and compares what they answer: as they stand, and as a link of this
-# workspace reads them. Then counts guarded updates a second at 1, 16 and 128 connections, of both by turns. The real one is taken
-# from Debian (etcd-server), where it is not there yet and this may install it; otherwise this says so and ends with status 2. Both
-# listen on the loopback and are new; the real one keeps its log in a temporary folder. Fails where an answer differs in what
-# docs/DECISIONS.md does not list, or an update is not carried out. Of the speed it asserts nothing.
-# usage: bench/etcd.sh [SECONDS [PROGRAM [LINK]]]    so many seconds for each count, 5 if left out; PROGRAM: zetcd, and LINK:
+# workspace reads them. Then counts guarded updates a second at 1, 16 and 128 connections, of both by turns. Both listen on the loopback
+# and are new; the real one keeps its log in a temporary folder. Fails where an answer differs in what docs/DECISIONS.md does not list, or
+# an update is not carried out. Of the speed it asserts nothing.
+# usage: bench/etcd.sh [--install] [SECONDS [PROGRAM [LINK]]]    so many seconds for each count, 5 if left out; PROGRAM: zetcd, and LINK:
 # etcd_loopback, as they were built
 set -u
 here=$(cd "$(dirname "$0")/.." && pwd)
+packages="etcd-server:etcd curl:curl python3:python3 rustc:rustc"
+. "$here/bench/needs.sh"
 seconds=${1:-5}
 program=${2:-$here/crates/zetcd/out/zetcd}
 link=${3:-$here/crates/etcd_loopback/out/etcd_loopback}
@@ -20,10 +21,6 @@ finish() {
 }
 trap finish EXIT
 
-if ! command -v etcd >/dev/null && ! { apt-get update && apt-get install -y etcd-server; } >"$work/apt" 2>&1; then
-  echo "etcd.sh: there is no etcd here, and it cannot be installed" >&2
-  exit 2
-fi
 if [ ! -x "$program" ]; then
   "$here/run" replay </dev/null >/dev/null || exit 1
 fi
