@@ -20,7 +20,7 @@ case " ${*:-basics} " in
 esac
 . "$here/bench/needs.sh"
 program=${ZETCD:-$here/crates/zetcd/out/zetcd}
-[ -x "$program" ] || { echo "no program at $program: build it, or name one by ZETCD" >&2; exit 2; }
+[ -x "$program" ] || { echo "no program at $program: build it by tools/prove zetcd, or name one, as by ZETCD=\$(tools/native zetcd)" >&2; exit 2; }
 
 work=$(mktemp -d)
 . "$here/bench/group.sh"

@@ -4,27 +4,17 @@
 # garbage. A real etcd and all of these run on the loopback. Of each it checks that the memory and the processor time of the server stay
 # within a bound, that another client is served meanwhile, and that the connection ends for the cause that docs/OPERATIONS.md names.
 # Then: a table of descriptors that is full, and empty again; a thousand sessions that lapse; a proxy that falls behind. Prints a line
-# for each check, with what was measured, and ends with status 0 where all hold. Installs nothing: if a Debian package is missing, it
-# says how to install it, and does so itself with `--install` (as root). It ends what it started. Takes about half an hour and some
-# 3 GB; with words, only the parts (clients floods descriptors lapses behind etcds watches memory) and the checks that they name.
+# for each check, with what was measured, and ends with status 0 where all hold. Names the Debian packages that are missing, and installs
+# them if told so by `--install` (as root). It ends what it started. Takes about half an hour and some 3 GB; with words, only the parts
+# (clients floods descriptors lapses behind etcds watches memory) and the checks that they name.
 #
 #     bench/hostile.sh [--install] [PART | CHECK]..     ZETCD=PROGRAM: another program than the one that `./run` builds
 set -eu
 here=$(cd "$(dirname "$0")/.." && pwd)
 program=${ZETCD:-$here/crates/zetcd/out/zetcd}
-packages="etcd-server python3"
-
-is_installing=
-if [ "${1:-}" = --install ]; then is_installing=1; shift; fi
-missing=$(for package in $packages; do dpkg -s "$package" >/dev/null 2>&1 || echo "$package"; done)
-if [ -n "$missing" ]; then
-  missing=${missing//$'\n'/ }
-  [ -n "$is_installing" ] || { echo "first: apt-get install --no-install-recommends $missing" >&2; exit 2; }
-  apt-get update -qq
-  # shellcheck disable=SC2086
-  DEBIAN_FRONTEND=noninteractive apt-get install -y -qq --no-install-recommends $missing >/dev/null
-fi
-[ -x "$program" ] || { echo "no program at $program: build it, or name one by ZETCD" >&2; exit 2; }
+packages="etcd-server:etcd python3:python3"
+. "$here/bench/needs.sh"
+[ -x "$program" ] || { echo "no program at $program: build it by tools/prove zetcd, or name one, as by ZETCD=\$(tools/native zetcd)" >&2; exit 2; }
 
 work=$(mktemp -d /dev/shm/zetcd-hostile.XXXXXX)
 . "$here/bench/group.sh"

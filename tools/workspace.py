@@ -10,6 +10,7 @@ import subprocess
 import sys
 
 ROOT = os.path.dirname(os.path.dirname(os.path.realpath(__file__)))
+NO_KIT = "there is no `rt` on the path: zetcd is built by the Rattle kit (compiler, prover and libraries); put the kit's bin/ on the path"
 
 
 def crates():
@@ -43,9 +44,17 @@ def sources(name):
     return sorted(found)
 
 
+def rt_says(word):
+    """What `rt` prints at this word, as bytes. Where there is no `rt`, the program says so and ends with status 1."""
+    try:
+        return subprocess.run(["rt", word], stdout=subprocess.PIPE, check=True).stdout
+    except FileNotFoundError:
+        sys.exit(f"{os.path.basename(sys.argv[0])}: {NO_KIT}")
+
+
 def stamp(names):
     """A sum of all that these crates are made from: their sources, their lines of crates.txt, those of the crates below, the kit."""
-    total = hashlib.sha256(subprocess.run(["rt", "version"], capture_output=True, check=True).stdout)
+    total = hashlib.sha256(rt_says("version"))
     wanted = with_below(names)
     with open(f"{ROOT}/crates.txt", encoding="utf-8") as lines:
         total.update(repr([it for it in lines if (it.split("#")[0].split() or [""])[0].rstrip(":") in wanted]).encode())
@@ -58,7 +67,7 @@ def stamp(names):
 
 def kit():
     """The kit's folder, in which `rt` is bin/rt."""
-    return os.path.dirname(subprocess.run(["rt", "doc"], capture_output=True, text=True, check=True).stdout.strip())
+    return os.path.dirname(os.fsdecode(rt_says("doc")).strip())
 
 
 def library_of(folder):
