@@ -19,8 +19,7 @@ case " ${*:-basics} " in
   *) is_compiled= ;;
 esac
 . "$here/bench/needs.sh"
-program=${ZETCD:-$here/crates/zetcd/out/zetcd}
-[ -x "$program" ] || { echo "no program at $program: build it by tools/prove zetcd, or name one, as by ZETCD=\$(tools/native zetcd)" >&2; exit 2; }
+. "$here/bench/program.sh"
 
 work=$(mktemp -d)
 . "$here/bench/group.sh"

@@ -5,13 +5,10 @@
 # impossible line ends the script. Fails where a line does not come, comes twice or is not the expected one, where the status is
 # not 3, or where the whole output is not judged lawful. Prints how long a request takes from the script's line to the reply.
 #
-#     bench/drive.sh [TURNS]
-#
-# DRIVE_PROGRAM names another program than the one that is built in crates/.
+#     bench/drive.sh [TURNS]          ZETCD=PROGRAM: another program than the one that `./run` builds
 set -eu
 here=$(cd "$(dirname "$0")/.." && pwd)
-program=${DRIVE_PROGRAM:-$here/crates/zetcd/out/zetcd}
-[ -x "$program" ] || "$here/run" replay </dev/null >/dev/null
+. "$here/bench/program.sh"
 
 python3 - "$program" "${1:-1000}" <<'P'
 import select, struct, subprocess, sys, time

@@ -3,15 +3,16 @@
 # workspace reads them. Then counts guarded updates a second at 1, 16 and 128 connections, of both by turns. Both listen on the loopback
 # and are new; the real one keeps its log in a temporary folder. Fails where an answer differs in what docs/DECISIONS.md does not list, or
 # an update is not carried out. Of the speed it asserts nothing.
-# usage: bench/etcd.sh [--install] [SECONDS [PROGRAM [LINK]]]    so many seconds for each count, 5 if left out; PROGRAM: zetcd, and LINK:
-# etcd_loopback, as they were built
+#
+#     bench/etcd.sh [--install] [SECONDS]          for each count, 5 if left out. ZETCD=PROGRAM and LINK=PROGRAM: another zetcd, and another
+#                                                  etcd_loopback, than those that are built in crates/
 set -u
 here=$(cd "$(dirname "$0")/.." && pwd)
 packages="etcd-server:etcd curl:curl python3:python3 rustc:rustc"
 . "$here/bench/needs.sh"
 seconds=${1:-5}
-program=${2:-$here/crates/zetcd/out/zetcd}
-link=${3:-$here/crates/etcd_loopback/out/etcd_loopback}
+. "$here/bench/program.sh"
+link=${LINK:-$here/crates/etcd_loopback/out/etcd_loopback}
 work=$(mktemp -d)
 servers=()
 finish() {
@@ -21,9 +22,6 @@ finish() {
 }
 trap finish EXIT
 
-if [ ! -x "$program" ]; then
-  "$here/run" replay </dev/null >/dev/null || exit 1
-fi
 if [ ! -x "$link" ]; then
   (cd "$here/crates/etcd_loopback" && rt run) >/dev/null || exit 1
 fi

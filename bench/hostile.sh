@@ -11,10 +11,9 @@
 #     bench/hostile.sh [--install] [PART | CHECK]..     ZETCD=PROGRAM: another program than the one that `./run` builds
 set -eu
 here=$(cd "$(dirname "$0")/.." && pwd)
-program=${ZETCD:-$here/crates/zetcd/out/zetcd}
 packages="etcd-server:etcd python3:python3"
 . "$here/bench/needs.sh"
-[ -x "$program" ] || { echo "no program at $program: build it by tools/prove zetcd, or name one, as by ZETCD=\$(tools/native zetcd)" >&2; exit 2; }
+. "$here/bench/program.sh"
 
 work=$(mktemp -d /dev/shm/zetcd-hostile.XXXXXX)
 . "$here/bench/group.sh"

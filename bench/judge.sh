@@ -10,11 +10,10 @@
 # to a node without a watch; at last every eighth path gets its node. And transcripts of some 10 and 100 million bytes, once of
 # writes of 64 nodes and once of pings, whose lines are the shortest: of these the peak may be six times the length.
 #
-# JUDGE_PROGRAM names another program to measure, and JUDGE_RUNS picks `writes`, `connections`, `watches` or `sizes` alone.
+# ZETCD names another program to measure, and JUDGE_RUNS picks `writes`, `connections`, `watches` or `sizes` alone.
 set -eu
 here=$(cd "$(dirname "$0")/.." && pwd)
-program=${JUDGE_PROGRAM:-$here/crates/zetcd/out/zetcd}
-[ -x "$program" ] || "$here/run" replay </dev/null >/dev/null
+. "$here/bench/program.sh"
 work=$(mktemp -d)
 trap 'rm -rf "$work"' EXIT
 

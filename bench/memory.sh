@@ -18,8 +18,7 @@ set -eu
 here=$(cd "$(dirname "$0")/.." && pwd)
 packages="gcc:gcc libc6-dev python3:python3"
 . "$here/bench/needs.sh"
-program=${ZETCD:-$here/crates/zetcd/out/zetcd}
-[ -x "$program" ] || { echo "no program at $program: build it by tools/prove zetcd, or name one, as by ZETCD=\$(tools/native zetcd)" >&2; exit 2; }
+. "$here/bench/program.sh"
 
 work=$(mktemp -d /dev/shm/zetcd-memory.XXXXXX)
 sweeps=

@@ -6,12 +6,11 @@
 # where a peak is above its bound or a status is another one. Of time it asserts nothing. A peak is never below that of the Python
 # that starts the program, some 14,000 kB.
 #
-# REPLAY_PROGRAM names another program to measure, and REPLAY_RUNS picks `requests`, `sets`, `watches`, `pieces`, `sizes` or `ticks`
+# ZETCD names another program to measure, and REPLAY_RUNS picks `requests`, `sets`, `watches`, `pieces`, `sizes` or `ticks`
 # alone.
 set -eu
 here=$(cd "$(dirname "$0")/.." && pwd)
-program=${REPLAY_PROGRAM:-$here/crates/zetcd/out/zetcd}
-[ -x "$program" ] || "$here/run" replay </dev/null >/dev/null
+. "$here/bench/program.sh"
 work=$(mktemp -d)
 trap 'rm -rf "$work"' EXIT
 

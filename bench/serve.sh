@@ -10,8 +10,7 @@ set -eu
 here=$(cd "$(dirname "$0")/.." && pwd)
 packages="etcd-server:etcd zookeeper default-jre-headless:java gcc libc6-dev"
 . "$here/bench/needs.sh"
-program=${ZETCD:-$here/crates/zetcd/out/zetcd}
-[ -x "$program" ] || { echo "no program at $program: build it by tools/prove zetcd, or name one, as by ZETCD=\$(tools/native zetcd)" >&2; exit 2; }
+. "$here/bench/program.sh"
 work=$(mktemp -d /dev/shm/zetcd-bench.XXXXXX)
 . "$here/bench/group.sh"
 gcc -O2 -o "$work/load" "$here/bench/clients/load.c" -lpthread

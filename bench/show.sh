@@ -5,8 +5,7 @@
 # nothing. A peak is never below that of the Python that starts the program, some 14,000 kB.
 set -eu
 here=$(cd "$(dirname "$0")/.." && pwd)
-program=$here/crates/zetcd/out/zetcd
-[ -x "$program" ] || "$here/run" show </dev/null >/dev/null
+. "$here/bench/program.sh"
 command -v xxd >/dev/null || { echo "show.sh: xxd is not on the path" >&2; exit 1; }
 work=$(mktemp -d)
 trap 'rm -rf "$work"' EXIT

@@ -4,8 +4,7 @@
 # it asserts nothing. A peak is never below that of the Python that starts the program, some 14,000 kB.
 set -eu
 here=$(cd "$(dirname "$0")/.." && pwd)
-program=$here/crates/zetcd/out/zetcd
-[ -x "$program" ] || "$here/run" replay </dev/null >/dev/null
+. "$here/bench/program.sh"
 failed=0
 
 measure() { # measure CONNECTIONS STEPS
