@@ -35,7 +35,7 @@ use Rattle.zp_step.specs.Entries.{entered, then_reply}
 use Rattle.zp_step.specs.Keepalives.{Checked, KeptAlive, Looked, StillMine, TakesUp, checks, keeps_alive}
 use Rattle.zp_step.specs.Kept.{keeps}
 use Rattle.zn_view.specs.Keeping.{update_path}
-use Rattle.zp_step.specs.Looking.{IfRecords, Looks, asks_for, change_by, decided, expired, max_ranges, moved, pending}
+use Rattle.zp_step.specs.Looking.{IfRecords, Looks, asks_for, change_by, decided, expired, guessed, max_ranges, moved, pending}
 use Rattle.zp_step.specs.Plans.{Committed, ReadOn, finishes}
 use Rattle.zp_step.specs.Replies.{Is, closed_by, is_due, replied, stage_after, waits}
 use Rattle.zp_step.specs.Stages.{Core, Pending, Stage, Unconnected, Connecting, Ready, KeepingAlive, Checking, Reading, Committing, Waiting, Shut, counted_up, is_shut, max_count, is_served, next_frame, waits_from}
@@ -99,7 +99,8 @@ module _ (n : ℕ) (small : n ≤ max_count) where
   module _ (c' : Core) (out : List Action) where
     looks-keeps : (c : Core) (xid : ℤ) (r : Request) (v : View) (now : ℕ) → work c ≡ n → Looks c xid r v now c' out → Keeps true n c'
     looks-keeps c xid r v now w (inl y) = is-keeps true n (asks_for c xid r v (take max_ranges y.lacking)) c' out (inr (w, ((λ h. refl), tt))) y.is
-    looks-keeps c xid r v now w (inr y) = is-keeps true n (decided (keeps c r v) xid r v now y.decision) c' out (decided-keeps (keeps c r v) xid r v now y.decision w) y.is
+    looks-keeps c xid r v now w (inr (inl y)) = is-keeps true n (decided c xid r (guessed v y.key) now (Planned y.plan)) c' out (decided-keeps c xid r (guessed v y.key) now (Planned y.plan) w) y.is
+    looks-keeps c xid r v now w (inr (inr y)) = is-keeps true n (decided (keeps c r v) xid r v now y.decision) c' out (decided-keeps (keeps c r v) xid r v now y.decision w) y.is
 
     records-keeps : (c : Core) (ws : List Want) (parts : List ActAns) (Next : Type 0) → (Next → Keeps true n c') → IfRecords c ws parts c' out Next → Keeps true n c'
     records-keeps c ws parts Next f (inl e) = is-keeps true n (closed_by c (cause.Damaged e.key e.value)) c' out (inl refl) e.is

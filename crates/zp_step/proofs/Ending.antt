@@ -39,7 +39,7 @@ use Rattle.zp_step.specs.Entries.{entered, then_reply}
 use Rattle.zp_step.specs.Keepalives.{Checked, KeptAlive, Looked, StillMine, TakesUp, checks, keeps_alive}
 use Rattle.zp_step.specs.Kept.{keeps}
 use Rattle.zn_view.specs.Keeping.{update_path}
-use Rattle.zp_step.specs.Looking.{IfRecords, Looks, change_by, decided, expired, max_ranges, moved, pending}
+use Rattle.zp_step.specs.Looking.{IfRecords, Looks, change_by, decided, expired, guessed, max_ranges, moved, pending}
 use Rattle.zp_step.specs.Plans.{Committed, ReadOn, finishes}
 use Rattle.zp_step.specs.Replies.{Is, close_after, closed_by, is_due, replied, send_notices, stage_after, waits}
 use Rattle.zp_step.specs.Stages.{Core, Pending, Stage, Unconnected, Connecting, Ready, KeepingAlive, Checking, Reading, Committing, Waiting, Shut, asked_of, is_shut, seen_by}
@@ -138,7 +138,8 @@ decided-ends c c' xid r v now out (Moved found) i = waits-ends c c' (moved c.who
 
 looks-ends : (c c' : Core) (xid : ℤ) (r : Request) (v : View) (now : ℕ) (out : List Action) → Looks c xid r v now c' out → Ends c' out
 looks-ends c c' xid r v now out (inl y) = asks-ends (record c { stage = Reading xid r v (take max_ranges y.lacking) }) c' _ out refl refl y.is
-looks-ends c c' xid r v now out (inr y) = decided-ends (keeps c r v) c' xid r v now out y.decision y.is
+looks-ends c c' xid r v now out (inr (inl y)) = decided-ends c c' xid r (guessed v y.key) now out (Planned y.plan) y.is
+looks-ends c c' xid r v now out (inr (inr y)) = decided-ends (keeps c r v) c' xid r v now out y.decision y.is
 
 records-ends : (c c' : Core) (ws : List Want) (parts : List ActAns) (out : List Action) (Next : Type 0) → (Next → Ends c' out) → IfRecords c ws parts c' out Next → Ends c' out
 records-ends c c' ws parts out Next f (inl e) = closed-ends c c' (cause.Damaged e.key e.value) out e.is

@@ -1,8 +1,9 @@
 -- What is asked and decided on a view. A request asks in rounds, all at one revision, for what is still lacking; when nothing
--- is, it is decided.
-use Rattle.std.specs.Prelude.{◌≡◌, ◌≢◌, ℕ, ℤ, ◌⊎◌, List, [], ◌∷◌, take, Option, Some, None}
+-- is, it is decided. Where a sequence node's create lacks the record of its node alone, it is planned as if that were absent.
+use Rattle.std.specs.Prelude.{◌≡◌, ◌≢◌, ℕ, ℤ, ◌⊎◌, Bool, true, false, List, [], ◌∷◌, take, Option, Some, None, codes}
 use Rattle.ev_types.specs.declared.answer.ActAns.{ActAns}
 use Rattle.zk_model.specs.Codes.{session_expired, session_moved}
+use Rattle.zk_model.specs.Single.{is_sequential}
 use Rattle.zk_model.specs.Watches.{no_watches}
 use Rattle.zk_model.specs.declared.reply.Reply.{Reply}
 use Rattle.zk_model.specs.declared.reply.Reply.TheVariants as reply
@@ -11,19 +12,22 @@ use Rattle.zk_model.specs.declared.request.Request.TheVariants as req
 use Rattle.zk_service.specs.Answers.{plain_request}
 use Rattle.zk_service.specs.declared.cause.Cause.{Cause}
 use Rattle.zk_service.specs.declared.cause.Cause.TheVariants as cause
-use Rattle.zx_base.specs.Maps.{Bytes}
+use Rattle.zx_base.specs.Maps.{Bytes, same}
 use Rattle.zn_reads.specs.SeenPaths.{seen_paths}
-use Rattle.zn_view.specs.Adding.{AreRecords, IsFirstDamaged}
+use Rattle.zn_view.specs.Adding.{AreRecords, IsFirstDamaged, is_new}
 use Rattle.zn_view.specs.Asks.{reading, transaction}
-use Rattle.zn_view.specs.Deciding.{IfPlanned, IsGood, IsTested}
+use Rattle.zn_view.specs.Deciding.{IfPlanned, IsGood, IsTaken, IsTested}
+use Rattle.zn_view.specs.Laying.{with_laid}
 use Rattle.zn_view.specs.Needs.{AreNeeds}
 use Rattle.zn_view.specs.Seen.{View, head_of, head_number, head_zxid}
-use Rattle.zn_view.specs.Views.{IsDecision}
+use Rattle.zn_view.specs.Views.{IsDecision, IsPlanned}
 use Rattle.zn_view.specs.declared.plan.Arm.{Arm}
 use Rattle.zn_view.specs.declared.plan.Decision.{Decision}
 use Rattle.zn_view.specs.declared.plan.Decision.TheVariants.{Answered, Planned, Expired, Moved}
+use Rattle.zn_view.specs.declared.plan.Plan.{Plan}
 use Rattle.zn_view.specs.declared.plan.Who.{Who}
 use Rattle.zn_view.specs.declared.want.Want.{Want}
+use Rattle.zn_view.specs.declared.want.Want.TheVariants as want
 use Rattle.zp_step.specs.declared.action.Action.{Action}
 use Rattle.zp_step.specs.declared.action.Action.TheVariants as action
 use Rattle.zp_step.specs.Stages.{Core, Pending, Reading, Committing, WatchChange, AddsWatch, SetsWatches}
@@ -86,12 +90,72 @@ decided c xid r v now (Moved found) = waits c (moved c.who v found xid)
 abbrev pub IsBacked : Request → Who → ℕ → View → Decision → Type 0
 IsBacked r who now v d = IfPlanned (λ p. IsGood r who now v p × IsKeepable r v p) d
 
--- something is still lacking, and is asked for, at most `max_ranges` of it at once
+-- ---- a view that gives no plan
+
+-- something is lacking in it
+pub record IsPoor (r : Request) (who : Who) (v : View) : Type 0 where
+  pub lacking : List Want
+  pub needs : AreNeeds r who v lacking
+  pub some : lacking ≢ []
+
+-- the decision on it is no plan
+pub record IsNoPlan (r : Request) (who : Who) (v : View) : Type 0 where
+  pub decision : Decision
+  pub whole : AreNeeds r who v []
+  pub tested : IsTested r who v decision
+  pub right : IsDecision r who v decision
+  pub unplanned : IsPlanned decision → ⊥
+
+abbrev pub PassesOver : Request → Who → View → Type 0
+PassesOver r who v = IsPoor r who v ⊎ IsNoPlan r who v
+
+-- ---- a guess that a node is absent
+
+-- it is the key of a node's record
+abbrev pub is_node_key : Bytes → Bool
+is_node_key key = same (take 5 key) (codes "zk/d/")
+
+-- a create or create2 of a sequence node; a multi is none, whatever its parts are
+abbrev pub makes_sequence : Request → Bool
+makes_sequence (req.Create p d a f) = is_sequential f
+makes_sequence (req.Create2 p d a f) = is_sequential f
+makes_sequence _ = false
+
+-- The record of a node may be guessed absent where it is all that a sequence node's create lacks: no round is asked for it alone,
+-- since nobody has made a node of the next number, but by its name.
+pub record MayGuess (r : Request) (v : View) (key : Bytes) : Type 0 where
+  pub sequence : makes_sequence r ≡ true
+  pub begun : is_new v ≡ false
+  pub record_of_node : is_node_key key ≡ true
+
+-- the view with a key that is guessed absent; a create looks up no lists
+abbrev pub guessed : View → Bytes → View
+guessed v key = with_laid (record v { lists = [] }) (record { key = key; found = None })
+
+-- ---- what a view leads to
+
+-- something is still lacking, and is asked for, at most `max_ranges` of it at once; a guess of it gives no plan
 pub record AsksOn (c : Core) (xid : ℤ) (r : Request) (v : View) (c' : Core) (out : List Action) : Type 0 where
   pub lacking : List Want
   pub needs : AreNeeds r c.who v lacking
   pub some : lacking ≢ []
+  pub unguessed : (key : Bytes) → lacking ≡ want.Key key ∷ [] → MayGuess r v key → PassesOver r c.who (guessed v key)
   pub is : Is (asks_for c xid r v (take max_ranges lacking)) c' out
+
+-- One record alone is lacking, and the decision on the view with the guess that it is absent is a plan, which is asked. Its guards
+-- say that the record is absent, and where they don't hold it is read. An etcd takes the plan, though the view may be of no state. On
+-- a guess nothing is answered.
+pub record PlansOnGuess (c : Core) (xid : ℤ) (r : Request) (v : View) (now : ℕ) (c' : Core) (out : List Action) : Type 0 where
+  pub key : Bytes
+  pub needs : AreNeeds r c.who v (want.Key key ∷ [])
+  pub may : MayGuess r v key
+  pub plan : Plan
+  pub whole : AreNeeds r c.who (guessed v key) []
+  pub tested : IsTested r c.who (guessed v key) (Planned plan)
+  pub right : IsDecision r c.who (guessed v key) (Planned plan)
+  pub backed : IsBacked r c.who now (guessed v key) (Planned plan)
+  pub taken : IsTaken plan
+  pub is : Is (decided c xid r (guessed v key) now (Planned plan)) c' out
 
 -- nothing is lacking: the view is kept, and the decision is the service's in each sound state that the view is of
 pub record Decides (c : Core) (xid : ℤ) (r : Request) (v : View) (now : ℕ) (c' : Core) (out : List Action) : Type 0 where
@@ -103,4 +167,4 @@ pub record Decides (c : Core) (xid : ℤ) (r : Request) (v : View) (now : ℕ) (
   pub is : Is (decided (keeps c r v) xid r v now decision) c' out
 
 abbrev pub Looks : Core → ℤ → Request → View → ℕ → Core → List Action → Type 0
-Looks c xid r v now c' out = AsksOn c xid r v c' out ⊎ Decides c xid r v now c' out
+Looks c xid r v now c' out = AsksOn c xid r v c' out ⊎ PlansOnGuess c xid r v now c' out ⊎ Decides c xid r v now c' out

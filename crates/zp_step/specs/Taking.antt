@@ -1,5 +1,5 @@
 -- How a frame is taken up: what needs no tree is answered at once, and anything else is looked up.
-use Rattle.std.specs.Prelude.{◌≢◌, ℕ, ℤ, ◌+◌, ◌⊎◌, Bool, true, false, List, [], ◌∷◌, Option, Some, None}
+use Rattle.std.specs.Prelude.{ℕ, ℤ, ◌+◌, ◌⊎◌, Bool, true, false, List, [], ◌∷◌, Option, Some, None}
 use Rattle.std.specs.Map.{lookup}
 use Rattle.zk_jute.specs.Packets.{reply_packet}
 use Rattle.zk_jute.specs.Requests.{Frame, Asks, read_request}
@@ -11,17 +11,14 @@ use Rattle.zx_base.specs.Maps.{Bytes, same}
 use Rattle.zn_view.specs.Deciding.{IsTested}
 use Rattle.zn_view.specs.Needs.{AreNeeds}
 use Rattle.zn_view.specs.Seen.{View, empty_view}
-use Rattle.zn_view.specs.Views.{IsDecision, IsPlanned}
-use Rattle.zn_view.specs.declared.plan.Decision.{Decision}
+use Rattle.zn_view.specs.Views.{IsDecision}
 use Rattle.zn_view.specs.declared.plan.Decision.TheVariants.{Planned}
 use Rattle.zn_view.specs.declared.plan.Plan.{Plan}
-use Rattle.zn_view.specs.declared.plan.Who.{Who}
-use Rattle.zn_view.specs.declared.want.Want.{Want}
 use Rattle.zp_step.specs.Kept.{used_first}
 use Rattle.zn_view.specs.Keeping.{update_path}
 use Rattle.zp_step.specs.declared.action.Action.{Action}
 use Rattle.zp_step.specs.declared.action.Action.TheVariants as action
-use Rattle.zp_step.specs.Looking.{IsBacked, Looks, decided}
+use Rattle.zp_step.specs.Looking.{IsBacked, Looks, PassesOver, decided}
 use Rattle.zp_step.specs.Replies.{Is, close_after, stage_after}
 use Rattle.zp_step.specs.Stages.{Core, counted_up}
 
@@ -48,22 +45,6 @@ pub record PlansAtOnce (c : Core) (xid : ℤ) (r : Request) (now : ℕ) (c' : Co
   pub right : IsDecision r c.who v (Planned plan)
   pub backed : IsBacked r c.who now v (Planned plan)
   pub is : Is (decided (record c { views = used_first q v c.views }) xid r v now (Planned plan)) c' out
-
--- something is lacking in a view, or the decision on it is no plan
-pub record IsNoPlan (r : Request) (who : Who) (v : View) : Type 0 where
-  pub decision : Decision
-  pub whole : AreNeeds r who v []
-  pub tested : IsTested r who v decision
-  pub right : IsDecision r who v decision
-  pub unplanned : IsPlanned decision → ⊥
-
-pub record IsPoor (r : Request) (who : Who) (v : View) : Type 0 where
-  pub lacking : List Want
-  pub needs : AreNeeds r who v lacking
-  pub some : lacking ≢ []
-
-abbrev pub PassesOver : Request → Who → View → Type 0
-PassesOver r who v = IsPoor r who v ⊎ IsNoPlan r who v
 
 abbrev pub LooksAnew : Core → ℤ → Request → ℕ → Core → List Action → Type 0
 LooksAnew c xid r now c' out = Looks c xid r empty_view now c' out
