@@ -3,25 +3,26 @@ use Rattle.std.proofs.Common.{◌≡◌, ℕ, ℤ, pos, Bool, true, false, Optio
 use Rattle.std.specs.Prelude.{nat_abs, ◌≤ℤ◌, if◌then◌else◌, MatchBool}
 use Rattle.std.specs.Ordering.{int_eq}
 use Rattle.zk_model.specs.declared.request.Request.{Request}
+use Rattle.zk_model.specs.declared.request.Request.TheVariants as req
 use Rattle.zk_model.specs.Watches.{no_watches}
 use Rattle.zk_service.specs.Answers.{Told, plain_request}
-use Rattle.zk_service.specs.States.{Session, limit_of, session_at}
+use Rattle.zk_service.specs.States.{IsSound, Session, State, limit_of, session_at}
 use Rattle.zx_base.proofs.Options.{none_some, some_is}
 use Rattle.zn_layout.specs.Keys.{LeaseKey}
 use Rattle.zn_ops.specs.Deciding.{IsAttachedAt}
 use Rattle.zn_reads.specs.Deciding.{IsAnswered, IsReadDecision}
 use Rattle.zn_view.specs.declared.plan.Plan.{Plan}
 use Rattle.zn_view.specs.Asks.{WritesOnce}
-use Rattle.zn_view.specs.Deciding.{IfPlanned, IsGood, IsTested, IsTestedBy, IsToldByForm, is_by_tree}
+use Rattle.zn_view.specs.Deciding.{IfPlanned, IsGood, IsTaken, IsTested, IsTestedBy, IsToldByForm, is_by_tree}
 use Rattle.zn_view.specs.Keeping.{IsKeepable}
-use Rattle.zn_updates.specs.Deciding.{IsAttached, IsBySound, IsGuarded}
+use Rattle.zn_updates.specs.Deciding.{IsAttached, IsBounded, IsBySound, IsGuarded, IsTakenIfCreate}
 use Rattle.zn_view.specs.declared.plan.Decision.{Decision}
 use Rattle.zn_view.specs.declared.plan.Decision.TheVariants.{Answered, Planned, Expired, Moved}
 use Rattle.zn_view.specs.declared.plan.Who.{Who}
 use Rattle.zn_view.specs.Lookups.{HasSeen, sees}
 use Rattle.zn_view.specs.Needs.{life_want, IsWhole}
 use Rattle.zn_view.specs.Seen.{View}
-use Rattle.zn_view.specs.Views.{IsDecision, live}
+use Rattle.zn_view.specs.Views.{IsDecision, IsOf, live}
 use Rattle.zn_view.proofs.Tested.{expired-decides, moved-decides, tree-decides}
 use Rattle.zx_base.proofs.Booleans.{same-int as int_eq-same}
 
@@ -82,8 +83,20 @@ form-told r d t told is u e = is ∙ ap (λ (w : Told). Answered w.reply None) (
 
 -- ---- plans
 
+-- a view of a sound state bounds any plan
+bounded : (r : Request) (v : View) (s : State) → IsSound s → IsOf v s → IsBounded r v
+bounded (req.Create p d a f) v s sound of = tt
+bounded (req.Create2 p d a f) v s sound of = tt
+bounded _ v s sound of = (s, sound, of)
+
+-- a create's plan is bounded by any view
+taken-as_create : (r : Request) (v : View) (p : Plan) → (IsBounded r v → IsTaken p) → IsTakenIfCreate r p
+taken-as_create (req.Create path d a f) v p h = h tt
+taken-as_create (req.Create2 path d a f) v p h = h tt
+taken-as_create _ v p h = tt
+
 pub update-planned : (r : Request) (who : Who) (now : ℕ) (v : View) (d : Decision) → IsAttached who v → IfPlanned (IsGuarded r who now v) d → IfPlanned (IsGood r who now v) d
-update-planned r who now v (Planned p) attached h = record { commits = (h.commits attached).0; asked = (h.commits attached).1; reads = h.reads; writes = h.writes.own; taken = h.taken }
+update-planned r who now v (Planned p) attached h = record { commits = (h.commits attached).0; asked = (h.commits attached).1; reads = h.reads; writes = h.writes.own; taken = λ s sound of. h.taken (bounded r v s sound of) }
 update-planned r who now v (Answered x arm) attached h = tt
 update-planned r who now v Expired attached h = tt
 update-planned r who now v (Moved found) attached h = tt
@@ -93,6 +106,12 @@ update-once r who now v (Planned p) h = h.writes
 update-once r who now v (Answered x arm) h = tt
 update-once r who now v Expired h = tt
 update-once r who now v (Moved found) h = tt
+
+pub update-created : (r : Request) (who : Who) (now : ℕ) (v : View) (d : Decision) → IfPlanned (IsGuarded r who now v) d → IfPlanned (IsTakenIfCreate r) d
+update-created r who now v (Planned p) h = taken-as_create r v p h.taken
+update-created r who now v (Answered x arm) h = tt
+update-created r who now v Expired h = tt
+update-created r who now v (Moved found) h = tt
 
 pub update-keepable : (r : Request) (who : Who) (now : ℕ) (v : View) (d : Decision) → IfPlanned (IsGuarded r who now v) d → IfPlanned (IsKeepable r v) d
 update-keepable r who now v (Planned p) h = h.keepable

@@ -11,7 +11,7 @@ ghost use Rattle.zn_view.specs.Asks.{WritesOnce};
 ghost use Rattle.zn_view.specs.Deciding.{IfPlanned, IsGood, IsTested, IsToldByForm, is_by_tree};
 ghost use Rattle.zn_view.specs.Keeping.{IsKeepable};
 ghost use Rattle.zn_view.specs.Needs.{IsWhole};
-ghost use Rattle.zn_updates.specs.Deciding.{content_in, IsAttached};
+ghost use Rattle.zn_updates.specs.Deciding.{content_in, IsAttached, IsTakenIfCreate};
 ghost use Rattle.zn_updates.specs.Writing.{WritesAs};
 ghost use Rattle.zn_view.specs.Lookups.{HasSeen, sees};
 ghost use Rattle.zn_view.specs.Views.{IsDecision};
@@ -57,6 +57,7 @@ fn decide_by_tree(
     ensures tree { IfOk result (λ d. is_by_tree d ≡ true) }
     ensures plan { IfOk result (IfPlanned (IsGood request.now who now view.now)) }
     ensures once { IfOk result (IfPlanned WritesOnce) }
+    ensures created { IfOk result (IfPlanned (IsTakenIfCreate request.now)) }
     ensures keepable { IfOk result (IfPlanned (IsKeepable request.now view.now)) }
     ensures writes { IfOk result (IfPlanned (WritesAs request.now who view.now)) }
 {
@@ -84,6 +85,7 @@ fn decide_by_session(
     ensures tested { IfOk result (IsTested request.now who view.now) }
     ensures plan { IfOk result (IfPlanned (IsGood request.now who now view.now)) }
     ensures once { IfOk result (IfPlanned WritesOnce) }
+    ensures created { IfOk result (IfPlanned (IsTakenIfCreate request.now)) }
     ensures keepable { IfOk result (IfPlanned (IsKeepable request.now view.now)) }
     ensures writes { IfOk result (IfPlanned (WritesAs request.now who view.now)) }
 {
@@ -105,8 +107,8 @@ fn decide_by_session(
 /// Where the request's form decides, the decision is that answer, on every view, also on one that no state has. Otherwise the
 /// session has expired where the record of its life is not there, and has moved where that was put at another revision than
 /// `who.mine`; and otherwise the tree decides. A plan is a good one (`IsGood` of `zn_view`), and writes the keys of its update,
-/// each once, and no other. What the plan of an update leaves of the view may be kept for the next request of its path
-/// (`IsKeepable` of `zn_view`).
+/// each once, and no other. An etcd takes the plan of a create even where the view is of no state. What the plan of an update leaves of
+/// the view may be kept for the next request of its path (`IsKeepable` of `zn_view`).
 pub fn decide(
     alloc: Global,
     request: &Request,
@@ -124,6 +126,7 @@ pub fn decide(
     ensures tested { IfOk result (IsTested request.now who view.now) }
     ensures plan { IfOk result (IfPlanned (IsGood request.now who now view.now)) }
     ensures once { IfOk result (IfPlanned WritesOnce) }
+    ensures created { IfOk result (IfPlanned (IsTakenIfCreate request.now)) }
     ensures keepable { IfOk result (IfPlanned (IsKeepable request.now view.now)) }
     ensures writes { IfOk result (IfPlanned (WritesAs request.now who view.now)) }
 {

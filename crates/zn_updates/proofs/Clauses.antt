@@ -12,7 +12,6 @@ use Rattle.zk_model.specs.declared.request.Request.{Request}
 use Rattle.zk_model.specs.Limits.{max_owned}
 use Rattle.zk_model.specs.Watches.{no_watches}
 use Rattle.zk_service.specs.Answers.{plain_request, tree_reply}
-use Rattle.zk_service.specs.States.{State, IsSound}
 use Rattle.zn_layout.specs.Changes.{KeyChange}
 use Rattle.zn_layout.specs.Keys.{Key, LeaseKey, key_bytes}
 use Rattle.zn_view.specs.declared.plan.Decision.{Decision}
@@ -24,7 +23,7 @@ use Rattle.zn_view.specs.Asks.{again_of, WritesOnce}
 use Rattle.zn_view.specs.Lookups.{HasSeen, sees}
 use Rattle.zn_view.specs.Needs.{key_want, GuardsReads, IsRead, IsWhole}
 use Rattle.zn_view.specs.Seen.{View}
-use Rattle.zn_view.specs.Views.{IsByTree, IsOf, IsSmallPlan}
+use Rattle.zn_view.specs.Views.{IsByTree, IsSmallPlan}
 use Rattle.zn_view.proofs.Elements.{contains-map, mapped-contained}
 use Rattle.zn_view.proofs.Members.{In, contains_in, in_contains, in_mapped}
 use Rattle.zn_view.proofs.Narrowing.{narrowed-asked, narrowed-plan, narrowed-seen}
@@ -36,7 +35,7 @@ use Rattle.zn_updates.specs.declared.chosen.Chosen.{Chosen}
 use Rattle.zn_updates.specs.Choices.{Choice, Refuse, Make}
 use Rattle.zn_view.specs.Deciding.{IfPlanned, IsToldByForm}
 use Rattle.zn_view.specs.Keeping.{PutsNewKeys, update_path}
-use Rattle.zn_updates.specs.Deciding.{IfMakes, IfMade, IsAttached, IsBySound, IsGuarded, decision_of, on_keys, plan_of}
+use Rattle.zn_updates.specs.Deciding.{IfMakes, IfMade, IsAttached, IsBounded, IsBySound, IsGuarded, decision_of, on_keys, plan_of}
 use Rattle.zn_updates.specs.Making.{chosen_of}
 use Rattle.zn_updates.specs.Layers.{IsChosen}
 use Rattle.zn_updates.proofs.Deciding.{IsPart, by_tree, plan_is}
@@ -107,7 +106,7 @@ module _ (r : Request) (p : Part) (who : Who) (v : View) (ks : List Key) (choice
         let key = keys.to (want.Key k) reads in
         subst (Contains (map key_bytes ks)) (sym (ap key_in key.2)) (contains-map key_bytes ks key.0 (in_contains key.0 ks key.1))
 
-    module _ (cs : List KeyChange) (ts : List Trigger) (draft : PartResult) (made : choice now ≡ Make cs ts draft) (well : AreWellMade v cs ts) (accounted : All (IsAccounted v ks) cs) where
+    module _ (cs : List KeyChange) (ts : List Trigger) (draft : PartResult) (made : choice now ≡ Make cs ts draft) (well : AreWellMade (IsBounded r v) cs ts) (accounted : All (IsAccounted v ks) cs) where
       abbrev plan : Plan
       plan = plan_of (on_keys v ks) cs ts draft
 
@@ -117,11 +116,11 @@ module _ (r : Request) (p : Part) (who : Who) (v : View) (ks : List Key) (choice
       writes : WritesOnce plan
       writes = record { own = record { changes = cs; acts = refl; leases = well.leases; triggers = well.triggers; reads = again-present (again_of (on_keys v ks).keys) }; once = well.once }
 
-      small : (s : State) → IsSound s → IsOf v s → IsSmallPlan plan
-      small s sound of =
+      small : IsBounded r v → IsSmallPlan plan
+      small bounded =
           let few_keys : length (map key_bytes ks) ≤ 8 = omega (arith, length-map ks key_bytes, keys.few) in
           let few_told : length plan.triggers ≤ 2 = well.told in
-          let small = well.small s sound of in
+          let small = well.small bounded in
           plan-small v (map key_bytes ks) plan cs (omega arith) (All-map (λ (k : Bytes). length k ≤ 1033) key_bytes ks keys.short) (omega (arith, well.few)) (omega (arith, small)) well.triggers refl refl refl
 
       life_inside : In (key_bytes (LeaseKey (nat_abs who.session))) (map key_bytes ks)
@@ -138,15 +137,15 @@ module _ (r : Request) (p : Part) (who : Who) (v : View) (ks : List Key) (choice
         );
         reads = guards_reads;
         writes = writes;
-        taken = λ s sound of. small-taken plan writes (small s sound of);
+        taken = λ bounded. small-taken plan writes (small bounded);
         keepable = if_some (PutsNewKeys v plan) (update_path r) (accounted-new v ks plan refl looked_up cs ts refl accounted);
       }
 
-    planned_by : (c : Choice) → choice now ≡ c → IfChanges (AreWellMade v) c → AreAccounted v ks c → IfPlanned (IsGuarded r who now v) (decision_of (on_keys v ks) c)
+    planned_by : (c : Choice) → choice now ≡ c → IfChanges (AreWellMade (IsBounded r v)) c → AreAccounted v ks c → IfPlanned (IsGuarded r who now v) (decision_of (on_keys v ks) c)
     planned_by (Refuse code) e h accounted = tt
     planned_by (Make cs ts draft) e h accounted = guarded cs ts draft e h accounted
 
-    pub planned : IfChanges (AreWellMade v) (choice now) → AreAccounted v ks (choice now) → IfPlanned (IsGuarded r who now v) d
+    pub planned : IfChanges (AreWellMade (IsBounded r v)) (choice now) → AreAccounted v ks (choice now) → IfPlanned (IsGuarded r who now v) d
     planned well accounted = subst (IfPlanned (IsGuarded r who now v)) (sym is) (planned_by (choice now) refl well accounted)
 
 -- a refusal is no plan

@@ -422,7 +422,7 @@ module _ (path content : Bytes) (acl : List Acl) (flags : ℤ) (formed : form_re
         by_form (req.Create path content acl flags) (Create path content acl flags) who v keys decided now create_part chosen time real create_formed d is.6,
         by_sound (req.Create path content acl flags) (Create path content acl flags) who v keys decided now create_part chosen time real create_formed d is.6,
         planned (req.Create path content acl flags) (Create path content acl flags) who v keys decided now create_part chosen time real create_formed d is.6 near (plan_keys who v q is.1 up is.4) whole
-            (create-made node q (valid_path (creates_in is.1)) (made_below q up (creates_in is.1)) v content short now (is_ephemeral flags) who.session is.0 is.1 (has_found (sees v (DataKey node))) is.2 listed)
+            (create-made node q (valid_path (creates_in is.1)) (made_below q up (creates_in is.1)) (Unit {0}) content short now (is_ephemeral flags) who.session is.0 is.1 (has_found (sees v (DataKey node))) is.2 listed)
             (create-new v node q content now (is_ephemeral flags) who.session keys (inr (inr (inr (inl refl)))) (own-in (is_sequential flags) (is_ephemeral flags) path q who.session (creates_seen is.1)) is.0 is.1 (has_found (sees v (DataKey node))) is.2
             (λ w e. (node_in w e, path_seen w e)) refl),
       )

@@ -36,7 +36,7 @@ use Rattle.zn_view.specs.Lookups.{HasSeen, sees}
 use Rattle.zn_view.specs.Needs.{AreNeeds, FollowsOwner, IsRead, key_want, IsWhole}
 use Rattle.zn_view.specs.Lacking.{lacking}
 use Rattle.zn_view.specs.Seen.{View, seen}
-use Rattle.zn_view.specs.Views.{IsOf, reads, about_path, counts_of_parent}
+use Rattle.zn_view.specs.Views.{reads, about_path, counts_of_parent}
 use Rattle.zn_view.proofs.AsSeen.{agrees-as_seen}
 use Rattle.zn_view.proofs.Members.{In, contains_in, in_contains, in_left, in_right, in_either}
 use Rattle.zn_view.proofs.Sizes.{counts-size, data-size, head-size, life-size, session-size}
@@ -46,7 +46,7 @@ use Rattle.zn_updates.specs.declared.seen.SeenCounts.{SeenCounts}
 use Rattle.zn_updates.specs.Choices.{Choice, Refuse, delete_choice, delete_here, delete_owned}
 use Rattle.zn_updates.proofs.Plans.{choice-by_tree}
 use Rattle.zn_view.specs.Deciding.{IfPlanned, IsToldByForm, is_by_tree}
-use Rattle.zn_updates.specs.Deciding.{decision_of, IfMakes, IsBySound, IsDelete, IsGuarded, IsOwnerLookedUp, IsOwnerPaths, on_keys, owner_seen}
+use Rattle.zn_updates.specs.Deciding.{decision_of, IfMakes, IsBounded, IsBySound, IsDelete, IsGuarded, IsOwnerLookedUp, IsOwnerPaths, on_keys, owner_seen}
 use Rattle.zn_updates.specs.KeysRead.{owner_nodes, delete_keys, IsOwnerSeen}
 use Rattle.zn_updates.specs.Making.{IsDataSeen, IsCountsSeen, IsPathsSeen}
 use Rattle.zn_updates.specs.Right.{IsRight}
@@ -303,16 +303,18 @@ module _ (p : Bytes) (version : ℤ) where
           (subst (λ (o : Option (Option Kv)). IsCountsSeen o is.2) (sym (near_sees v keys (CountsKey q) (inr (inr (inr (inr (inl refl))))))) is.6)
           (near_owner is.0 refl is.7)
 
-      few_paths : (y : SeenData) (ps : List Bytes) → is.0 ≡ Some y → int_eq y.owner (pos 0) ≡ false → is.3 ≡ Some ps → IsSessionRec ps × ((s : State) → IsSound s → IsOf v s → length ps ≤ max_owned)
+      few_paths : (y : SeenData) (ps : List Bytes) → is.0 ≡ Some y → int_eq y.owner (pos 0) ≡ false → is.3 ≡ Some ps → IsSessionRec ps × (IsBounded (req.Delete p version) v → length ps ≤ max_owned)
       few_paths y ps e owns es =
           let apart = not_owned y.owner owns in
           let seen_paths : IsPathsSeen (sees v (SessionKey (nat_abs y.owner))) (Some ps) =
           subst (λ (o : Option (List Bytes)). IsPathsSeen (sees v (SessionKey (nat_abs y.owner))) o) es (subst (λ (o : Option SeenData). IsOwnerPaths v o is.3) e is.7 apart) in
           let data_seen : IsDataSeen (sees v (DataKey p)) (Some y) = subst (IsDataSeen (sees v (DataKey p))) e is.4 in (
             paths-listed (sees v (SessionKey (nat_abs y.owner))) ps seen_paths,
-            λ s sound of.
+            λ bounded.
+                let s = bounded.0 in
+                let of = bounded.2 in
                 let shown = shows (pos 0) v of.0 s of.1 (told v of.0 (agrees-as_seen v of.0 of.2)) in
-                few_owned v s sound shown p y ps (get s.tree p) refl (data-shown (pos 0) v s shown p (Some y) data_seen) apart seen_paths,
+                few_owned v s bounded.1 shown p y ps (get s.tree p) refl (data-shown (pos 0) v s shown p (Some y) data_seen) apart seen_paths,
           )
 
       below_promised : IsToldByForm (req.Delete p version) d × IsBySound (req.Delete p version) who v d × IfPlanned (IsGuarded (req.Delete p version) who now v) d
@@ -320,7 +322,7 @@ module _ (p : Bytes) (version : ℤ) where
         by_form (req.Delete p version) (Delete p version) who v keys choice now delete_part chosen time real (delete_valid valid) d is.8,
         by_sound (req.Delete p version) (Delete p version) who v keys choice now delete_part chosen time real (delete_valid valid) d is.8,
         planned (req.Delete p version) (Delete p version) who v keys choice now delete_part chosen time real (delete_valid valid) d is.8 near (plan_keys who v q is.0 path below is.4) whole
-            (delete-made p q path below v version is.0 is.1 is.2 is.3 few_paths) (delete-new v p q who.session version is.0 is.1 is.2 is.3),
+            (delete-made p q path below (IsBounded (req.Delete p version) v) version is.0 is.1 is.2 is.3 few_paths) (delete-new v p q who.session version is.0 is.1 is.2 is.3),
       )
 
     orphan_promised : parent p ≡ None → d ≡ decision_of v (Refuse no_node) → IsToldByForm (req.Delete p version) d × IsBySound (req.Delete p version) who v d × IfPlanned (IsGuarded (req.Delete p version) who now v) d

@@ -35,7 +35,7 @@ use Rattle.zn_updates.specs.declared.seen.SeenCounts.{SeenCounts}
 use Rattle.zn_updates.specs.Choices.{Choice, set_data_choice}
 use Rattle.zn_updates.proofs.Plans.{choice-by_tree}
 use Rattle.zn_view.specs.Deciding.{IfPlanned, IsToldByForm, is_by_tree}
-use Rattle.zn_updates.specs.Deciding.{IfMakes, IsBySound, IsGuarded, IsSetData, on_keys}
+use Rattle.zn_updates.specs.Deciding.{IfMakes, IsBounded, IsBySound, IsGuarded, IsSetData, on_keys}
 use Rattle.zn_updates.specs.KeysRead.{set_data_keys}
 use Rattle.zn_updates.specs.Making.{IsDataSeen, IsCountsSeen}
 use Rattle.zn_updates.specs.Right.{IsRight}
@@ -149,7 +149,7 @@ module _ (p content : Bytes) (version : ℤ) where
 
     pub set_planned : IsWhole (req.SetData p content version) who v → IfPlanned (IsGuarded (req.SetData p content version) who now v) d
     set_planned whole = planned (req.SetData p content version) (SetData p content version) who v keys choice now set_part (set_chosen who v is.0 is.1 valid short is.2 is.3) time real (set_valid valid) d is.4
-        near (set_keys who v valid) whole (set_data-made v p content version is.0 is.1 now valid short) (set_data-new v p content version now who.session is.0 is.1)
+        near (set_keys who v valid) whole (set_data-made (IsBounded (req.SetData p content version) v) p content version is.0 is.1 now valid short) (set_data-new v p content version now who.session is.0 is.1)
 
 pub set_data-by_tree : (v : View) (p content : Bytes) (version : ℤ) (now : ℕ) (session : ℤ) (d : Decision) → IsSetData v p content version now session d → is_by_tree d ≡ true
 set_data-by_tree v p content version now session d is = choice-by_tree (on_keys v (set_data_keys p session)) (set_data_choice p content version now is.0 is.1) d is.4

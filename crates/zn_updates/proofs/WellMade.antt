@@ -14,7 +14,6 @@ use Rattle.zk_model.specs.Limits.{max_creates, max_frame, max_owned, max_version
 use Rattle.zk_model.specs.Paths.{is_path, parent}
 use Rattle.zk_model.specs.Single.{matches}
 use Rattle.zk_model.proofs.ValidPaths.{parent-valid}
-use Rattle.zk_service.specs.States.{State, IsSound}
 use Rattle.zn_layout.specs.declared.record.CountRec.{CountRec}
 use Rattle.zn_layout.specs.Begin.{new_record, first_counts}
 use Rattle.zn_layout.specs.Changes.{KeyChange, are_distinct, change_size, delete_key, head_put, put_key}
@@ -23,8 +22,6 @@ use Rattle.zn_layout.specs.Records.{counts_value, node_value, IsHeadRec, IsSessi
 use Rattle.zk_model.specs.Watches.{trigger_path}
 use Rattle.zn_layout.proofs.Paths.{path_short}
 use Rattle.zn_view.specs.Asks.{IsLeaseless}
-use Rattle.zn_view.specs.Seen.{View}
-use Rattle.zn_view.specs.Views.{IsOf}
 use Rattle.zn_view.proofs.Sizes.{counts-size, counts_value-size, data-size, node_value-size, session-size, session_value-size}
 use Rattle.zn_updates.specs.declared.seen.SeenData.{SeenData}
 use Rattle.zn_updates.specs.declared.seen.SeenCounts.{SeenCounts}
@@ -44,14 +41,14 @@ two_triggers t u valid also = record { count = omega arith; valid = All-cons (λ
 
 -- ---- changes
 
--- each key once and with no lease, and on a view of a sound state few and small ones
-pub record AreWellMade (v : View) (cs : List KeyChange) (ts : List Trigger) : Type 0 where
+-- each key once and with no lease, few ones, and under a premise small ones
+pub record AreWellMade (P : Type 0) (cs : List KeyChange) (ts : List Trigger) : Type 0 where
   pub once : are_distinct (cs ++ head_put ts ∷ []) ≡ true
   pub leases : All IsLeaseless cs
   pub triggers : IsHeadRec ts
   pub told : length ts ≤ 2
   pub few : length cs ≤ 8
-  pub small : (s : State) → IsSound s → IsOf v s → sum_by change_size cs ≤ 1400000
+  pub small : P → sum_by change_size cs ≤ 1400000
 
 pub changes_cond : (P : List KeyChange → List Trigger → Type 0) (b : Bool) (x y : Choice) → (b ≡ true → IfChanges P x) → (b ≡ false → IfChanges P y) → IfChanges P (cond b x y)
 changes_cond P true x y f g = f refl
@@ -59,18 +56,18 @@ changes_cond P false x y f g = g refl
 
 -- ---- setData
 
-pub set_data-made : (v : View) (p content : Bytes) (version : ℤ) (x : Option SeenData) (c : Option SeenCounts) (now : ℕ) → is_path p ≡ true → length content ≤ max_frame → IfChanges (AreWellMade v) (set_data_choice p content version now x c)
+pub set_data-made : (P : Type 0) (p content : Bytes) (version : ℤ) (x : Option SeenData) (c : Option SeenCounts) (now : ℕ) → is_path p ≡ true → length content ≤ max_frame → IfChanges (AreWellMade P) (set_data_choice p content version now x c)
 unfolding set_data_choice
-set_data-made v p content version None c now valid short = tt
-set_data-made v p content version (Some x) None now valid short = tt
-set_data-made v p content version (Some x) (Some c) now valid short =
-    changes_cond (AreWellMade v) (not (matches version x.version)) _ _ (λ _. tt) (λ _. changes_cond (AreWellMade v) (int_eq x.version max_version) _ _ (λ _. tt) (λ _. record {
+set_data-made P p content version None c now valid short = tt
+set_data-made P p content version (Some x) None now valid short = tt
+set_data-made P p content version (Some x) (Some c) now valid short =
+    changes_cond (AreWellMade P) (not (matches version x.version)) _ _ (λ _. tt) (λ _. changes_cond (AreWellMade P) (int_eq x.version max_version) _ _ (λ _. tt) (λ _. record {
       once = refl;
       leases = All-cons IsLeaseless (put_key (DataKey p) (node_value (set_record x content now))) [] refl (All-nil IsLeaseless);
       triggers = one_trigger (Changed p) valid;
       told = omega arith;
       few = omega arith;
-      small = λ s sound of. omega (arith, data-size p, path_short p valid, node_value-size (set_record x content now), short);
+      small = λ h. omega (arith, data-size p, path_short p valid, node_value-size (set_record x content now), short);
     }))
 
 -- ---- a node and its parent
@@ -89,7 +86,7 @@ module _ (p q : Bytes) (valid : is_path p ≡ true) (below : parent p ≡ Some q
   keys_short : (length p ≤ 1024) × (length q ≤ 1024)
   keys_short = (path_short p valid, path_short q parent-path)
 
-  module _ (v : View) where
+  module _ (P : Type 0) where
     -- ---- delete
 
     delete_leases : (above : CountRec) (more : List KeyChange) → All IsLeaseless more → All IsLeaseless (delete_changes p q above ++ more)
@@ -97,24 +94,24 @@ module _ (p q : Bytes) (valid : is_path p ≡ true) (below : parent p ≡ Some q
         (All-cons IsLeaseless (delete_key (CountsKey p)) (put_key (CountsKey q) (counts_value (one_less above)) ∷ more) tt
         (All-cons IsLeaseless (put_key (CountsKey q) (counts_value (one_less above))) more refl rest))
 
-    delete_plain : (above : CountRec) → AreWellMade v (delete_changes p q above) (delete_triggers p q)
+    delete_plain : (above : CountRec) → AreWellMade P (delete_changes p q above) (delete_triggers p q)
     delete_plain above = record {
       once = counts_once;
       leases = delete_leases above [] (All-nil IsLeaseless);
       triggers = two_triggers (Deleted p) (Children q) valid parent-path;
       told = omega arith;
       few = omega arith;
-      small = λ s sound of. omega (arith, data-size p, counts-size p, counts-size q, counts_value-size (one_less above), keys_short.0, keys_short.1);
+      small = λ h. omega (arith, data-size p, counts-size p, counts-size q, counts_value-size (one_less above), keys_short.0, keys_short.1);
     }
 
-    delete_from : (above : CountRec) (owner : ℤ) (ps : List Bytes) → IsSessionRec ps → ((s : State) → IsSound s → IsOf v s → length ps ≤ max_owned) → AreWellMade v (delete_changes p q above ++ put_owned owner (without p ps) ∷ []) (delete_triggers p q)
+    delete_from : (above : CountRec) (owner : ℤ) (ps : List Bytes) → IsSessionRec ps → (P → length ps ≤ max_owned) → AreWellMade P (delete_changes p q above ++ put_owned owner (without p ps) ∷ []) (delete_triggers p q)
     delete_from above owner ps listed few = record {
       once = counts_once;
       leases = delete_leases above (put_owned owner (without p ps) ∷ []) (All-cons IsLeaseless (put_owned owner (without p ps)) [] refl (All-nil IsLeaseless));
       triggers = two_triggers (Deleted p) (Children q) valid parent-path;
       told = omega arith;
       few = omega arith;
-      small = λ s sound of. omega (
+      small = λ h. omega (
         arith,
         data-size p,
         counts-size p,
@@ -123,28 +120,28 @@ module _ (p q : Bytes) (valid : is_path p ≡ true) (below : parent p ≡ Some q
         session-size (nat_abs owner),
         session_value-size (without p ps) (without-within p ps listed).valid,
         without-length p ps,
-        few s sound of,
+        few h,
         keys_short.0,
         keys_short.1,
       );
     }
 
     pub delete-made : (version : ℤ) (x : Option SeenData) (c a : Option SeenCounts) (paths : Option (List Bytes))
-        → ((y : SeenData) (ps : List Bytes) → x ≡ Some y → int_eq y.owner (pos 0) ≡ false → paths ≡ Some ps → IsSessionRec ps × ((s : State) → IsSound s → IsOf v s → length ps ≤ max_owned))
-        → IfChanges (AreWellMade v) (delete_choice p q version x c a paths)
+        → ((y : SeenData) (ps : List Bytes) → x ≡ Some y → int_eq y.owner (pos 0) ≡ false → paths ≡ Some ps → IsSessionRec ps × (P → length ps ≤ max_owned))
+        → IfChanges (AreWellMade P) (delete_choice p q version x c a paths)
     unfolding delete_choice
     delete-made version None c a paths few = tt
     delete-made version (Some x) None a paths few = tt
     delete-made version (Some x) (Some c) a paths few =
-        changes_cond (AreWellMade v) (not (matches version x.version)) _ _ (λ _. tt) (λ _. changes_cond (AreWellMade v) (not (int_eq c.counts.children (pos 0))) _ _ (λ _. tt) (λ _. here a))
+        changes_cond (AreWellMade P) (not (matches version x.version)) _ _ (λ _. tt) (λ _. changes_cond (AreWellMade P) (not (int_eq c.counts.children (pos 0))) _ _ (λ _. tt) (λ _. here a))
       where
-        owned_by : int_eq x.owner (pos 0) ≡ false → (o : Option (List Bytes)) → paths ≡ o → (above : SeenCounts) → IfChanges (AreWellMade v) (delete_owned p q above.counts x.owner o)
+        owned_by : int_eq x.owner (pos 0) ≡ false → (o : Option (List Bytes)) → paths ≡ o → (above : SeenCounts) → IfChanges (AreWellMade P) (delete_owned p q above.counts x.owner o)
         owned_by owns None e above = tt
         owned_by owns (Some ps) e above = let listed = few x ps refl owns e in delete_from above.counts x.owner ps listed.0 listed.1
 
-        here : (o : Option SeenCounts) → IfChanges (AreWellMade v) (delete_here p q x o paths)
+        here : (o : Option SeenCounts) → IfChanges (AreWellMade P) (delete_here p q x o paths)
         here None = tt
-        here (Some above) = changes_cond (AreWellMade v) (int_eq x.owner (pos 0)) _ _ (λ _. delete_plain above.counts) (λ owns. owned_by owns paths refl above)
+        here (Some above) = changes_cond (AreWellMade P) (int_eq x.owner (pos 0)) _ _ (λ _. delete_plain above.counts) (λ owns. owned_by owns paths refl above)
 
     -- ---- create
 
@@ -154,14 +151,14 @@ module _ (p q : Bytes) (valid : is_path p ≡ true) (below : parent p ≡ Some q
           (All-cons IsLeaseless (put_key (CountsKey p) (counts_value first_counts)) (put_key (CountsKey q) (counts_value (one_more above)) ∷ more) refl
           (All-cons IsLeaseless (put_key (CountsKey q) (counts_value (one_more above))) more refl rest))
 
-      create_plain : (above : CountRec) → AreWellMade v (create_changes p q content now (pos 0) above) (create_triggers p q)
+      create_plain : (above : CountRec) → AreWellMade P (create_changes p q content now (pos 0) above) (create_triggers p q)
       create_plain above = record {
         once = counts_once;
         leases = create_leases (pos 0) above [] (All-nil IsLeaseless);
         triggers = two_triggers (Created p) (Children q) valid parent-path;
         told = omega arith;
         few = omega arith;
-        small = λ s sound of. omega (
+        small = λ h. omega (
           arith,
           data-size p,
           counts-size p,
@@ -175,14 +172,14 @@ module _ (p q : Bytes) (valid : is_path p ≡ true) (below : parent p ≡ Some q
         );
       }
 
-      create_among : (above : CountRec) (session : ℤ) (ps : List Bytes) → IsSessionRec ps → length ps < 40 → AreWellMade v (create_changes p q content now session above ++ put_owned session (placed p ps) ∷ []) (create_triggers p q)
+      create_among : (above : CountRec) (session : ℤ) (ps : List Bytes) → IsSessionRec ps → length ps < 40 → AreWellMade P (create_changes p q content now session above ++ put_owned session (placed p ps) ∷ []) (create_triggers p q)
       create_among above session ps listed few = record {
         once = counts_once;
         leases = create_leases session above (put_owned session (placed p ps) ∷ []) (All-cons IsLeaseless (put_owned session (placed p ps)) [] refl (All-nil IsLeaseless));
         triggers = two_triggers (Created p) (Children q) valid parent-path;
         told = omega arith;
         few = omega arith;
-        small = λ s sound of. omega (
+        small = λ h. omega (
           arith,
           data-size p,
           counts-size p,
@@ -200,20 +197,20 @@ module _ (p q : Bytes) (valid : is_path p ≡ true) (below : parent p ≡ Some q
         );
       }
 
-      create_for : (above : CountRec) (session : ℤ) (paths : Option (List Bytes)) → ((ps : List Bytes) → paths ≡ Some ps → IsSessionRec ps) → IfChanges (AreWellMade v) (create_owned p q content now above session paths)
+      create_for : (above : CountRec) (session : ℤ) (paths : Option (List Bytes)) → ((ps : List Bytes) → paths ≡ Some ps → IsSessionRec ps) → IfChanges (AreWellMade P) (create_owned p q content now above session paths)
       create_for above session None listed = tt
-      create_for above session (Some ps) listed = changes_cond (AreWellMade v) (nat_le max_owned (length ps)) _ _ (λ _. tt) (λ e. create_among above session ps (listed ps refl) (leb-false max_owned (length ps) e))
+      create_for above session (Some ps) listed = changes_cond (AreWellMade P) (nat_le max_owned (length ps)) _ _ (λ _. tt) (λ e. create_among above session ps (listed ps refl) (leb-false max_owned (length ps) e))
 
       pub create-made : (ephemeral : Bool) (session : ℤ) (x : Option SeenData) (c : Option SeenCounts) (taken : Bool) (paths : Option (List Bytes)) → (ephemeral ≡ true → (ps : List Bytes) → paths ≡ Some ps → IsSessionRec ps)
-          → IfChanges (AreWellMade v) (create_choice p q content now ephemeral session x c taken paths)
+          → IfChanges (AreWellMade P) (create_choice p q content now ephemeral session x c taken paths)
       unfolding create_choice
       create-made ephemeral session None c taken paths listed = tt
       create-made ephemeral session (Some x) None taken paths listed = tt
       create-made ephemeral session (Some x) (Some c) true paths listed = tt
       create-made ephemeral session (Some x) (Some c) false paths listed =
-          changes_cond (AreWellMade v) (not (int_eq x.owner (pos 0))) _ _ (λ _. tt)
-          (λ _. changes_cond (AreWellMade v) (int_eq c.counts.creates max_creates) _ _ (λ _. tt)
-          (λ _. changes_cond (AreWellMade v) ephemeral _ _ (λ e. create_for c.counts session paths (listed e)) (λ _. create_plain c.counts)))
+          changes_cond (AreWellMade P) (not (int_eq x.owner (pos 0))) _ _ (λ _. tt)
+          (λ _. changes_cond (AreWellMade P) (int_eq c.counts.creates max_creates) _ _ (λ _. tt)
+          (λ _. changes_cond (AreWellMade P) ephemeral _ _ (λ e. create_for c.counts session paths (listed e)) (λ _. create_plain c.counts)))
 
 -- the paths of a session's nodes that were seen
 pub paths-listed : (o : Option (Option Kv)) (ps : List Bytes) → IsPathsSeen o (Some ps) → IsSessionRec ps

@@ -171,7 +171,7 @@ module _ (path content : Bytes) (acl : List Acl) (flags : ℤ) where
         commits = λ attached. (plan-asked who now v p (g.commits attached).0, asked-with_stat stat who v p (g.commits attached).1);
         reads = reads-asked who v stat p g.reads;
         writes = once-with_stat stat p g.writes;
-        taken = λ s sound of. taken-with_stat stat p (g.taken s sound of);
+        taken = λ bounded. taken-with_stat stat p (g.taken bounded);
         keepable = keepable-with_stat stat v p (update_path plainly) g.keepable;
       }
 

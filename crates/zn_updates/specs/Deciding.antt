@@ -65,15 +65,27 @@ abbrev pub IsBySound : Request → Who → View → Decision → Type 0
 IsBySound r who v d = plain_request no_watches r ≡ None → (s : State) → IsSound s → IsOf v s → (x : Session) → session_at who.session s ≡ Some x
     → IsByTree r d (tree_reply s.tree (limit_of x) who.session no_watches r)
 
+-- where the plan of an update is small: of a create on any view, of any other update on a view of a sound state
+abbrev pub IsBounded : Request → View → Type 0
+IsBounded (req.Create p d a f) v = Unit {0}
+IsBounded (req.Create2 p d a f) v = Unit {0}
+IsBounded r v = (s : State) × IsSound s × IsOf v s
+
 -- Where the connection is attached, the plan carries the update out and may be asked. Attached or not, it guards what the request
--- reads and writes each key once; on a view of a sound state an etcd takes it; and what it leaves of the view may be kept for the
--- next request of its path.
+-- reads and writes each key once; an etcd takes it, of a create on any view and of any other update on a view of a sound state; and
+-- what it leaves of the view may be kept for the next request of its path.
 pub record IsGuarded (r : Request) (who : Who) (now : ℕ) (v : View) (p : Plan) : Type 0 where
   pub commits : IsAttached who v → IsPlan r who now v p (λ z. finished z p.draft) × IsAskedPlan who v p
   pub reads : GuardsReads r who v p
   pub writes : WritesOnce p
-  pub taken : (s : State) → IsSound s → IsOf v s → IsTaken p
+  pub taken : IsBounded r v → IsTaken p
   pub keepable : IsKeepable r v p
+
+-- an etcd takes the plan of a create, whatever view it was made on; of other updates nothing is said
+abbrev pub IsTakenIfCreate : Request → Plan → Type 0
+IsTakenIfCreate (req.Create p d a f) plan = IsTaken plan
+IsTakenIfCreate (req.Create2 p d a f) plan = IsTaken plan
+IsTakenIfCreate _ plan = Unit {0}
 
 -- ---- what the code chose on
 

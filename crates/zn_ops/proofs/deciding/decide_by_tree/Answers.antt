@@ -1,10 +1,11 @@
 -- What is no update is a read.
 use Rattle.std.proofs.Common.{◌∙◌, sym}
 use Rattle.zn_ops.proofs.SingleRequests.{read-otherwise}
-use Rattle.zn_ops.proofs.SessionTests.{read-by_tree, read-decided, read-planned, update-decided, update-keepable, update-once, update-planned}
+use Rattle.zn_ops.proofs.SessionTests.{read-by_tree, read-decided, read-planned, update-created, update-decided, update-keepable, update-once, update-planned}
 use Rattle.zn_view.specs.Asks.{WritesOnce}
 use Rattle.zn_view.specs.Deciding.{IsGood}
 use Rattle.zn_view.specs.Keeping.{IsKeepable}
+use Rattle.zn_updates.specs.Deciding.{IsTakenIfCreate}
 use Rattle.zn_updates.specs.Writing.{WritesAs}
 use Rattle.zn_ops.proofs.deciding.decide_by_tree.Goals as goal
 
@@ -28,6 +29,12 @@ returns-then-is_update-clause-once c = update-once c.args.request.now c.args.who
 
 pub returns-clause-once : goal.returns-clause-once
 returns-clause-once c = read-planned WritesOnce _ c.in_ok-decide_read.ensures.answered
+
+pub returns-then-is_update-clause-created : goal.returns-then-is_update-clause-created
+returns-then-is_update-clause-created c = update-created c.args.request.now c.args.who c.args.now c.args.view.now _ c.in_ok-decide_update.ensures.plan
+
+pub returns-clause-created : goal.returns-clause-created
+returns-clause-created c = read-planned (IsTakenIfCreate c.args.request.now) _ c.in_ok-decide_read.ensures.answered
 
 pub returns-then-is_update-clause-keepable : goal.returns-then-is_update-clause-keepable
 returns-then-is_update-clause-keepable c = update-keepable c.args.request.now c.args.who c.args.now c.args.view.now _ c.in_ok-decide_update.ensures.plan
