@@ -1,20 +1,20 @@
-//! Tries the rows of the file `rows` on one connection over streams in memory, and says on standard error where a row differs.
+//! Tries the rows of the file `rows` on one connection over streams in memory, and reports on standard error which rows differ.
 //!
-//! The link is to a store of its own, on which the tree was begun at moment 0; the feed is a reader of an open hub, without entries
-//! where no row says other; the clock stands at 1,000; a new session gets the number 17 and a password of 16 bytes aa. Bytes are in
+//! The link is to a store of its own, on which the tree was begun at time 0. The feed is a reader of an open hub, without entries
+//! unless the row gives some. The clock stands at 1,000. A new session gets the number 17 and a password of 16 bytes aa. Bytes are in
 //! hex. A row is LEFT = RIGHT:
 //!
 //! | Left side | Right side |
 //! |---|---|
-//! | `serve PIECE BYTES` | why the connection ended, as in a transcript's `close` line, and all that it wrote, where these bytes came in pieces of PIECE bytes, or as many as fit where PIECE is 0 |
+//! | `serve PIECE BYTES` | why the connection ended, as in a transcript's `close` line, and all that it wrote, if these bytes come in pieces of PIECE bytes (0: as many as fit) |
 //! | `alone PIECE BYTES` | the same, by the call that begins the tree of an etcd of its own |
-//! | `closed PIECE BYTES` | as `serve`, where the feed was closed before and the client is idle for a turn after its pieces |
-//! | `fed FIRST COUNT RECORD PIECE BYTES` | the same, where the feed has COUNT entries, the first with the number after FIRST, each by RECORD, the value of the head |
+//! | `closed PIECE BYTES` | as `serve`, with a feed that was closed before, and a client that is idle for a turn after its pieces |
+//! | `fed FIRST COUNT RECORD PIECE BYTES` | the same, with COUNT entries in the feed: the first has the number after FIRST, and each is made from RECORD, a value of the head |
 //! | `trace PIECE BYTES` | what a trace was told: the time and the kind of each input, and the length of each packet |
-//! | `ticks STEP PIECE BYTES` | the same, where the clock goes on by STEP milliseconds with each reading |
-//! | `fail WHAT PIECE BYTES` | the same stream is served again and again; each time the next call of WHAT fails, `reads` of the source, `writes` of the sink or `calls` of the link, until one run ends as without a failure. The cause of the runs before and their number; and how many whole packets were written, from which run on. Each wrote a front of what is written without a failure |
-//! | `cut PIECE BYTES` | the same, where the stream is cut before each of its bytes, and at its end |
-//! | `follow NUMBER LINE ..` | what a follower from this number answers to these lines: `head VERSION VALUE` and `other VERSION VALUE` put the head, and another key; `created`, `compacted` (up to revision 9) and `ended`. Of an entry, its number, its zxid and how many triggers it has |
+//! | `ticks STEP PIECE BYTES` | the same, with a clock that goes on by STEP milliseconds at each reading |
+//! | `fail WHAT PIECE BYTES` | the same stream is served again and again. In each run a later call of WHAT fails (`reads` of the source, `writes` of the sink or `calls` of the link), until a run ends as it does without a failure. The cause of the runs before it and their number; and how many whole packets were written, from which run on. Each run has to write a front of what is written without a failure |
+//! | `cut PIECE BYTES` | the same, with the stream cut before each of its bytes in turn, and at its end |
+//! | `follow NUMBER LINE ..` | what a follower from this number answers to these lines: `head VERSION VALUE` and `other VERSION VALUE` put the head, and another key; the others are `created`, `compacted` (up to revision 9) and `ended`. An entry is shown as its number, its zxid and how many triggers it has |
 //!
 //! `conn_rows time COUNT` serves COUNT pings and then COUNT getDatas that come together, and prints the microseconds of each.
 //! `bench/conn.sh` makes a table of it.

@@ -1,10 +1,10 @@
-//! Tries the etcd in memory over the loopback. A client's link carries out a transaction, the first of the store, and a watch on
-//! another connection, which has waited for some seconds, is told of it. These two are the server's last, so it listens no more. Then
-//! the client goes, the watch is ended, and the server has served its two connections. Nothing is written where all went so; otherwise
-//! standard error says what did not, and the status is 1.
+//! Tries the etcd in memory over the loopback. One connection watches for some seconds. Then a client on another carries out the
+//! store's first transaction, and the watch has to be told of it. These two connections are the server's last, so it has to stop
+//! listening, to end the watch once the client has gone, and then to end itself. If all went so, nothing is written; otherwise standard
+//! error says what did not, and the status is 1.
 //!
-//! `etcd_loopback HOST:PORT` asks the etcd there, over one link, what the lines of standard input spell, each a route, a blank and a
-//! body, and writes its answers as the link reads them, a line each. `bench/etcd.sh` compares a real etcd's with those of `zetcd etcd`.
+//! `etcd_loopback HOST:PORT` asks the etcd there instead, over one link. Each line of standard input is an ask: a route, a blank and a
+//! body. The answers are written as the link reads them, a line each. `bench/etcd.sh` compares a real etcd with `zetcd etcd` so.
 #![tactic(auto)]
 
 mod asking;

@@ -1,20 +1,20 @@
-//! Runs zetcd's commands on worked examples, and compares what they write, and their status, with what each example says.
+//! Runs zetcd's commands on worked examples, and compares their output and status with what each example expects.
 //!
 //! The examples are files of `data/examples`, so a new one needs no proof:
 //!
 //! - `replay/NAME.script` with `NAME.transcript`, `show/NAME.stream` with `NAME.lines`, and `judge/NAME.transcript` with
-//!   `NAME.verdict`: an input and all that is written of it, with `NAME.status` where the status is not 0. The input is handed over
-//!   whole and in pieces of several sizes.
+//!   `NAME.verdict`: an input and its whole output, with `NAME.status` if the status is not 0. The input is handed over whole, and
+//!   in pieces of several sizes.
 //! - `stories/NAME.script` with `NAME.transcript`, as in `replay`, and both in words ([`zt_story`]): `NAME.transcript.words`, and
-//!   `NAME.script.words`, from which the same script is made. Their lines that begin with `#` are for the reader.
-//! - `runs/NAME.run`: a run of its own, with other words, faults, idle turns, or an input that is too long for a file and is made by
-//!   a rule ([`Run`](crate::run::Run) has its lines).
+//!   `NAME.script.words`, which has to make the same script. Lines that begin with `#` are for the reader.
+//! - `runs/NAME.run`: any other run, with other words, faults, idle turns, or an input that is too long for a file and is made by a
+//!   rule ([`Run`](crate::run::Run) has its lines).
 //!
-//! The transcript of each script is judged too, and so is that of each run of a whole script: all of them are lawful. `count` says
-//! how many comparisons there are, so that none gets lost.
+//! The transcript of each script, and of each run of a whole script, has to be judged lawful too. `count` is how many comparisons
+//! there are, so that none gets lost.
 //!
-//! Nothing is written to standard output. What differs is told on standard error, and the status is then 1; `serve` says faults of
-//! its etcd there too.
+//! Nothing is written to standard output. Standard error has what differs, and then the status is 1; `serve` names faults of its etcd
+//! there too.
 #![tactic(auto)]
 
 mod compare;

@@ -1,12 +1,12 @@
-//! Tries the rows of the file `rows` on a link over several endpoints, and says on standard error where a row differs.
+//! Tries the rows of the file `rows` on a link over several endpoints, and reports on standard error which rows differ.
 //!
-//! A row is LEFT = RIGHT. Its right side is by hand from the rule: an ask that only reads is tried at each endpoint until one answers;
-//! any other goes on to the next only where it was not sent.
+//! A row is LEFT = RIGHT. The right side was worked out by hand from the rule: an ask that only reads is tried at each endpoint until
+//! one answers; any other goes on to the next endpoint only if it was not sent.
 //!
 //! | Left side | Right side |
 //! |---|---|
-//! | `mem SIZE UNSENT FAILING ASK ..` | what these asks came to, one after the other, over so many endpoints of one new store: `ok` with the revision, `failed` or `memory`, and then each try, as its endpoint's number with `ok`, `unsent`, `failed` or `memory`; at last `next` and the endpoint that is asked next. UNSENT and FAILING are the numbers, from 1, of the calls that are not sent and of those that fail, with commas, `-` for none |
-//! | `dial LIST ASK ..` | the same over addresses that are dialled; and `dialled` with each address that was, in turn. An address that begins with `u` answers three asks for the head, one with `e` ends its stream at once, and others cannot be dialled. Where LIST is `-` no address is named |
+//! | `mem SIZE UNSENT FAILING ASK ..` | what came of these asks, one after the other, over SIZE endpoints of one new store: `ok` with the revision, `failed` or `memory`, and then each try, as its endpoint's number with `ok`, `unsent`, `failed` or `memory`; at last `next` and the endpoint that is asked next. UNSENT and FAILING list the calls that are not sent, and the calls that fail, by their numbers from 1, with commas; `-` for none |
+//! | `dial LIST ASK ..` | the same over addresses that are dialled, and `dialled` with each address that was dialled, in order. An address that begins with `u` answers three asks for the head, one that begins with `e` ends its stream at once, and any other cannot be dialled. If LIST is `-`, no address is named |
 //! | `after LIST NUMBER` | the number of the address that is dialled after the one with this number, both from 0 |
 //!
 //! An ask is `head` (a transaction that reads one key), `begin` (the first transaction of a new store), `range`, `alive`, `grant`, or

@@ -1,18 +1,18 @@
-//! Tries the rows of the file `rows` on the gateway of an etcd in memory and on a link over HTTP, and says on standard error where a
-//! row differs.
+//! Tries the rows of the file `rows` on the gateway of an etcd in memory and on a link over HTTP, and reports on standard error which
+//! rows differ.
 //!
-//! A row is LEFT = RIGHT; in both, `\r` and `\n` stand for those bytes. Texts are by hand from etcd's API reference, RFC 9112 and
-//! RFC 4648.
+//! A row is LEFT = RIGHT; in both, `\r` and `\n` stand for those bytes. The texts were written by hand from etcd's API reference,
+//! RFC 9112 and RFC 4648.
 //!
 //! | Left side | Right side |
 //! |---|---|
-//! | `gateway LIMIT STEP BYTES` | how the gateway ended, and what it sent, where these bytes came to it; its store is new and closed, so that no watch waits, and its clock goes STEP milliseconds further at each reading |
+//! | `gateway LIMIT STEP BYTES` | how the gateway ended, and what it sent, given these bytes. Its store is new and closed, so that no watch waits, and its clock goes STEP milliseconds further at each reading |
 //! | `compacted FLOOR BYTES` | the same, of a store in which the key `a` was put at the revisions 2, 3 and 4, and which was then compacted to revision FLOOR |
 //! | `open BYTES` | the same of a new store that is open, whose client is gone once it has sent these bytes |
-//! | `link CALLS BYTES` | what so many calls of a link came to that asked for the key `zk/head`, where these bytes came to it; then why it failed, with the status where it was one, or `open` |
-//! | `dial FAILING CALLS BYTES` | the same of a link that dials, where its first connection gives these bytes and each later one none, and the dial with the number FAILING fails, 0 for none; `anew`; what one more call came to, after it was told its address anew; `end` |
-//! | `named ADDRESS BYTES` | what two calls of a link that dials came to where only this address can be dialled, which gives these bytes: one before it was told an address; `anew`; and one after it was told `x`; `end` |
-//! | `lease STEP SECONDS BEFORE AFTER` | of a lease of so many seconds that a store had before it was shared: the seconds that two keepalives are answered over a link to it, one after BEFORE asks of another lease and one after AFTER more; the clock goes STEP milliseconds further at each ask |
+//! | `link CALLS BYTES` | what came of CALLS calls of a link that asked for the key `zk/head` and was given these bytes; then why it failed (with the status, if it was one), or `open` |
+//! | `dial FAILING CALLS BYTES` | the same of a link that dials. Its first connection gives these bytes and each later one none, and the dial with the number FAILING fails, 0 for none. Then `anew`, what came of one more call after the link was told its address anew, and `end` |
+//! | `named ADDRESS BYTES` | what came of two calls of a link that dials, if only this address can be dialled, which gives these bytes: one before it was told an address; `anew`; one after it was told `x`; `end` |
+//! | `lease STEP SECONDS BEFORE AFTER` | for a lease of SECONDS seconds that the store had before it was shared: the seconds in the answers to two keepalives over a link, one after BEFORE asks of another lease and one after AFTER more. The clock goes STEP milliseconds further at each ask |
 #![tactic(auto)]
 
 mod calls;

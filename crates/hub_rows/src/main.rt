@@ -6,12 +6,12 @@
 //! | `publish COUNT` | COUNT entries are published |
 //! | `close END` | the hub is closed: `compacted REV`, `gap EXPECTED FOUND`, `no line` or `memory` |
 //! | `next CURSOR` | the reader reads at this cursor |
-//! | `orphan` | a reader reads whose hub published two entries, was closed and is gone: at 0, at 1 and at 2; and at 2 once the keeper is gone too |
+//! | `orphan` | a hub publishes two entries, is closed and is gone; then its reader reads at 0, at 1 and at 2, and at 2 again once the keeper is gone too |
 //! | `race READERS COUNT` | READERS threads read what another publishes, COUNT entries, until it closes |
-//! | `lock READERS COUNT` | so do they through a ring under one lock, which hubs are compared with |
+//! | `lock READERS COUNT` | the same through a ring under one lock, with which hubs are compared |
 //!
-//! In a race each reader takes every entry once and in order, or is told that it lagged and goes on at the floor. Where all
-//! goes well, the same is written whatever the schedule.
+//! In a race each reader takes every entry once and in order, or is told that it lagged and goes on at the floor. If all goes well,
+//! the output is the same whatever the schedule.
 //!
 //! `hub_rows time COUNT` publishes COUNT entries to 1, 8 and 64 readers, through a hub and through a ring under one lock, and
 //! writes of each: `hub` or `lock`, how many readers and entries, the microseconds from the first publish to the last and to the

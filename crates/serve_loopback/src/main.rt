@@ -1,19 +1,19 @@
-//! Tries the rows of the file `rows` on `serve` and on the follower of its watch worker, and says on standard error where a row
-//! differs. Faults of an etcd are told there too, as `serve` and the follower tell them.
+//! Tries the rows of the file `rows` on `serve` and on the follower of its watch worker, and reports on standard error which rows
+//! differ. Faults of an etcd are there too, as `serve` and the follower write them.
 //!
 //! A row is LEFT = RIGHT:
 //!
 //! | Left side | Right side |
 //! |---|---|
-//! | `follow FROM` | the end of a follower whose dials give streams without a byte, where the word to stop is set from its reading number FROM on |
-//! | `follow FROM LINE` | the same, where the first dial gives a watch's stream of this one line |
+//! | `follow FROM` | the end of a follower whose dials give streams without a byte. The word to stop is set from reading number FROM on |
+//! | `follow FROM LINE` | the same, with a first dial that gives a watch's stream of this one line |
 //! | `memory CALL LIMIT` | the end of a server over a net in memory, whose clients end at once and whose dials give streams without a byte, and over an etcd in memory whose call number CALL fails, 0 for none; then the first and the last line that it wrote |
-//! | `line LINE` | the end of a server over the loopback whose etcd is new, and after the first ask, which makes the root, gives this line to each who asks, and to which nobody connects; then `listening`, where that is its first line, and its other lines in order |
-//! | `late LINE` | the same of a server of one client, which connects and sends nothing, where the etcd gives the line once a worker serves it |
-//! | `gone 2` | the same of a server whose etcd is gone after the first ask, and to which two clients connect, one after the other |
-//! | `play SERVER \| SERVER ..` | as `two`, of servers that run one after the other on one etcd. A SERVER is `LIMIT WORD ..: STEP; STEP; ..`: how many clients it serves, its random words, and what is done. After the lines, for each client: the session and the password of its welcome in hex, and how many packets it received |
+//! | `line LINE` | the end of a server over the loopback to which nobody connects. Its etcd is new; after the first ask, which makes the root, it gives this line to everybody who asks. Then `listening`, if that is the server's first line, and its other lines in order |
+//! | `late LINE` | the same for a server of one client, which connects and sends nothing; the etcd gives the line once a worker serves it |
+//! | `gone 2` | the same for a server whose etcd is gone after the first ask, and to which two clients connect, one after the other |
+//! | `play SERVER \| SERVER ..` | as `two`, for servers that run one after the other on one etcd. A SERVER is `LIMIT WORD ..: STEP; STEP; ..`: how many clients it serves, its random words, and the steps. After the lines comes, for each client, the session and the password of its welcome in hex, and how many packets it received |
 //! | `turn FRAME ..` | as `two`, but the second client connects once the stream of the first has ended, and the gate holds nobody |
-//! | `two FRAME ..` | the end of a server over the loopback with an etcd in memory in the same process, where two clients each send these frames, in hex and without their lengths; then `listening`, where that is its first line, and its other lines in order. `alone`, where the worker of connection 1, which the gate holds until that of connection 2 has passed, has waited in vain. `no gate`, where they did not come to the gate once each. `other bytes`, where what a connection says that it sent is not what its client received |
+//! | `two FRAME ..` | the end of a server over the loopback, with an etcd in memory in the same process, to which two clients each send these frames, in hex and without their lengths; then `listening`, if that is its first line, and its other lines in order. `alone` if the worker of connection 1 waited in vain at the gate, which holds it until the worker of connection 2 has passed. `no gate` if each worker did not come to the gate exactly once. `other bytes` if a connection says that it sent something else than its client received |
 //!
 //! A STEP is one of these, where C is the number of a client. One that has no stream yet connects first:
 //!
@@ -25,7 +25,8 @@
 //! | `C cut` | it cuts its stream |
 //! | `shut` | somebody tries to connect until nobody listens |
 //!
-//! No wait is without an end: what does not come in some half a minute of idle time is said in place of the right side.
+//! Every wait has an end: if something does not come within some half a minute of idle time, that is reported in place of the right
+//! side.
 #![tactic(auto)]
 
 mod clients;

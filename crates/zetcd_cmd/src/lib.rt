@@ -1,10 +1,13 @@
-//! The top call: [`zetcd`] is the whole program as a function. It is given the words of the command line, a source and a sink,
-//! and returns a [`Status`]. `etcd` and `serve` listen by the net that they are given; [`plain`] is the part for all other commands.
+//! The top call: [`zetcd`] is the whole program as a function. It takes the words of the command line, a source, a sink, and what
+//! `etcd` and `serve` need besides (a net, an etcd to ask, threads, a clock, random words), and returns a [`Status`]. [`plain`] is the
+//! part for the commands that need no net.
 //!
-//! The program `zetcd` hands it the real ones, and ends the process with the status's number. Nothing is written to standard
-//! error but what `serve` says there of faults of the etcd. `specs/Outcomes.antt` says what each status means; it cites `Replayed`
-//! and `Claims` for a replay and `Judged` for a judgement. `specs/Serving.antt` says it of `etcd`, and `specs/Proxying.antt` of
-//! `serve`. The other files of `specs/` are the contracts between the parts.
+//! The program `zetcd` hands it the process's own, and ends with the status's number. Only `serve` and `etcd` write to standard error:
+//! faults, and the session of each connection.
+//!
+//! `specs/Outcomes.antt` says what each status means; for `replay` it cites `Replayed` and `Claims`, for `judge` `Judged`.
+//! `specs/Serving.antt` says the same for `etcd`, `specs/Proxying.antt` for `serve`. The other files of `specs/` are contracts between
+//! the parts.
 #![tactic(auto)]
 
 mod command;
