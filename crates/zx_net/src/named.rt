@@ -45,6 +45,10 @@ impl<S: Source> Source for Named<S> {
     fn read(&mut self, buf: &mut [u8]) -> Got {
         self.inner.read(buf)
     }
+
+    fn read_line(&mut self, buf: &mut [u8]) -> Got {
+        self.inner.read_line(buf)
+    }
 }
 
 impl<S: Source> Wakes for Named<S> {

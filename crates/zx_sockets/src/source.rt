@@ -1,7 +1,7 @@
 //! What comes from a peer over TCP.
 
-ghost use Rattle.std.specs.Prelude.{◌≡◌, ◌≤◌, ◌<◌, true, false, None, length, vec_len, IfOk};
-ghost use Rattle.zx_outside.specs.Reading.{EndsForGood, FitsBuffer, counts_after_read};
+ghost use Rattle.std.specs.Prelude.{◌≡◌, ◌≤◌, ◌<◌, ◌-◌, true, false, None, length, take, vec_len, IfOk};
+ghost use Rattle.zx_outside.specs.Reading.{EndsForGood, FitsBuffer, HasNoFeed, counts_after_read};
 ghost use Rattle.zx_outside.specs.declared.source.Got.TheVariants.{Failed as GotFailed};
 ghost use Rattle.zx_sockets.specs.Refilling.{Refilled};
 ghost use Rattle.zx_sockets.specs.Silence.{IsPatience, IsPatienceOf};
@@ -141,6 +141,22 @@ fn note(ear: &mut Option<Ear>, is_drained: bool) {
     }
 }
 
+/// Copies the bytes to the front of a buffer, up to the first line feed, which is copied too; how many.
+fn copy_line(buf: &mut [u8], bytes: &[u8]) -> usize
+    requires some { 0 < length bytes.now }
+    requires room { length bytes.now ≤ length buf.old }
+    ensures some { 0 < result }
+    ensures within { result ≤ length bytes.now }
+    ensures feed { HasNoFeed (take (result - 1) buf.new) }
+{
+    let count = match bytes.iter().position(|byte| *byte == b'\n') {
+        Some(at) => at + 1,
+        None => bytes.len(),
+    };
+    buf[..count].copy_from_slice(&bytes[..count]);
+    count
+}
+
 impl<R: SystemClock + Copy> SocketSource<R> {
     /// The source end of this stream, under a name. A peer that says nothing for too long is a fault.
     pub fn new(
@@ -270,7 +286,7 @@ impl<R: SystemClock + Copy> SocketSource<R> {
 
 impl<R: SystemClock + Copy> Source for SocketSource<R> {
     ghost use Rattle.std.specs.Prelude.{◌≡◌, ◌<◌, length, None};
-    ghost use Rattle.zx_outside.specs.Reading.{FitsBuffer, Reads, EndsForGood, counts_after_read};
+    ghost use Rattle.zx_outside.specs.Reading.{FitsBuffer, Reads, EndsForGood, StopsAtFeed, counts_after_read};
 
     ghost given = { λ _. None };
 
@@ -299,6 +315,28 @@ impl<R: SystemClock + Copy> Source for SocketSource<R> {
         let count = buf.len().min(self.end - self.at);
         let from = self.at;
         buf[..count].copy_from_slice(&self.room.as_slice()[from..from + count]);
+        self.at += count;
+        Got::Bytes(count)
+    }
+
+    fn read_line(&mut self, buf: &mut [u8]) -> Got
+        requires { 0 < length buf.old }
+        ensures size { FitsBuffer result (length buf.new) }
+        ensures bytes { Reads result buf.new None None None None }
+        ensures feed { StopsAtFeed result buf.new }
+        ensures counts { record { faults = self.new.faults; idles = self.new.idles } ≡ counts_after_read result (record { faults = self.old.faults; idles = self.old.idles }) }
+        ensures end { EndsForGood result self.old.ended self.new.ended }
+        ensures named { self.new.name ≡ self.old.name }
+    {
+        if self.at == self.end {
+            match self.refill() {
+                Got::Bytes(_) => {}
+                other => return other,
+            }
+        }
+        let most = buf.len().min(self.end - self.at);
+        let from = self.at;
+        let count = copy_line(buf, &self.room.as_slice()[from..from + most]);
         self.at += count;
         Got::Bytes(count)
     }
