@@ -78,6 +78,8 @@ impl Net for Hosts {
 
     ghost counts = { λ s. record { door_faults = s.door_faults; dial_faults = s.dial_faults; accepted = 0 } };
 
+    ghost no_room = { λ _. 0 };
+
     ghost streams = { λ _. None };
 
     fn bind(&mut self, _address: &str) -> Result<MemDoor, NetFault> {

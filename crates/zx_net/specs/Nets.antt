@@ -1,6 +1,8 @@
 -- What the calls of a net say: its counts, and the streams that it gives.
 use Rattle.std.specs.Prelude.{◌≡◌, ℕ, Bool, false, List, [], ◌∷◌, Option, Some, None, Result, Ok, Err, IfSome}
 use Rattle.zx_outside.specs.Counts.{InputCounts, OutputCounts, one_more}
+use Rattle.zx_net.specs.declared.net.NetFault.{NetFault}
+use Rattle.zx_net.specs.declared.net.NetFault.TheVariants as fault
 
 -- What a net counts: the faults of its doors, those of its dials, and the streams that it accepted.
 pub record NetCounts : Type 0 where
@@ -26,6 +28,19 @@ counts_after_accept (Err why) counts = record counts { door_faults = one_more co
 abbrev pub counts_after_dial : {A E : Type 0} → Result A E → NetCounts → NetCounts
 counts_after_dial (Ok ends) counts = counts
 counts_after_dial (Err why) counts = record counts { dial_faults = one_more counts.dial_faults }
+
+-- The dials for which there was no room, with one more that failed for this.
+abbrev pub no_room_after : NetFault → ℕ → ℕ
+no_room_after fault.NoRoom n = one_more n
+no_room_after fault.InUse n = n
+no_room_after fault.NoAddress n = n
+no_room_after fault.Denied n = n
+no_room_after fault.Failed n = n
+
+-- The same after any dial.
+abbrev pub no_room_after_dial : {A : Type 0} → Result A NetFault → ℕ → ℕ
+no_room_after_dial (Ok ends) n = n
+no_room_after_dial (Err why) n = no_room_after why n
 
 -- No bytes, where they are told.
 abbrev pub IsNoneYet : Option (List ℕ) → Type 0

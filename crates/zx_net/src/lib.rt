@@ -10,7 +10,8 @@
 //! A [`Net`] gives a door that listens ([`Net::bind`]), and the two ends of a stream, a source and a sink, that was
 //! accepted at a door ([`Net::accept`]) or dialled ([`Net::dial`]). It counts the faults of its doors, those of its
 //! dials, and the streams that it accepted: a call that answers a [`NetFault`] counts one fault, an accept that
-//! succeeds counts one stream, and nothing else is counted. So a program that answers for a fault of its net can show
+//! succeeds counts one stream, and nothing else is counted. The dials that failed because there was no room
+//! ([`NetFault::NoRoom`]) have a count of their own besides. So a program that answers for a fault of its net can show
 //! that the net had one. A count stops at 2^64 - 1.
 //!
 //! The two ends of an accepted stream are named by the number of streams accepted so far, from 1. Every other source

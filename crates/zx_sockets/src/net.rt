@@ -47,6 +47,7 @@ pub struct StdNet<R> {
     alloc: Global,
     door_faults: u64,
     dial_faults: u64,
+    no_room: u64,
     accepted: u64,
     /// The pauses of a worker's net. The first net of a program dials at once.
     pauses: Option<Pauses>,
@@ -57,6 +58,7 @@ impl<R: SystemNet<Listener = TcpListener, Stream = TcpStream> + SystemClock + Co
     pub fn new(rt: R, alloc: Global) -> StdNet<R>
         ensures door_faults { result.door_faults ≡ 0 }
         ensures dial_faults { result.dial_faults ≡ 0 }
+        ensures no_room { result.no_room ≡ 0 }
         ensures accepted { result.accepted ≡ 0 }
     {
         StdNet {
@@ -64,6 +66,7 @@ impl<R: SystemNet<Listener = TcpListener, Stream = TcpStream> + SystemClock + Co
             alloc,
             door_faults: 0,
             dial_faults: 0,
+            no_room: 0,
             accepted: 0,
             pauses: None,
         }
@@ -207,6 +210,8 @@ impl<
 
     ghost counts = { λ s. record { door_faults = s.door_faults; dial_faults = s.dial_faults; accepted = s.accepted } };
 
+    ghost no_room = { λ s. s.no_room };
+
     ghost streams = { λ _. None };
 
     fn bind(&mut self, address: &str) -> Result<StdDoor, NetFault> {
@@ -241,6 +246,7 @@ impl<
             Ok(ends) => Ok(ends),
             Err(fault) => {
                 self.dial_faults = self.dial_faults.saturating_add(1);
+                self.no_room = fault.no_room_after(self.no_room);
                 Err(fault)
             }
         }
@@ -258,6 +264,7 @@ impl<
             alloc: self.alloc,
             door_faults: 0,
             dial_faults: 0,
+            no_room: 0,
             accepted: 0,
             pauses: Some(Pauses::new()),
         }
