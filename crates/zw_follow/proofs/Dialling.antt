@@ -33,12 +33,12 @@ pub opens_at : {In Out : Type 0} (tells : Telling In Out) (result : Result (Line
 opens_at tells result host told net net' least most h = subst (λ (z : ℤ). Opens tells result host z net net') (passed told least most) h
 
 -- the dial failed
-pub opens_undialled : {In Out : Type 0} (tells : Telling In Out) (why : NetFault) (end : StreamEnd) (host : List ℕ) (told : ℤ) (net net' : NetTold) → IsUndialledBy why end → IsFailed net net' → Opens tells (Err end) host told net net'
-opens_undialled tells refused.NoRoom end host told net net' is failed = subst (λ (e : StreamEnd). Opens tells (Err e) host told net net') (sym is) (inl (failed, refused.NoRoom, refl))
-opens_undialled tells refused.InUse end host told net net' is failed = subst (λ (e : StreamEnd). Opens tells (Err e) host told net net') (sym is) (inl (failed, refused.InUse, refl))
-opens_undialled tells refused.NoAddress end host told net net' is failed = subst (λ (e : StreamEnd). Opens tells (Err e) host told net net') (sym is) (inl (failed, refused.NoAddress, refl))
-opens_undialled tells refused.Denied end host told net net' is failed = subst (λ (e : StreamEnd). Opens tells (Err e) host told net net') (sym is) (inl (failed, refused.Denied, refl))
-opens_undialled tells refused.Failed end host told net net' is failed = subst (λ (e : StreamEnd). Opens tells (Err e) host told net net') (sym is) (inl (failed, refused.Failed, refl))
+pub opens_undialled : {In Out : Type 0} (tells : Telling In Out) (why : NetFault) (end : StreamEnd) (host : List ℕ) (told : ℤ) (net net' : NetTold) → IsUndialledBy why end → IsFailed why net net' → Opens tells (Err end) host told net net'
+opens_undialled tells refused.NoRoom end host told net net' is failed = subst (λ (e : StreamEnd). Opens tells (Err e) host told net net') (sym is) (inl (refused.NoRoom, failed, refl))
+opens_undialled tells refused.InUse end host told net net' is failed = subst (λ (e : StreamEnd). Opens tells (Err e) host told net net') (sym is) (inl (refused.InUse, failed, refl))
+opens_undialled tells refused.NoAddress end host told net net' is failed = subst (λ (e : StreamEnd). Opens tells (Err e) host told net net') (sym is) (inl (refused.NoAddress, failed, refl))
+opens_undialled tells refused.Denied end host told net net' is failed = subst (λ (e : StreamEnd). Opens tells (Err e) host told net net') (sym is) (inl (refused.Denied, failed, refl))
+opens_undialled tells refused.Failed end host told net net' is failed = subst (λ (e : StreamEnd). Opens tells (Err e) host told net net') (sym is) (inl (refused.Failed, failed, refl))
 
 -- the request was sent
 pub opens_lines : {In Out : Type 0} (tells : Telling In Out) (lines : Lines In) (source : In) (host : List ℕ) (told : ℤ) (net net' : NetTold) → lines.source ≡ source → IsAt lines (tells.source source) [] [] → Answers tells (Ok tt) host told net net' source
@@ -63,17 +63,17 @@ opens_none tells why stream.Stopped host told net net' unsent none = absurd unse
 
 -- a dial that read no line
 pub dials_none : {In Out : Type 0} (tells : Telling In Out) (host : List ℕ) (end : StreamEnd) (net net' : NetTold) (list : Published) (told : ℤ) (n : ℕ) → Opens tells (Err end) host told net net' → DialsOnce tells host end net net' list list told told n n
-dials_none tells host (stream.Over why barren) net net' list told n (inl (failed, cause, counts)) = record {
+dials_none tells host (stream.Over why barren) net net' list told n (inl (cause, failed, counts)) = record {
   dial = record { host = host; before = net; after = net'; told = told; said = []; entries = [] };
   starts = refl;
   stops = refl;
   asks = refl;
   names = refl;
-  is = inl (failed, (refl, refl));
+  is = inl (cause, failed, (refl, refl));
   left = [];
   publishes = publishes_nothing list;
   told_is = refl;
-  comes = (refl, refl, inl ((failed, (refl, refl)), cause, counts));
+  comes = (refl, refl, inl (cause, (failed, (refl, refl)), counts));
 }
 dials_none tells host (stream.Over why barren) net net' list told n (inr (counts, none)) = record {
   dial = record { host = host; before = net; after = net'; told = told; said = []; entries = [] };
@@ -138,11 +138,12 @@ dials_read tells lines host end net net' before after told told' n n' opens r =
     }
 
 -- the net was told that the stream was of use, and tells the same
-pub settled : {In Out : Type 0} (tells : Telling In Out) (host : List ℕ) (end : StreamEnd) (net : NetTold) (counts counts' : NetCounts) (streams streams' : Option (List (List ℕ))) (before after : Published) (told told' : ℤ) (n n' : ℕ) → counts' ≡ counts → streams' ≡ streams
-    → DialsOnce tells host end net (record { counts = counts; streams = streams }) before after told told' n n' → DialsOnce tells host end net (record { counts = counts'; streams = streams' }) before after told told' n n'
-settled tells host end net counts counts' streams streams' before after told told' n n' same_counts same_streams h =
-    subst (λ (c : NetCounts). DialsOnce tells host end net (record { counts = c; streams = streams' }) before after told told' n n') (sym same_counts)
-    (subst (λ (s : Option (List (List ℕ))). DialsOnce tells host end net (record { counts = counts; streams = s }) before after told told' n n') (sym same_streams) h)
+pub settled : {In Out : Type 0} (tells : Telling In Out) (host : List ℕ) (end : StreamEnd) (net : NetTold) (counts counts' : NetCounts) (no_room no_room' : ℕ) (streams streams' : Option (List (List ℕ))) (before after : Published) (told told' : ℤ) (n n' : ℕ) → counts' ≡ counts → no_room' ≡ no_room → streams' ≡ streams
+    → DialsOnce tells host end net (record { counts = counts; no_room = no_room; streams = streams }) before after told told' n n' → DialsOnce tells host end net (record { counts = counts'; no_room = no_room'; streams = streams' }) before after told told' n n'
+settled tells host end net counts counts' no_room no_room' streams streams' before after told told' n n' same_counts same_no_room same_streams h =
+    subst (λ (c : NetCounts). DialsOnce tells host end net (record { counts = c; no_room = no_room'; streams = streams' }) before after told told' n n') (sym same_counts)
+    (subst (λ (k : ℕ). DialsOnce tells host end net (record { counts = counts; no_room = k; streams = streams' }) before after told told' n n') (sym same_no_room)
+    (subst (λ (s : Option (List (List ℕ))). DialsOnce tells host end net (record { counts = counts; no_room = no_room; streams = s }) before after told told' n n') (sym same_streams) h))
 
 -- ---- one more dial
 

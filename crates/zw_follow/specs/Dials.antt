@@ -16,7 +16,7 @@ use Rattle.zw_hub.specs.Lists.{with_end}
 use Rattle.zw_hub.specs.declared.feed.FeedEnd.{FeedEnd}
 use Rattle.zw_hub.specs.declared.feed.FeedEnd.TheVariants as ends
 use Rattle.zw_hub.specs.declared.published.Published.{Published}
-use Rattle.zx_net.specs.Nets.{GivesNext, IsFreshSink, IsFreshSource, NetCounts}
+use Rattle.zx_net.specs.Nets.{GivesNext, IsFreshSink, IsFreshSource, NetCounts, no_room_after}
 use Rattle.zx_net.specs.declared.net.NetFault.{NetFault}
 use Rattle.zx_net.specs.declared.net.NetFault.TheVariants as refused
 use Rattle.ev_words.specs.declared.fault.Fault.TheVariants as fault
@@ -31,6 +31,7 @@ use Rattle.zw_follow.specs.declared.stream.StreamEnd.TheVariants as stream
 -- what a net tells
 pub record NetTold : Type 0 where
   pub counts : NetCounts
+  pub no_room : ℕ
   pub streams : Option (List (List ℕ))
 
 -- what the ends of a net's streams tell
@@ -53,13 +54,14 @@ request_with host body = request_head host route.Watch (length body) ++ body
 abbrev pub watch_request : List ℕ → ℤ → List ℕ
 watch_request host told = request_with host (watch_text (told +ℤ pos 1) (codes "zk/head"))
 
--- the dial failed, which is counted
-abbrev pub IsFailed : NetTold → NetTold → Type 0
-IsFailed net net' = net' ≡ record net { counts = record (net.counts) { dial_faults = one_more (net.counts).dial_faults } }
+-- the dial failed for this, which is counted
+abbrev pub IsFailed : NetFault → NetTold → NetTold → Type 0
+IsFailed why net net' = net' ≡ record net { counts = record (net.counts) { dial_faults = one_more (net.counts).dial_faults }; no_room = no_room_after why net.no_room }
 
 -- The dial gave both ends of a stream, the next one of the net where that is told; and the sending of the request came to this.
 pub record Answers {In Out : Type 0} (tells : Telling In Out) (sent : Result (Unit {0}) HttpFault) (host : List ℕ) (told : ℤ) (net net' : NetTold) (source : In) : Type 0 where
   pub counts : net'.counts ≡ net.counts
+  pub no_room : net'.no_room ≡ net.no_room
   pub gives : GivesNext net.streams net'.streams (tells.source source).left
   pub fresh : IsFreshSource (tells.source source).given (tells.source source).counts (tells.source source).ended (tells.source source).name 0
   pub sink : Out
@@ -85,10 +87,11 @@ pub record Dial : Type 0 where
 abbrev pub GaveNothing : Dial → Type 0
 GaveNothing d = (d.said ≡ []) × (d.entries ≡ [])
 
-abbrev pub WasRefused : Dial → Type 0
-WasRefused d = IsFailed d.before d.after × GaveNothing d
+abbrev pub WasRefused : NetFault → Dial → Type 0
+WasRefused why d = IsFailed why d.before d.after × GaveNothing d
 
--- whether a dial that failed so counts as one that gave no line: not where no descriptor was left, which says nothing of the member
+-- Whether a dial that failed for this counts as one that gave no line: not where there was no room for one, which says nothing of the member.
+-- The net has a count of these.
 abbrev pub is_barren_dial : NetFault → Bool
 is_barren_dial refused.NoRoom = false
 is_barren_dial refused.InUse = true
@@ -110,11 +113,11 @@ pub record WasRead {In Out : Type 0} (tells : Telling In Out) (host : List ℕ) 
   pub heeded : IsHeeded d.told d.said
 
 abbrev pub IsDial : {In Out : Type 0} → Telling In Out → List ℕ → Dial → Type 0
-IsDial tells host d = WasRefused d ⊎ (((why : HttpFault) × WasUnsent tells host why d) ⊎ WasRead tells host d)
+IsDial tells host d = ((why : NetFault) × WasRefused why d) ⊎ (((why : HttpFault) × WasUnsent tells host why d) ⊎ WasRead tells host d)
 
 -- The dial failed, its sink had a fault, or its stream is over; and whether it counts as one that gave no line.
 abbrev pub IsOverDial : {In Out : Type 0} → Telling In Out → List ℕ → Dial → Bool → Type 0
-IsOverDial tells host d barren = (WasRefused d × (why : NetFault) × (barren ≡ is_barren_dial why))
+IsOverDial tells host d barren = ((why : NetFault) × WasRefused why d × (barren ≡ is_barren_dial why))
     ⊎ ((WasUnsent tells host http.WriteFault d × (barren ≡ true))
     ⊎ ((r : WasRead tells host d) × IsOver tells.source r.source d.told d.said barren))
 
@@ -208,7 +211,7 @@ IsUndialledBy why end = end ≡ stream.Over fault.Dial true
 abbrev pub Opens : {In Out : Type 0} → Telling In Out → Result (Lines In) StreamEnd → List ℕ → ℤ → NetTold → NetTold → Type 0
 Opens tells (Ok lines) host told net net' = IsAt lines (tells.source lines.source) [] [] × Answers tells (Ok tt) host told net net' lines.source
 Opens tells (Err (stream.Over why barren)) host told net net' =
-    (IsFailed net net' × (cause : NetFault) × (barren ≡ is_barren_dial cause)) ⊎ ((barren ≡ true) × OpensNone tells http.WriteFault host told net net')
+    ((cause : NetFault) × IsFailed cause net net' × (barren ≡ is_barren_dial cause)) ⊎ ((barren ≡ true) × OpensNone tells http.WriteFault host told net net')
 Opens tells (Err (stream.Closes end)) host told net net' = (end ≡ ends.Memory) × OpensNone tells http.Memory host told net net'
 Opens tells (Err stream.Stopped) host told net net' = ⊥
 

@@ -50,8 +50,8 @@ pub fn follow<R: Wait + Eprint, H: Wait + Drop, N: Net, Q: StopWord>(
     ensures { Follows
         (telling N.In.given N.In.left N.In.counts N.In.ended N.In.name N.Out.taken N.Out.counts N.Out.name)
         endpoint.now result
-        (record { counts = N.counts net.old; streams = N.streams net.old })
-        (record { counts = N.counts net.new; streams = N.streams net.new })
+        (record { counts = N.counts net.old; no_room = N.no_room net.old; streams = N.streams net.old })
+        (record { counts = N.counts net.new; no_room = N.no_room net.new; streams = N.streams net.new })
         revision hub.old.list hub.new.list (Q.set_readings stop.old) (Q.set_readings stop.new) }
 {
     follow_and_ring(
@@ -81,8 +81,8 @@ pub fn follow_and_ring<R: Wait + Eprint, H: Wait + Drop, N: Net, Q: StopWord, B:
     ensures { Follows
         (telling N.In.given N.In.left N.In.counts N.In.ended N.In.name N.Out.taken N.Out.counts N.Out.name)
         endpoint.now result
-        (record { counts = N.counts net.old; streams = N.streams net.old })
-        (record { counts = N.counts net.new; streams = N.streams net.new })
+        (record { counts = N.counts net.old; no_room = N.no_room net.old; streams = N.streams net.old })
+        (record { counts = N.counts net.new; no_room = N.no_room net.new; streams = N.streams net.new })
         place.revision hub.old.list hub.new.list (Q.set_readings stop.old) (Q.set_readings stop.new) }
 {
     let mut place = place;
@@ -99,6 +99,7 @@ pub fn follow_and_ring<R: Wait + Eprint, H: Wait + Drop, N: Net, Q: StopWord, B:
 /// Tells the net that the stream was of use, if it is over and counts as one that gave a line.
 fn settle<N: Net>(net: &mut N, end: &StreamEnd)
     ensures counts { N.counts net.new ≡ N.counts net.old }
+    ensures no_room { N.no_room net.new ≡ N.no_room net.old }
     ensures streams { N.streams net.new ≡ N.streams net.old }
 {
     match end {
@@ -127,8 +128,8 @@ fn follow_stream<R: Wait, H: Wait + Drop, N: Net, Q: StopWord, B: Rings>(
     ensures dials { DialsOnce
         (telling N.In.given N.In.left N.In.counts N.In.ended N.In.name N.Out.taken N.Out.counts N.Out.name)
         endpoint.now result
-        (record { counts = N.counts net.old; streams = N.streams net.old })
-        (record { counts = N.counts net.new; streams = N.streams net.new })
+        (record { counts = N.counts net.old; no_room = N.no_room net.old; streams = N.streams net.old })
+        (record { counts = N.counts net.new; no_room = N.no_room net.new; streams = N.streams net.new })
         hub.old.list hub.new.list place.old.revision place.new.revision (Q.set_readings stop.old) (Q.set_readings stop.new) }
 {
     let mut lines = match open(alloc, net, endpoint, place.revision) {
@@ -171,8 +172,8 @@ fn follow_streams<R: Wait + Eprint, H: Wait + Drop, N: Net, Q: StopWord, B: Ring
     ensures { Stops
         (telling N.In.given N.In.left N.In.counts N.In.ended N.In.name N.Out.taken N.Out.counts N.Out.name)
         endpoint.now result
-        (record { counts = N.counts net.old; streams = N.streams net.old })
-        (record { counts = N.counts net.new; streams = N.streams net.new })
+        (record { counts = N.counts net.old; no_room = N.no_room net.old; streams = N.streams net.old })
+        (record { counts = N.counts net.new; no_room = N.no_room net.new; streams = N.streams net.new })
         place.old.revision hub.old.list hub.new.list (Q.set_readings stop.old) (Q.set_readings stop.new) }
 {
     let mut barren = 0;

@@ -114,8 +114,8 @@ pub(crate) fn open<N: Net>(
     ensures { Opens
         (telling N.In.given N.In.left N.In.counts N.In.ended N.In.name N.Out.taken N.Out.counts N.Out.name)
         result endpoint.now revision
-        (record { counts = N.counts net.old; streams = N.streams net.old })
-        (record { counts = N.counts net.new; streams = N.streams net.new }) }
+        (record { counts = N.counts net.old; no_room = N.no_room net.old; streams = N.streams net.old })
+        (record { counts = N.counts net.new; no_room = N.no_room net.new; streams = N.streams net.new }) }
 {
     let (source, mut sink) = match net.dial(endpoint) {
         Ok(ends) => ends,

@@ -13,5 +13,5 @@ pub read_stream-end-requires-clause-first : goal.read_stream-end-requires-clause
 read_stream-end-requires-clause-first g c = c.in-Ok.ensures.0
 
 pub returns-clause-dials : goal.returns-clause-dials
-returns-clause-dials g c = settled (telling g.N.In.Source.given g.N.In.Source.left g.N.In.Source.counts g.N.In.Source.ended g.N.In.Source.name g.N.Out.Sink.taken g.N.Out.Sink.counts g.N.Out.Sink.name) c.args.endpoint.now c.read_stream-end.result _ _ _ _ _ _ _ _ _ _ _ c.settle.ensures.counts c.settle.ensures.streams
+returns-clause-dials g c = settled (telling g.N.In.Source.given g.N.In.Source.left g.N.In.Source.counts g.N.In.Source.ended g.N.In.Source.name g.N.Out.Sink.taken g.N.Out.Sink.counts g.N.Out.Sink.name) c.args.endpoint.now c.read_stream-end.result _ _ _ _ _ _ _ _ _ _ _ _ _ c.settle.ensures.counts c.settle.ensures.no_room c.settle.ensures.streams
     (dials_read (telling g.N.In.Source.given g.N.In.Source.left g.N.In.Source.counts g.N.In.Source.ended g.N.In.Source.name g.N.Out.Sink.taken g.N.Out.Sink.counts g.N.Out.Sink.name) c.in-Ok.lines c.args.endpoint.now _ _ _ _ _ _ _ _ _ (opens_at (telling g.N.In.Source.given g.N.In.Source.left g.N.In.Source.counts g.N.In.Source.ended g.N.In.Source.name g.N.Out.Sink.taken g.N.Out.Sink.counts g.N.Out.Sink.name) (Ok c.in-Ok.lines) _ _ _ _ c.requires.placed.revision_least c.requires.placed.revision_most c.in-Ok.ensures) c.read_stream-end.ensures.reads)
