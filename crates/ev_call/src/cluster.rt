@@ -14,4 +14,8 @@ pub trait Cluster: Etcd {
         requires { IsAddress endpoint.now }
         ensures failures { Self.failures self.new ≡ Self.failures self.old }
         ensures told { Self.told self.new ≡ Self.told self.old };
+
+    /// The number of the address that the next call asks, from 0, if several were named. No clause ties it to what was asked: whoever
+    /// begins there has the best chance of an answer.
+    fn at(&self) -> u32;
 }

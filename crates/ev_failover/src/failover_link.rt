@@ -237,4 +237,10 @@ impl<N: Net + Drop> Cluster for FailoverLink<DialEndpoints<N>> {
         self.current = 0;
         Ok(())
     }
+
+    fn at(&self) -> u32
+        ensures { result ≡ self.now.current }
+    {
+        self.current
+    }
 }

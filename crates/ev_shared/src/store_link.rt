@@ -152,4 +152,10 @@ impl Cluster for StoreLink {
     {
         Ok(())
     }
+
+    fn at(&self) -> u32
+        ensures { result ≡ 0 }
+    {
+        0
+    }
 }

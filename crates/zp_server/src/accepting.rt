@@ -125,7 +125,8 @@ where
     ensures own { desk.new.own ≡ desk.old.own }
     ensures found { Finds result desk.new.own desk.new.free.items }
 {
-    match link_to(alloc, net, endpoint) {
+    desk.choose(endpoint);
+    match link_to(alloc, net, endpoint, &mut desk.at) {
         Ok(link) => {
             let fresh = fresh(random);
             match start_one::<W, N, P, C, G, B>(

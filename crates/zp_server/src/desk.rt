@@ -4,6 +4,8 @@ ghost use Rattle.std.specs.Prelude.{◌≡◌, ◌<◌, IfSome, length, slice_ge
 ghost use Rattle.zp_server.specs.Striking.{Strikes};
 
 use crate::telling::tell_full;
+use ev_addresses::next_of;
+use zk_service::Cause;
 use zw_hub::HubReader;
 
 /// Once the operator was told that all places are taken, so many have to be free before that is told again.
@@ -20,6 +22,10 @@ pub struct Desk {
     pub busy: Vec<u64>,
     /// The operator was told that no reader is free, and few were since.
     pub is_full: bool,
+    /// The number of the endpoint that is dialled first for the next client.
+    pub at: usize,
+    /// A link failed since that was chosen.
+    pub is_broken: bool,
 }
 
 impl Desk {
@@ -30,6 +36,29 @@ impl Desk {
         ensures { IsTrue result → self.now.busy.items ≡ [] }
     {
         self.busy.as_slice().is_empty()
+    }
+
+    /// Notes why a connection ended.
+    pub fn note(&mut self, cause: &Cause)
+        ensures own { self.new.own ≡ self.old.own }
+        ensures busy { self.new.busy.items ≡ self.old.busy.items }
+        ensures free { self.new.free.items ≡ self.old.free.items }
+    {
+        if let Cause::LinkFault = cause {
+            self.is_broken = true;
+        }
+    }
+
+    /// Chooses the endpoint that is dialled first for the next client: the one that was dialled last, or the next one if a link failed since.
+    pub fn choose(&mut self, endpoint: &str)
+        ensures own { self.new.own ≡ self.old.own }
+        ensures busy { self.new.busy.items ≡ self.old.busy.items }
+        ensures free { self.new.free.items ≡ self.old.free.items }
+    {
+        if self.is_broken {
+            self.at = next_of(endpoint, self.at);
+            self.is_broken = false;
+        }
     }
 
     /// Tells the operator if no further client can be served until one leaves, once each time that the places run out.

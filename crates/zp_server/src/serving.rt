@@ -243,11 +243,13 @@ where
     stopped
 }
 
-/// A hub whose next entry is that after this update, and a desk for its readers at which nobody is served.
+/// A hub whose next entry is that after this update, and a desk for its readers at which nobody is served. For the first client the
+/// endpoint with this number is dialled first.
 fn open<R: Wait + Copy + Drop>(
     rt: R,
     alloc: Global,
     place: Place,
+    at: usize,
 ) -> Result<(Opened<R>, Desk, Keeper<R>), Memory>
     requires { IsPlace place }
     ensures { IfOk result (λ made. made.1.busy.items ≡ []) }
@@ -262,6 +264,8 @@ fn open<R: Wait + Copy + Drop>(
                 free,
                 busy,
                 is_full: false,
+                at,
+                is_broken: false,
             };
             Ok((begin_at(list, place), desk, keeper))
         }
@@ -297,6 +301,7 @@ fn start_workers<
     queues: &Arc<Queues, Global>,
     net: &N,
     endpoint: &str,
+    at: usize,
     opened: Opened<W>,
     listen: &str,
     stop: &SharedStop,
@@ -318,7 +323,9 @@ where
             return Err(refused);
         }
     }
-    match start_reapers(*rt, alloc, queues, net, endpoint, random, stop, spawner) {
+    match start_reapers(
+        *rt, alloc, queues, net, endpoint, at, random, stop, spawner,
+    ) {
         Ok(()) => Ok(()),
         Err(refused) => {
             tell_unstarted(rt, "reaper at", endpoint, &refused);
@@ -341,6 +348,7 @@ fn serve_from<
     rt: &W,
     alloc: Global,
     place: Place,
+    at: usize,
     stop: &SharedStop,
     net: &mut N,
     listen: &str,
@@ -368,7 +376,7 @@ where
         Ok(house) => house,
         Err(_refused) => return Err(Stop::Memory),
     };
-    let (list, mut desk, keeper) = match open(*rt, alloc, place) {
+    let (list, mut desk, keeper) = match open(*rt, alloc, place, at) {
         Ok(made) => made,
         Err(_refused) => return Err(Stop::Memory),
     };
@@ -379,6 +387,7 @@ where
         &house.queues,
         net,
         endpoint,
+        at,
         list,
         listen,
         stop,
@@ -400,9 +409,10 @@ where
 /// Serves ZooKeeper clients at `listen`, `HOST:PORT`, until `limit` clients were accepted and have ended, from the etcd cluster whose
 /// members have their JSON gateways at `endpoint`: the first five addresses in it that are not empty, with commas between them, each
 /// `HOST:PORT`; `localhost` where there is none. `endpoint` is one or more bytes of visible ASCII, since each request to etcd names its
-/// address as its host; [`is_address`](crate::is_address) tells. For each client the addresses are dialled in turn, from the first on,
-/// until one dial succeeds. The net has accepted no connection before, since it names the ends of a connection
-/// by how many it has accepted, and the lines count connections from 1. The ends:
+/// address as its host; [`is_address`](crate::is_address) tells. For each client the addresses are dialled in turn until one dial
+/// succeeds: from the one on that answered the first ask, or was dialled last, and after a link that failed from the next one on.
+/// The net has accepted no connection before, since it names the ends of a connection by how many it has accepted, and the lines count
+/// connections from 1. The ends:
 ///
 /// - `Done`: each of the connections 1 to `limit` has one line, and each that had a worker one [`Served`](crate::Served) in the
 ///   book;
@@ -457,12 +467,14 @@ where
             return finish(alloc, Err(stop), out);
         }
     };
+    // The look of `begin` may have gone on to an endpoint that answers.
+    let at = cluster.at() as usize;
     let stop = match SharedStop::new(alloc) {
         Ok(stop) => stop,
         Err(_refused) => return ServeEnd::Memory,
     };
     let stopped = serve_from(
-        rt, alloc, place, &stop, net, listen, endpoint, limit, spawner, clock, random, gate, out,
+        rt, alloc, place, at, &stop, net, listen, endpoint, limit, spawner, clock, random, gate, out,
         book,
     );
     stop.set();

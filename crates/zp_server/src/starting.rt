@@ -130,6 +130,7 @@ fn start_reaper<
     queues: &Arc<Queues, Global>,
     net: &N,
     endpoint: &str,
+    at: usize,
     word: u64,
     stop: &SharedStop,
     spawner: &mut P,
@@ -161,6 +162,7 @@ where
             alloc,
             &mut net,
             endpoint.as_str(),
+            at,
             word,
             &mut stop,
             &mut turns,
@@ -172,7 +174,7 @@ where
     }
 }
 
-/// Starts the reaper workers, each with a random word of its own.
+/// Starts the reaper workers, each with a random word of its own. They dial the address with this number first.
 pub fn start_reapers<
     W: Wait + SystemClock + Eprint + Copy + Send + Drop + 'static,
     N: Net + Send + Drop + 'static,
@@ -184,6 +186,7 @@ pub fn start_reapers<
     queues: &Arc<Queues, Global>,
     net: &N,
     endpoint: &str,
+    at: usize,
     random: &mut Q,
     stop: &SharedStop,
     spawner: &mut P,
@@ -195,7 +198,7 @@ where
 {
     'reapers: for _ in 0..REAPERS {
         let word = random.word();
-        match start_reaper(rt, alloc, queues, net, endpoint, word, stop, spawner) {
+        match start_reaper(rt, alloc, queues, net, endpoint, at, word, stop, spawner) {
             Ok(()) => {}
             Err(refused) => return Err(refused),
         }

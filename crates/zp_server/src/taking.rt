@@ -40,6 +40,7 @@ pub fn take_back<I: Source + Drop, K: Sink + Drop, O: Sink, B: Book<I, K>>(
     if !strike(&mut desk.busy, served.number) {
         return Err(Stop::Memory);
     }
+    desk.note(&served.cause);
     match say_closed(alloc, served.number, &served.cause, out) {
         Ok(()) => {}
         Err(stop) => return Err(stop),

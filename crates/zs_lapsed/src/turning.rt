@@ -141,17 +141,18 @@ fn turn<L: Etcd, U: Reaps>(
     round(alloc, link, turns, pace, place.as_slice())
 }
 
-/// A new link, to the first endpoint that can be dialled.
+/// A new link, to the first endpoint that can be dialled, from the one with this number on and round.
 fn dialled<N: Net>(
     alloc: Global,
     net: &mut N,
     endpoint: &str,
+    at: &mut usize,
 ) -> Result<HttpLink<N::In, N::Out>, Fault>
     requires { IsAddress endpoint.now }
     ensures begun { IfOk result (λ l. tells (calls_of l.asks.items l.results.items) l.failures ≡ tells [] 0) }
     ensures dials { DialsFor result (length (addresses_in endpoint.now)) (N.counts net.old) (N.counts net.new) }
 {
-    match link_to(alloc, net, endpoint) {
+    match link_to(alloc, net, endpoint, at) {
         Ok(link) => Ok(link),
         Err(NoLink::Dial) => Err(Fault::Dial),
         Err(NoLink::Memory) => Err(Fault::Memory),
@@ -163,6 +164,7 @@ fn link_of<N: Net>(
     alloc: Global,
     net: &mut N,
     endpoint: &str,
+    at: &mut usize,
     kept: Option<HttpLink<N::In, N::Out>>,
 ) -> Result<HttpLink<N::In, N::Out>, Fault>
     requires { IsAddress endpoint.now }
@@ -172,7 +174,7 @@ fn link_of<N: Net>(
 {
     match kept {
         Some(link) => Ok(link),
-        None => dialled(alloc, net, endpoint),
+        None => dialled(alloc, net, endpoint, at),
     }
 }
 
@@ -225,6 +227,7 @@ pub(crate) fn turn_over<N: Net, U: Reaps>(
     alloc: Global,
     net: &mut N,
     endpoint: &str,
+    at: &mut usize,
     link: &mut Option<HttpLink<N::In, N::Out>>,
     turns: &mut U,
     pace: &mut Pace,
@@ -234,7 +237,7 @@ pub(crate) fn turn_over<N: Net, U: Reaps>(
     ensures dials { DialsOver link.old result (length (addresses_in endpoint.now)) (N.counts net.old) (N.counts net.new) }
 {
     let kept = link.take();
-    match link_of(alloc, net, endpoint, kept) {
+    match link_of(alloc, net, endpoint, at, kept) {
         Ok(mine) => turn_on(alloc, mine, link, turns, pace),
         Err(fault) => Err(fault),
     }

@@ -7,6 +7,7 @@ ghost use Rattle.zx_outside.specs.Counts.{one_more};
 
 use crate::pace::Pace;
 use crate::turning::turn_over;
+use ev_addresses::next_of;
 use ev_words::tell;
 use std::alloc::Global;
 use std::sync::Wait;
@@ -23,13 +24,15 @@ pub const REAPERS: usize = 4;
 /// workers of a proxy each has a net and a link of its own. `word` is a random one: the pauses and the places at which turns begin are
 /// drawn from it, so that workers begin apart. A session's end waits for its turn at a path in `turns`. Of turns in a row that fail, the
 /// operator is told of the first. A link over which a call failed or ran out of memory is dropped, and the next turn dials anew: the
-/// addresses in `endpoint`, one or more bytes of visible ASCII, in turn from the first on, until one dial succeeds.
+/// addresses in `endpoint`, one or more bytes of visible ASCII, in turn until one dial succeeds, at first from the one with the number `at`
+/// on, and after a link that failed from the one after that.
 #[tactic(auto, using(crate::proofs::Keeping::dials_first, crate::proofs::Keeping::dials_more))]
 pub fn reap<R: Wait + SystemClock + Eprint, N: Net, Q: StopWord, U: Reaps>(
     rt: &R,
     alloc: Global,
     net: &mut N,
     endpoint: &str,
+    at: usize,
     word: u64,
     stop: &mut Q,
     turns: &mut U,
@@ -39,6 +42,7 @@ pub fn reap<R: Wait + SystemClock + Eprint, N: Net, Q: StopWord, U: Reaps>(
     ensures dials { OnlyDials (N.counts net.old) (N.counts net.new) }
 {
     let mut pace = Pace::new(word);
+    let mut at = at;
     let mut link = None;
     let mut is_told = false;
     'turns: for _ in rt.forever() {
@@ -46,7 +50,7 @@ pub fn reap<R: Wait + SystemClock + Eprint, N: Net, Q: StopWord, U: Reaps>(
             return;
         }
         thread::sleep(rt, Duration::from_millis(pace.pause()));
-        match turn_over(alloc, net, endpoint, &mut link, turns, &mut pace) {
+        match turn_over(alloc, net, endpoint, &mut at, &mut link, turns, &mut pace) {
             Ok(()) => {
                 if !pace.is_busy() {
                     is_told = false;
@@ -57,6 +61,9 @@ pub fn reap<R: Wait + SystemClock + Eprint, N: Net, Q: StopWord, U: Reaps>(
                     tell(rt, "reaper at", endpoint, fault);
                 }
                 is_told = true;
+                if link.is_none() {
+                    at = next_of(endpoint, at);
+                }
             }
         }
     }
