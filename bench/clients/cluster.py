@@ -3,6 +3,7 @@ import glob
 import json
 import os
 import random
+import re
 import shutil
 import signal
 import socket
@@ -146,7 +147,9 @@ class Proxy:
         return open(self.out).read().splitlines() if os.path.isfile(self.out) else []
 
     def faults(self):
-        return open(self.err).read().splitlines()
+        """The lines on standard error, but for those that name the session of a connection."""
+        is_session = re.compile(r"zetcd: connection \d+: session 0x[0-9a-f]+$").match
+        return [it for it in open(self.err).read().splitlines() if not is_session(it)]
 
     def signal(self, how):
         self.process.send_signal(how)
