@@ -13,7 +13,7 @@ use zx_base::{Memory, Seq};
 /// What the feed has before the connection comes.
 #[derive(Clone, Copy)]
 pub struct Entered<'a> {
-    /// The number before that of the first entry.
+    /// The number before the first entry's.
     pub first: u32,
     /// How many entries there are.
     pub count: u32,
@@ -65,7 +65,7 @@ impl<R: Wait + Drop> Publisher<R> {
         }
     }
 
-    /// Closes the hub, where that is wanted, and lets it go. Its readers read on as long as its keeper is there.
+    /// Closes the hub, if that is wanted, and lets it go. Its readers read on as long as its keeper is there.
     fn leave(self, closed: bool) -> Result<(), Memory> {
         let Publisher { mut hub, last: _ } = self;
         if closed {

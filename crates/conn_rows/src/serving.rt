@@ -65,7 +65,7 @@ pub fn begun(alloc: Global, failing: u64) -> Result<StoreLink, Memory> {
     }
 }
 
-/// The stream, in pieces of so many bytes; then, where that is wanted, an idle turn.
+/// The stream, in pieces of so many bytes; then, if that is wanted, an idle turn.
 pub fn stream_of(
     alloc: Global,
     bytes: &[u8],
@@ -87,7 +87,7 @@ pub fn stream_of(
     Ok(MemSource::new(copy, pieces, listed(alloc, failing)?))
 }
 
-/// Serves a stream to its end by this clock, with what the feed has by then. Where the feed was closed, the client is idle for a turn
+/// Serves a stream to its end by this clock, with what the feed has by then. If the feed was closed, the client is idle for a turn
 /// after its pieces.
 pub fn serve_by<R: Wait, C: Clock, T: Trace>(
     rt: &R,

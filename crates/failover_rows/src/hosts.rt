@@ -42,7 +42,7 @@ impl Hosts {
     }
 }
 
-/// The bytes of a stream to this address; `None` where it cannot be dialled. Where memory is refused there are fewer.
+/// The bytes of a stream to this address; `None` if it cannot be dialled. If memory is refused, there are fewer.
 fn bytes_of(alloc: Global, address: &str) -> Option<Vec<u8>> {
     let mut bytes = Vec::new(alloc);
     if address.starts_with('u') {

@@ -64,7 +64,7 @@ impl<E: Endpoints + Drop> Endpoints for Noted<E> {
     fn call_at(&mut self, endpoint: u32, ask: &Ask) -> Result<Answer, EndFault> {
         let came = self.ends.call_at(endpoint, ask);
         let outcome = outcome_of(&came);
-        // Where memory is refused the row differs.
+        // If memory is refused, the row differs.
         let _ = self.notes.push(Note { endpoint, outcome });
         came
     }

@@ -33,7 +33,7 @@ use std::thread::Threads;
 use std::{env, io};
 use zw_hub::Feed;
 
-/// How many threads read, race by race, where they are timed.
+/// How many threads read, race by race, if they are timed.
 const READERS: [usize; 3] = [1, 8, 64];
 
 fn main(rt: HostRuntime) -> io::Result<()> {

@@ -48,7 +48,7 @@ impl Taken {
             && self.entries.saturating_add(self.passed_over) == count
     }
 
-    /// Notes an answer, and says whether it was the last. Where no entry is there yet, the thread yields.
+    /// Notes an answer, and says whether it was the last. If no entry is there yet, the thread yields.
     pub fn note(&mut self, fed: &Fed) -> bool {
         self.reads = self.reads.saturating_add(1);
         match fed {

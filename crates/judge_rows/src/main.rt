@@ -2,12 +2,12 @@
 //!
 //! `transcripts/NAME.transcript` is a transcript, and `transcripts/NAME.verdict` its verdict, in the words of the command `judge`.
 //! Each is spelled from the records of zookeeper.jute and the rules of the Programmer's Guide, without this project's code. A name
-//! that begins with another name is that one's transcript with one thing spoiled. Where there is a `transcripts/NAME.script`, the
+//! that begins with another name is that one's transcript with one thing spoiled. If there is a `transcripts/NAME.script`, the
 //! transcript tells of that script; nearly all of these scripts are examples of `replay` too, which runs them. `count` says how
 //! many transcripts there are, so that none gets lost.
 //!
-//! Nothing is written to standard output. What differs is told on standard error. The status is 1 where a verdict differs, or where
-//! the number of transcripts is not that of `count`.
+//! Nothing is written to standard output. What differs is told on standard error. The status is 1 if a verdict differs, or if
+//! `count` gives another number of transcripts.
 #![tactic(auto)]
 
 use anyhow::{Context, Result, bail};
@@ -87,7 +87,7 @@ fn text_of<R: Files + AllocGlobal>(rt: &R, path: &str) -> Result<String> {
     Ok(text)
 }
 
-/// The verdict on a transcript, where it is not the one that stands beside it.
+/// The verdict on a transcript, if it is not the one that stands beside it.
 fn problem_of<R: Files + AllocGlobal>(rt: &R, path: &str) -> Result<Option<String>> {
     let alloc = rt.alloc();
     let transcript = text_of(rt, format!(in alloc; "{path}.transcript")?.as_str())?;

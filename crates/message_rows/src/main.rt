@@ -3,7 +3,7 @@
 //! A row is LEFT = RIGHT ([`row_files`]); `forms.rt` says what its forms are. A new row needs no proof.
 //!
 //! `message_rows time SIZE COUNT` writes an answer with a value of SIZE bytes, and reads it, COUNT times each, and prints the
-//! microseconds of both, and those of the kit's parser into values and its decoder alone. `message_rows hostile HEAD PIECE` reads a
+//! microseconds of both, and of the kit's parser into values and its decoder alone. `message_rows hostile HEAD PIECE` reads a
 //! body of some 8,388,608 bytes, the text HEAD and then PIECE again and again, and prints what it is refused for.
 //! `bench/messages.sh` runs both.
 #![tactic(auto)]

@@ -42,7 +42,7 @@ fn triggers_text(alloc: Global, triggers: &[Trigger]) -> Result<String, Memory> 
     Ok(text)
 }
 
-/// ` [ TRIGGERS ]` after a put of the head, where they are not those that are shown
+/// ` [ TRIGGERS ]` after a put of the head, if they are not the ones shown
 fn push_other_head(alloc: Global, text: &mut String, act: &Act, shown: &str) -> Result<(), Memory> {
     let Act::Put { key, value, .. } = act else {
         return Ok(());
@@ -88,7 +88,7 @@ pub fn push_act(alloc: Global, text: &mut String, act: &Act) -> Result<(), Memor
     }
 }
 
-/// ` get KEY`, or ` keys KEY` where the values are left out, followed by the range's end, `@REVISION` and ` limit NUMBER`, where it
+/// ` get KEY`, or ` keys KEY` if the values are left out, followed by the range's end, `@REVISION` and ` limit NUMBER`, where it
 /// has them
 fn push_range(alloc: Global, text: &mut String, range: &RangeReq) -> Result<(), Memory> {
     push_word(text, if range.keys_only { "keys" } else { "get" })?;

@@ -8,7 +8,7 @@ use zx_base::{Bytes, Memory, Text};
 /// More bytes of data than this, all the same, are spelled by their number.
 const MAX_SPELLED: usize = 64;
 
-/// The bytes that a word stands for: none for `-`, and for `ab*3` those of `abbb`. A `*` without a number after it stands for
+/// The bytes that a word stands for: none for `-`, and `abbb` for `ab*3`. A `*` without a number after it stands for
 /// itself.
 pub fn content(alloc: Global, word: &str) -> Result<Bytes, Memory> {
     if word == "-" {

@@ -24,7 +24,7 @@ const STREAMS: u64 = 1000;
 /// How many clients a server would take that is to end before.
 const MANY: u64 = 1_000_000;
 
-/// A server that asks a new etcd in memory first, where it makes the root, and then whoever listens at `endpoint`.
+/// A server that asks a new etcd in memory first, in which it makes the root, and then whoever listens at `endpoint`.
 fn serve_on<
     R: Net<Listener = TcpListener, Stream = TcpStream>
         + Clock
@@ -67,7 +67,7 @@ pub enum Later<'a> {
 }
 
 impl<'a> Later<'a> {
-    /// The line, where there is one.
+    /// The line, if there is one.
     fn line(self) -> Option<&'a str> {
         match self {
             Later::Gone => None,

@@ -170,7 +170,7 @@ fn are_same(sent: &[(u64, Vec<u8>)], received: &[Vec<u8>]) -> bool {
     sent.len() == received.len()
 }
 
-/// Adds `listening`, where that is the first line, and the other lines in order.
+/// Adds `listening`, if that is the first line, and the other lines in order.
 pub fn add_lines(alloc: Global, text: &mut String, written: &[u8], listen: &str) -> Result<()> {
     let first = format!(in alloc; "listening {listen}\n")?;
     let Some(later) = str::from_utf8(written)?.strip_prefix(first.as_str()) else {

@@ -15,7 +15,7 @@
 //! | `turn FRAME ..` | as `two`, but the second client connects once the stream of the first has ended, and the gate holds nobody |
 //! | `two FRAME ..` | the end of a server over the loopback, with an etcd in memory in the same process, to which two clients each send these frames, in hex and without their lengths; then `listening`, if that is its first line, and its other lines in order. `alone` if the worker of connection 1 waited in vain at the gate, which holds it until the worker of connection 2 has passed. `no gate` if each worker did not come to the gate exactly once. `other bytes` if a connection says that it sent something else than its client received |
 //!
-//! A STEP is one of these, where C is the number of a client. One that has no stream yet connects first:
+//! A STEP is one of these; C is the number of a client. One that has no stream yet connects first:
 //!
 //! | Step | Means |
 //! |---|---|
@@ -95,7 +95,7 @@ fn found<
     Ok(None)
 }
 
-/// Whether a row passes. Says on standard error what came of its left side, where it does not.
+/// Whether a row passes. If it does not, says on standard error what came of its left side.
 fn passes<
     R: Net<Listener = TcpListener, Stream = TcpStream>
         + Clock

@@ -1,4 +1,4 @@
-//! Holds the worker of the first connection until that of the second has come, or notes alone who came.
+//! Holds the worker of the first connection until the worker of the second has come, or notes alone who came.
 
 use std::alloc::Global;
 use std::sync::Arc;

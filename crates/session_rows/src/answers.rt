@@ -40,7 +40,7 @@ fn is_grantable(ask: &Ask) -> bool
     }
 }
 
-/// What the etcd answers. Where it denies the ask, `None`, and the text of the denial is added: `no ask` and `no answer` where a
+/// What the etcd answers. If it denies the ask, `None`, and the text of the denial is added: `no ask` and `no answer` where a
 /// number is out of range.
 pub fn answer_of(
     alloc: Global,

@@ -9,7 +9,7 @@ use std::env;
 use std::time::{Duration, Instant};
 use zx_base::{Bytes, Memory, Seq};
 
-/// How many keys, where no number is given.
+/// How many keys, if no number is given.
 const COUNT: u32 = 100_000;
 
 fn key_of(alloc: Global, number: u32) -> Result<Bytes, Memory> {

@@ -6,7 +6,7 @@
 //! | Left side | Right side |
 //! |---|---|
 //! | `new` | `done`; the world is a new one from then on |
-//! | `apply LINE` | `done`, or `not possible`, where this line of a script is applied |
+//! | `apply LINE` | what comes of applying this line of a script: `done`, or `not possible` |
 //! | `updates` | the updates so far |
 //! | `connections` | the connections so far, in the order in which they opened |
 //! | `conversation N` | the lines of the N-th of these, counted from 0 |

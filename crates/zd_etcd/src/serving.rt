@@ -209,7 +209,7 @@ fn serve<
 }
 
 /// Serves a new etcd in memory at `listen`, `HOST:PORT`, for `limit` connections. Once it listens it writes `listening`, a blank,
-/// `listen` and a line feed. Where the net has a fault it writes `net fault` and a line feed.
+/// `listen` and a line feed. If the net has a fault, it writes `net fault` and a line feed.
 #[tactic(auto, using(crate::proofs::Ending::listened, crate::proofs::Ending::unbound, crate::proofs::Ending::unwritten, crate::proofs::Ending::refused))]
 pub fn etcd<
     W: Wait + SystemClock + Copy + Send + Drop + 'static,

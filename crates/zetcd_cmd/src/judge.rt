@@ -35,7 +35,7 @@ pub enum Reading {
 
 /// Reads a transcript and writes the verdict on it, or the number of its first line that cannot be read.
 ///
-/// The time is that of [`zk_judge::judge`]; all lines of the transcript are kept, but not its text.
+/// It takes the time of [`zk_judge::judge`]; all lines of the transcript are kept, but not its text.
 pub fn judge<I: Source, O: Sink>(alloc: Global, input: &mut I, out: &mut O) -> Status
     ensures told { DidBetween I.ended I.given I.left O.taken (Judges result) input.old input.new out.old out.new }
     ensures read { result ≡ Status.ReadFault → Failed (I.counts input.old) (I.counts input.new) }

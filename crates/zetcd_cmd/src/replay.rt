@@ -43,7 +43,7 @@ pub fn replay<I: Source, O: Sink>(alloc: Global, input: &mut I, out: &mut O) -> 
         Err(Unwritten::Sink) => return Status::WriteFault,
         Err(Unwritten::Memory) => return Status::Memory,
     };
-    // Where memory was refused, the world may show a part of what its last line does, so no more is written.
+    // If memory was refused, the world may show a part of what its last line does, so no more is written.
     if wants_memory(end) {
         return Status::Memory;
     }

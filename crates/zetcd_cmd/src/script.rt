@@ -67,7 +67,7 @@ impl Script {
         lines
     }
 
-    /// The same, where nothing has to be said of the fields of its lines.
+    /// The same, if nothing has to be said of the fields of its lines.
     pub fn lines(&self) -> &[TranscriptLine]
         ensures lines { result.now ≡ self.now.world.lines }
         // No list in memory is longer.
@@ -84,7 +84,7 @@ impl Script {
         self.line
     }
 
-    /// Takes the next bytes, and applies each line that ends in them. Where they make the script longer than [`MAX_SCRIPT`], only
+    /// Takes the next bytes, and applies each line that ends in them. If they make the script longer than [`MAX_SCRIPT`], only
     /// those up to this limit are taken, and the answer is that the line which goes on past it is too long.
     pub fn take(&mut self, piece: &[u8]) -> Result<(), Stop>
         ensures ok { OnOk result ((seen : List ℕ) → ScriptStands seen self.old → ScriptStands (seen ++ piece.now) self.new) }

@@ -23,7 +23,7 @@ pub enum Piece {
     Fault,
 }
 
-/// The next bytes of a source. `idle` counts the idle turns of the command so far; where there are [`PATIENCE`] of them, the source
+/// The next bytes of a source. `idle` counts the idle turns of the command so far; if there are [`PATIENCE`] of them, the source
 /// is at fault.
 pub fn next_piece<I: Source>(input: &mut I, buffer: &mut [u8], idle: &mut u32) -> Piece
     requires { 0 < length buffer.old }

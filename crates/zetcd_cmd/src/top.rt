@@ -81,7 +81,7 @@ where
     N::In: Wakes + HangsUp,
     N::Out: LetsGo,
     N::Door: Send,
-    // The net has accepted nothing yet, so that the numbers of connections are those of what it accepts.
+    // The net has accepted nothing yet, so that connections are numbered as it accepts them.
     requires { (N.counts net.old).accepted ≡ 0 }
     // Of `replay`, by the status: the transcript of a run to which exactly the lines that were read were applied. The run is one
     // run of the service, each conversation in it is lawful and fresh, and the verdict on its lines is lawful. Within the limits of a
@@ -108,7 +108,7 @@ where
     ensures unless_net { result ≢ Status.Net → result ≢ Status.WriteFault → (N.counts net.new).door_faults ≡ (N.counts net.old).door_faults }
     // Of other words: the net was left alone.
     ensures offline { ¬ NamesEtcd words.now → ¬ NamesServe words.now → net.new ≡ net.old }
-    // Of all words but those of `serve`: no other etcd was asked, and no random word taken.
+    // Unless the words start `serve`: no other etcd was asked, and no random word taken.
     ensures unasked { ¬ NamesServe words.now → (cluster.new ≡ cluster.old) × (random.new ≡ random.old) }
     // Of words that are in no row: the usage line was written, or a front of it where the output has a fault.
     ensures usage { UnlessReads words.now (¬ NamesStress words.now → ¬ NamesEtcd words.now → ¬ NamesServe words.now → RefusesWords result (O.taken out.old) (O.taken out.new)) }

@@ -84,7 +84,7 @@ fn limit_of(text: &[u8]) -> Option<u64>
     }
 }
 
-/// The address and the limit of these words; `None` where they are not those of `etcd`.
+/// The address and the limit of these words; `None` if they do not start `etcd`.
 pub fn etcd_words<'a>(words: &[&'a str]) -> Option<(&'a str, u64)>
     ensures some { IfSome result (λ found. IsEtcd words.now found.0.now found.1) }
     ensures none { IsNone result → ¬ NamesEtcd words.now }
@@ -112,7 +112,7 @@ pub struct Proxy<'a> {
     pub limit: u64,
 }
 
-/// What these words have `serve` do; `None` where they are not those of `serve`.
+/// What these words have `serve` do; `None` if they do not start `serve`.
 pub fn serve_words<'a>(words: &[&'a str]) -> Option<Proxy<'a>>
     ensures some { IfSome result (λ p. IsServe words.now p.listen.now p.endpoint.now p.limit) }
     ensures none { IsNone result → ¬ NamesServe words.now }
@@ -176,7 +176,7 @@ fn count_of(text: &[u8], most: u64) -> Option<u32>
     Some(count as u32)
 }
 
-/// What these words have `stress` run; `None` where they are not those of `stress`.
+/// What these words have `stress` run; `None` if they do not start `stress`.
 pub fn stress_words(words: &[&str]) -> Option<Schedule>
     ensures some { IfSome result (λ s. IsStress words.now s.number s.connections s.steps) }
     ensures least { IfSome result (λ s. 1 ≤ s.connections) }

@@ -10,7 +10,7 @@ use zk_wire::FieldSink;
 use zt_text::{push_hex, push_number, push_signed};
 use zx_base::{Memory, Text};
 
-/// Lines in the making, which contracts see as their bytes. Where memory was refused, part of a line may stand at their end;
+/// Lines in the making, which contracts see as their bytes. If memory was refused, part of a line may stand at their end;
 /// nobody reads them then, since every later call on their stream fails.
 #[derive(Drop)]
 pub(crate) struct Draft {

@@ -6,7 +6,7 @@ ghost use Rattle.zt_show.specs.Shown.{at_place, ending_words, ending_line};
 use crate::draft::Draft;
 use zx_base::Memory;
 
-/// How a stream ended. A place is an offset in the stream; a frame's is that of the first byte of its length.
+/// How a stream ended. A place is an offset in the stream; a frame's is the offset of the first byte of its length.
 #[derive(Clone, Copy, PartialEq, Eq)]
 pub enum Ending {
     /// After a whole frame, or before the first, at this many bytes.

@@ -54,7 +54,7 @@ impl Show {
         self.progress.lines
     }
 
-    /// Adds the lines of the frames that this piece makes whole. Where the stream ends in the piece, whatever comes after it,
+    /// Adds the lines of the frames that this piece makes whole. If the stream ends in the piece, whatever comes after it,
     /// adds the last line and answers how: at a length out of range, a frame without a header, or the 100,000,001st byte.
     pub fn take(&mut self, piece: &[u8], text: &mut Lines) -> Result<Option<Ending>, Memory>
         ensures adds { IfOk result (λ ending. Adds ending self.old piece.now text.old text.new self.new) }

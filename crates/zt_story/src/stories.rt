@@ -122,7 +122,7 @@ impl Story {
         }
     }
 
-    /// The words of a frame, where the same frame is made from them.
+    /// The words of a frame, if the same frame is made from them.
     fn frame_words(&mut self, connection: u32, frame: &[u8]) -> Result<Option<Vec<u8>>, Memory> {
         let is_first = self.is_first(connection);
         self.asks.push(Ask {
