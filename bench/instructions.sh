@@ -10,8 +10,7 @@ set -eu
 here=$(cd "$(dirname "$0")/.." && pwd)
 packages="etcd-server:etcd valgrind:valgrind"
 . "$here/bench/needs.sh"
-program=${ZETCD:-$here/crates/zetcd/out/zetcd}
-[ -x "$program" ] || { echo "no program at $program: build it, or name one by ZETCD" >&2; exit 2; }
+. "$here/bench/program.sh"
 work=$(mktemp -d /dev/shm/zetcd-bench.XXXXXX)
 . "$here/bench/group.sh"
 in_group /usr/bin/python3 "$here/bench/clients/instructions.py" "$program" "$work" "${@:-100}"
