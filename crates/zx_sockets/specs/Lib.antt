@@ -3,3 +3,4 @@ pub mod Faults
 pub mod Nets
 pub mod Refilling
 pub mod Silence
+pub mod Waits

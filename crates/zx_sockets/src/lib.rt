@@ -4,7 +4,9 @@
 //! # Streams
 //!
 //! Both ends of a TCP stream share one descriptor. What is written goes out at once (`TCP_NODELAY`). A read waits at
-//! most 10 milliseconds for a byte, or what the system makes of them, and then answers an idle turn. A source reads
+//! most 10 milliseconds for a byte, or what the system makes of them, and then answers an idle turn. Of a stream that was dialled a
+//! read waits up to a second, and answers as many idle turns in a row as its wait had: so a bound in turns is one in time, and a thread
+//! that waits for a peer wakes once a second. A source reads
 //! the system's bytes into a buffer of its own and hands them out from there, so reading byte by byte is cheap. After
 //! the peer's end the system is not asked again, and each read waits before it answers the end: for the bell, at most a second, or
 //! 10 milliseconds where there is none. A write that takes no byte within 60 seconds is a fault.
@@ -61,6 +63,7 @@ mod source;
 mod spawner;
 #[cfg(test)]
 mod tests;
+mod waits;
 
 pub use bell::SocketBell;
 pub use clock::StdClock;

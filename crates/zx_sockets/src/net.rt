@@ -9,15 +9,13 @@ use crate::patience::Patience;
 use crate::pauses::Pauses;
 use crate::sink::SocketSink;
 use crate::source::SocketSource;
+use crate::waits::IDLE_TURN;
 use std::alloc::Global;
 use std::net::{Net as SystemNet, TcpListener, TcpStream, ToSocketAddrs};
 use std::sync::Arc;
 use std::time::{Clock as SystemClock, Duration};
 use std::{io, thread};
 use zx_net::{Net, NetFault};
-
-/// How long a read waits for a byte, in milliseconds.
-const READ_WAIT: u64 = 10;
 
 /// How long a write waits until a byte was taken, in milliseconds.
 const WRITE_WAIT: u64 = 60_000;
@@ -76,7 +74,7 @@ impl<R: SystemNet<Listener = TcpListener, Stream = TcpStream> + SystemClock + Co
 /// Has reads and writes wait for their time, and small writes go out at once.
 pub fn prepare(stream: &TcpStream) -> io::Result<()> {
     stream.set_nodelay(true)?;
-    stream.set_read_timeout(Some(Duration::from_millis(READ_WAIT)))?;
+    stream.set_read_timeout(Some(Duration::from_millis(IDLE_TURN)))?;
     stream.set_write_timeout(Some(Duration::from_millis(WRITE_WAIT)))
 }
 
@@ -192,7 +190,10 @@ fn dialled_ends<R: SystemNet<Stream = TcpStream> + SystemClock + Copy>(
     ensures sink { IfOk result (λ ends. (ends.1.faults ≡ 0) × (ends.1.name ≡ 0)) }
 {
     match connect(&rt, address) {
-        Ok(stream) => ends_of(rt, alloc, stream, 0, None),
+        Ok(stream) => match ends_of(rt, alloc, stream, 0, None) {
+            Ok((source, sink)) => Ok((source.waiting_long(), sink)),
+            Err(fault) => Err(fault),
+        },
         Err(fault) => Err(fault),
     }
 }

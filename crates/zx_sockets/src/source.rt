@@ -8,6 +8,7 @@ ghost use Rattle.zx_sockets.specs.Silence.{IsPatience, IsPatienceOf};
 
 use crate::bell::{Ear, SocketBell};
 use crate::patience::Patience;
+use crate::waits::{ANSWER_WAIT, begins, owe, takes_turn};
 use std::alloc::{AllocError, Global};
 use std::io::Read;
 use std::net::{Net as SystemNet, Shutdown, TcpStream};
@@ -49,6 +50,8 @@ pub struct SocketSource<R> {
     /// How long the peer may say nothing; `None`: for ever.
     patience: Option<Patience>,
     ear: Option<Ear>,
+    /// How many idle turns of the last wait are still to be answered; `None`: a read waits for one turn alone.
+    owed: Option<u64>,
     ghost kept: { at ≤ end },
     ghost fits: { end ≤ vec_len room },
     ghost over: { ended ≡ true → at ≡ end },
@@ -184,7 +187,24 @@ impl<R: SystemClock + Copy> SocketSource<R> {
             row: 0,
             patience,
             ear: None,
+            owed: None,
         })
+    }
+
+    /// The same source, but each read waits up to a second for a byte, where the system lets it.
+    pub fn waiting_long(mut self) -> SocketSource<R>
+        ensures counts { (result.faults ≡ self.faults) × (result.idles ≡ self.idles) }
+        ensures ended { result.ended ≡ self.ended }
+        ensures named { result.name ≡ self.name }
+        ensures patience { result.patience ≡ self.patience }
+    {
+        let wait = Some(Duration::from_millis(ANSWER_WAIT));
+        if let Some(stream) = &self.stream {
+            if stream.set_read_timeout(wait).is_ok() {
+                self.owed = Some(0);
+            }
+        }
+        self
     }
 
     /// Counts a fault.
@@ -254,9 +274,13 @@ impl<R: SystemClock + Copy> SocketSource<R> {
         if is_due(&self.ear, self.row) {
             return self.idle_turn();
         }
+        if takes_turn(&mut self.owed) {
+            return self.pass_turn();
+        }
         if !hears(&mut self.ear) {
             return self.pass_turn();
         }
+        let began = begins(&self.rt, &self.owed);
         let answer = ask(&self.stream, self.room.as_mut_slice());
         match answer {
             Got::Bytes(count) => {
@@ -273,6 +297,7 @@ impl<R: SystemClock + Copy> SocketSource<R> {
             }
             Got::Nothing => {
                 note(&mut self.ear, true);
+                owe(&self.rt, &mut self.owed, began);
                 self.pass_turn()
             }
             Got::End => {
