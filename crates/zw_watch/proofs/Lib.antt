@@ -1,2 +1,4 @@
 pub mod SetWatches
 pub mod Undoing
+pub mod Counting
+pub mod Hearing

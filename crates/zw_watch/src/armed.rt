@@ -3,6 +3,7 @@
 ghost use Rattle.std.specs.Prelude.{◌≡◌, IfOk, OnOk, OnErr, IsTrue};
 ghost use Rattle.zk_model.specs.Watches.{no_watches, is_unarmed, fire, is_watched, is_watcher_type, unwatched};
 ghost use Rattle.zw_watch.specs.Armed.{armed, fired_of};
+ghost use Rattle.zw_watch.specs.Bits.{IsHeard};
 ghost use Rattle.zw_watch.specs.SeenPaths.{see_paths, unseen, IsSetWatches};
 
 use crate::seen_path::SeenPath;
@@ -48,6 +49,13 @@ impl Armed {
         ensures { result ≡ is_unarmed self.now }
     {
         self.paths.is_empty()
+    }
+
+    /// The bits of what is armed: a change that fires a watch has one of them ([`bits_of`](crate::bits_of)). Most others have none.
+    pub fn bits(&self) -> u64
+        ensures { IsHeard self.now result }
+    {
+        self.paths.bits()
     }
 
     /// Arms a child watch, or otherwise a data watch, on this path. A watch that is armed already stays armed. Where memory runs

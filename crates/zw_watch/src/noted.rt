@@ -5,9 +5,9 @@ ghost use Rattle.std.specs.FinMap.{insert};
 ghost use Rattle.zk_model.specs.Watches.{PathSet as Paths};
 ghost use Rattle.zw_watch.specs.Noted.{IsWithout};
 
+use crate::marked::MarkedPaths;
 use std::alloc::Global;
 use std::marker::Model;
-use zk_model::PathSet;
 use zx_base::Memory;
 
 /// A path, borrowed.
@@ -26,7 +26,7 @@ impl<'a> Model for Noted<'a> {
 
 /// Puts a path into the set, and notes it where it is new.
 pub(crate) fn insert_noted<'a>(
-    paths: &mut PathSet,
+    paths: &mut MarkedPaths,
     alloc: Global,
     noted: &mut Vec<Noted<'a>>,
     path: &'a [u8],
@@ -43,7 +43,7 @@ pub(crate) fn insert_noted<'a>(
 }
 
 /// Takes the noted paths out of the set.
-pub(crate) fn remove_all(paths: &mut PathSet, noted: &[Noted<'_>])
+pub(crate) fn remove_all(paths: &mut MarkedPaths, noted: &[Noted<'_>])
     ensures { (before : Paths) → IsWithout paths.old noted.now before → paths.new ≡ before }
 {
     for path in noted {

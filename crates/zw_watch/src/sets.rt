@@ -3,19 +3,22 @@
 ghost use Rattle.std.specs.Prelude.{◌≡◌, IfOk, OnOk, OnErr};
 ghost use Rattle.std.specs.FinMap.{contains_key};
 ghost use Rattle.zk_model.specs.Watches.{no_watches, is_unarmed, fired_data, fired_children, fire, is_watched, note, unwatched};
+ghost use Rattle.zw_watch.specs.Bits.{IsHeard};
 ghost use Rattle.zw_watch.specs.Armed.{armed, fired_both, fired_of, has_either, watches_of};
 
+use crate::bits::across;
+use crate::marked::MarkedPaths;
 use crate::notices::{CHANGED, CHILDREN, CREATED, DELETED, note};
 use std::alloc::Global;
 use zk_model::watcher::{names_children, names_data};
-use zk_model::{Notice, PathSet, Trigger};
+use zk_model::{Notice, Trigger};
 use zx_base::Memory;
 
 /// The paths that have a watch.
 #[derive(Drop)]
 pub(crate) struct PathSets {
-    pub(crate) on_data: PathSet,
-    pub(crate) on_children: PathSet,
+    pub(crate) on_data: MarkedPaths,
+    pub(crate) on_children: MarkedPaths,
 }
 
 impl PathSets {
@@ -24,8 +27,8 @@ impl PathSets {
         ensures { watches_of result ≡ no_watches }
     {
         PathSets {
-            on_data: PathSet::new(alloc),
-            on_children: PathSet::new(alloc),
+            on_data: MarkedPaths::new(alloc),
+            on_children: MarkedPaths::new(alloc),
         }
     }
 
@@ -34,6 +37,13 @@ impl PathSets {
         ensures { result ≡ is_unarmed (watches_of self.now) }
     {
         self.on_data.is_empty() && self.on_children.is_empty()
+    }
+
+    /// The bits of all watches.
+    pub(crate) fn bits(&self) -> u64
+        ensures { IsHeard (watches_of self.now) result }
+    {
+        self.on_data.bits() | across(self.on_children.bits())
     }
 
     /// Arms a child watch, or otherwise a data watch; or changes nothing, where memory runs out.
