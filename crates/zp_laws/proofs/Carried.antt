@@ -1,6 +1,6 @@
 -- A plan that was carried out: its draft is the service's reply, as of right after its own line.
 use Rattle.std.proofs.Common.{◌≡◌, ℕ, ◌+◌, ◌≤◌, List, length, take, take-take, refl, sym, ap, ◌∙◌, subst, arith, Bool, true, ℤ, pos, inl, inr}
-use Rattle.std.specs.Prelude.{Option, Some, None, is_some, option_map, option_and_then, ◌⊎◌, ◌≤ℤ◌, ◌<ℤ◌, ◌==◌, Contains, if◌then◌else◌, nat_abs}
+use Rattle.std.specs.Prelude.{Option, Some, None, is_some, option_map, option_and_then, ◌⊎◌, ◌≤ℤ◌, ◌<ℤ◌, ◌==◌, All, Contains, if◌then◌else◌, nat_abs}
 use Rattle.std.specs.FinMap.{get}
 use Rattle.std.specs.List.{list_all}
 use Rattle.std.proofs.lemmas.Bool.Decides.{nat_tests, Decides-int_eq}
@@ -59,7 +59,7 @@ use Rattle.zp_laws.specs.Standing.{IsBoundPlan, IsReply, IsViewOf, Matches}
 use Rattle.zp_laws.proofs.Attached.{acts-here, first_place-take, live-is, moored}
 use Rattle.zp_laws.proofs.Deciding.{attached-then, walker-frame}
 use Rattle.zp_laws.proofs.Replying.{past-told}
-use Rattle.zp_laws.proofs.Revisions.{may-commit}
+use Rattle.zp_laws.proofs.Revisions.{IsFoundIn, made-found, may-commit}
 
 -- ---- the guard on the record of the session's life
 
@@ -183,6 +183,10 @@ pub record WasDone (store : Store) (lines : List TranscriptLine) (conn : ℕ) (c
 
 module _ (store : Store) (lines : List TranscriptLine) (conn : ℕ) (c : Core) (w : Walker) (bytes : List ℕ) (v : View) (p : Plan) (m : ℕ) (xid : ℤ) (q : Request) (before then_store : Store) (r : ℤ) (parts : List ActAns) (looked : ℕ)
     (k : WasDone store lines conn c w bytes v p m xid q before then_store r parts looked) where
+  -- what the view found is in the store that carried the plan out, at the view's revision
+  found-before : (k.bound).number ≤ length before.revisions → All (IsFoundIn (store_at before (k.bound).number)) v.keys
+  found-before le = subst (λ (keys : Keys). All (IsFoundIn keys) v.keys) ((k.was).same (k.bound).number le) (made-found q v p (store_at store (k.bound).number) (k.bound).made_of)
+
   draft-responds : Responds lines (k.own).place r (kind_for q c.who.session conn c.next m) (finished r p.draft) (is_some (end_after q))
   draft-responds =
       let o = k.own in
@@ -193,8 +197,7 @@ module _ (store : Store) (lines : List TranscriptLine) (conn : ℕ) (c : Core) (
       let fine = moored lines conn c.who o.place there in
       let d = carried-out before then_store p r parts (((k.bound).good).asked).shows k.carried_out in
       let le = k.earlier (k.bound).number (k.bound).revision in
-      let agrees : Agrees v (store_at before (k.bound).number) = subst (Agrees v) ((k.was).same (k.bound).number le) (k.bound).agrees in
-      let may = may-commit before v p (k.bound).number (length before.revisions) (((k.bound).good).asked).keys le agrees (k.bound).put (((k.bound).good).asked).among (((k.bound).good).asked).guards d.holds in
+      let may = may-commit before v p (k.bound).number (length before.revisions) (((k.bound).good).reads).keys le (found-before le) ((o.stood).layout).least (k.bound).put (((k.bound).good).reads).guards d.holds in
       let l = at-line lines o.place o.update h o.there in
       let up = rises-there s (state_at lines (o.place + 1)) (rising lines o.place (o.place + 1) h (omega arith) (omega (arith, past.some))) l.updates in
       let rises : s.zxid <ℤ r = omega (arith, ints, up, l.zxid, o.zxid) in
@@ -218,8 +221,7 @@ module _ (store : Store) (lines : List TranscriptLine) (conn : ℕ) (c : Core) (
       let fine = moored lines conn c.who o.place there in
       let d = carried-out before then_store p r parts (good.asked).shows k.carried_out in
       let le = k.earlier (k.bound).number (k.bound).revision in
-      let agrees : Agrees v (store_at before (k.bound).number) = subst (Agrees v) ((k.was).same (k.bound).number le) (k.bound).agrees in
-      let may = may-commit before v p (k.bound).number (length before.revisions) (good.asked).keys le agrees (k.bound).put (good.asked).among (good.asked).guards d.holds in
+      let may = may-commit before v p (k.bound).number (length before.revisions) (good.reads).keys le (found-before le) ((o.stood).layout).least (k.bound).put (good.reads).guards d.holds in
       let writes = good.writes in
       let again = ranges_of (pos 0) p.again in
       let txn : plan_txn p ≡ update_txn p.guards writes.changes p.triggers again = λ i. record { guards = p.guards; success = writes.acts i; failure = again } in

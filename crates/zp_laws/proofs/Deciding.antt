@@ -1,6 +1,9 @@
 -- A view that is whole: it is decided, and a reply waits or a plan is asked.
 use Rattle.std.proofs.Common.{◌≡◌, ℕ, List, [], take, refl, sym, ap, ◌∙◌, subst, arith, true, ℤ, pos, inl, inr}
-use Rattle.std.specs.Prelude.{Option, Some, None, is_some, ◌≤ℤ◌}
+use Rattle.std.specs.Prelude.{Option, Some, None, is_some, ◌≤ℤ◌, ◌⊎◌}
+use Rattle.std.specs.FinMap.{get}
+use Rattle.std.proofs.lemmas.List.Elements.{All-weaker}
+use Rattle.ev_types.specs.Ranges.{Keys}
 use Rattle.ev_types.specs.Store.{Store, store_at}
 use Rattle.zk_jute.specs.Requests.{Asks, read_request}
 use Rattle.zk_model.specs.Codes.{session_expired, session_moved}
@@ -20,13 +23,15 @@ use Rattle.zn_layout.specs.Keys.{HeadKey, key_bytes}
 use Rattle.zn_view.specs.Asks.{head_want}
 use Rattle.zn_view.specs.Needs.{AreNeeds}
 use Rattle.zn_view.specs.Seen.{View, seen}
-use Rattle.zn_view.specs.Views.{IsBySession, live}
+use Rattle.zn_view.specs.Views.{IsBySession, WasPut, live}
+use Rattle.zx_base.specs.Maps.{Bytes}
 use Rattle.zn_view.specs.declared.plan.Decision.{Decision}
 use Rattle.zn_view.specs.declared.plan.Decision.TheVariants.{Answered, Planned, Expired, Moved}
+use Rattle.zn_view.specs.declared.snapshot.SeenKey.{SeenKey}
 use Rattle.zn_view.proofs.Asked.{stands-put}
 use Rattle.zn_view.proofs.LastUpdate.{last_update-told}
 use Rattle.zp_step.specs.Kept.{keeps, view_path}
-use Rattle.zp_step.specs.Looking.{IsBacked, Looks, asks_for, change_by, decided, expired, max_ranges, moved, pending, IsForTree}
+use Rattle.zp_step.specs.Looking.{IsBacked, Looks, asks_for, change_by, decided, expired, guessed, max_ranges, moved, pending, IsForTree}
 use Rattle.zp_step.specs.Replies.{Is, waits}
 use Rattle.zp_step.specs.Stages.{AddsWatch, Core, WatchChange}
 use Rattle.zp_step.specs.declared.action.Action.{Action}
@@ -35,8 +40,9 @@ use Rattle.zp_laws.specs.Standing.{IsMoment, IsPastFrame, IsReply, IsViewAt, IsV
 use Rattle.zp_laws.specs.Walking.{Walks}
 use Rattle.zp_laws.proofs.Attached.{IsAttached, away-refused, first_place-take, gone-refused, here-served, live-is, moored}
 use Rattle.zp_laws.proofs.Going.{Works, beside-walks, beside-works, plans-walks, reads-walks}
-use Rattle.zp_laws.proofs.Keeping.{views-with}
+use Rattle.zp_laws.proofs.Keeping.{all-placed, views-with}
 use Rattle.zp_laws.proofs.Replying.{Busy, past-told, waits-walks}
+use Rattle.zp_laws.proofs.Revisions.{FoundIn}
 use Rattle.zp_laws.proofs.Strides.{walks-is}
 use Rattle.zp_laws.proofs.Telling.{answered-by, by-form, expired-by, moved-by, refused-told, told-by, tree-told, told_by}
 
@@ -129,7 +135,7 @@ module _ (store : Store) (lines : List TranscriptLine) (conn : ℕ) (c : Core) (
             number = (k.view).number;
             revision = (k.view).revision;
             known = (k.view).known;
-            agrees = (k.view).agrees;
+            made_of = inl (k.view).agrees;
             put = stands-put v (store_at store (k.view).number) (state_at lines looked) (k.view).stands (k.view).agrees;
             good = back.0;
             keepable = back.1;
@@ -139,7 +145,11 @@ module _ (store : Store) (lines : List TranscriptLine) (conn : ℕ) (c : Core) (
           let t = moved-by (state_at lines looked) c.who q found (live (session_at c.who.session (state_at lines looked))) by in
           moved-walks xid found t.session xid-is t.there t.differ i
 
--- more is asked for the view, or the request is decided on it
+-- a key has what the view says, or is the one that was guessed absent
+abbrev IsSoOrGuessed : Keys → Bytes → SeenKey → Type 0
+IsSoOrGuessed m key x = (get m x.key ≡ x.found) ⊎ ((x.key ≡ key) × (x.found ≡ None))
+
+-- more is asked for the view, or the request is decided on it or on a guess
 pub view-walks : (store : Store) (lines : List TranscriptLine) (conn : ℕ) (Afresh : Type 0) (c c' : Core) (w : Walker) (bytes : List ℕ) (v : View) (looked now : ℕ) (xid : ℤ) (q : Request) (out : List Action)
     → Works store lines conn c w bytes → pos 1 ≤ℤ c.who.session → IsViewAt store lines conn c.who w v looked → own_update conn c.next lines ≡ None → read_request bytes ≡ Asks xid q → IsForTree q → (Afresh → IsPastFrame lines conn c.next looked)
     → Looks c xid q v now c' out → Walks store lines conn Afresh c c' w looked out
@@ -147,7 +157,27 @@ view-walks store lines conn Afresh c c' w bytes v looked now xid q out k least v
     walks-is store lines conn Afresh c c' (asks_for c xid q v (take max_ranges x.lacking)) w looked out x.is
     (reads-walks store lines conn Afresh c w bytes looked xid q v (take max_ranges x.lacking) k e
     (h, inr (record { number = view.number; revision = view.revision; begun = view.begun; known = view.known; agrees = view.agrees; stands = view.stands; moment = view.moment })) (λ y f. past y))
-view-walks store lines conn Afresh c c' w bytes v looked now xid q out k least view own e h past (inr x) =
+-- a guess says nothing of what was found
+view-walks store lines conn Afresh c c' w bytes v looked now xid q out k least view own e h past (inr (inl x)) =
+    let m = store_at store view.number in
+    let absent : SeenKey = record { key = x.key; found = None } in
+    walks-is store lines conn Afresh c c' (decided c xid q (guessed v x.key) now (Planned x.plan)) w looked out x.is
+    (plans-walks store lines conn Afresh c w bytes looked now xid q (guessed v x.key) x.plan k e h (record {
+      number = view.number;
+      revision = view.revision;
+      known = view.known;
+      made_of = inr (record {
+        sequence = (x.may).sequence;
+        key = x.key;
+        record_of_node = (x.may).record_of_node;
+        keys = all-placed (IsSoOrGuessed m x.key) absent v.keys (inr (refl, refl)) (All-weaker (FoundIn m) (IsSoOrGuessed m x.key) (λ y is. inl is) v.keys (view.agrees).keys);
+        taken = x.taken;
+      });
+      put = all-placed WasPut absent v.keys tt (stands-put v m (state_at lines looked) view.stands view.agrees);
+      good = x.backed.0;
+      keepable = x.backed.1;
+    }))
+view-walks store lines conn Afresh c c' w bytes v looked now xid q out k least view own e h past (inr (inr x)) =
     let d = keeps c q v in
     let of : IsViewOf store v = record { number = view.number; revision = view.revision; known = view.known; agrees = view.agrees; put = stands-put v (store_at store view.number) (state_at lines looked) view.stands view.agrees } in
     let works = beside-works store lines conn Afresh c d.views w bytes (views-with store (view_path q) v c.views of k.views) k in

@@ -189,7 +189,8 @@ module _ (store : Store) (lines : List TranscriptLine) (conn : ℕ) (Afresh : Ty
       → Works store lines conn c w bytes → read_request bytes ≡ Asks xid r → IsForTree r → Looks c xid r empty_view now c' out → Walks store lines conn Afresh c c' w looked out
   anew-walks c c' w bytes looked now xid r out k e h (inl x) =
       walks-is store lines conn Afresh c c' (asks_for c xid r empty_view (take max_ranges x.lacking)) w looked out x.is (reads-walks c w bytes looked xid r empty_view (take max_ranges x.lacking) k e (h, inl (refl, refl, refl)) (λ q f. absurd (cc)))
-  anew-walks c c' w bytes looked now xid r out k e h (inr x) = absurd (x.whole.enough refl h head_want (inl refl) refl)
+  anew-walks c c' w bytes looked now xid r out k e h (inr (inl x)) = absurd (let begun : true ≡ false = (x.may).begun in cc)
+  anew-walks c c' w bytes looked now xid r out k e h (inr (inr x)) = absurd (x.whole.enough refl h head_want (inl refl) refl)
 
   -- a plan that is made on a kept view
   at_once-walks : (c c' : Core) (w : Walker) (bytes : List ℕ) (looked now : ℕ) (xid : ℤ) (r : Request) (out : List Action) (q : Bytes) (v : View) → Works store lines conn c w bytes → read_request bytes ≡ Asks xid r → IsForTree r → IsViewOf store v
@@ -199,7 +200,7 @@ module _ (store : Store) (lines : List TranscriptLine) (conn : ℕ) (Afresh : Ty
       beside-walks c c' (used_first q v c.views) w looked out
       (walks-is store lines conn Afresh d c' (decided d xid r v now (Planned x.plan)) w looked out x.is
       (plans-walks d w bytes looked now xid r v x.plan (beside-works c (used_first q v c.views) w bytes (views-used store q v c.views of k.views) k) e h
-      (record { number = of.number; revision = of.revision; known = of.known; agrees = of.agrees; put = of.put; good = x.backed.0; keepable = x.backed.1 })))
+      (record { number = of.number; revision = of.revision; known = of.known; made_of = inl of.agrees; put = of.put; good = x.backed.0; keepable = x.backed.1 })))
 
   looks-walks : (c c' : Core) (w : Walker) (bytes : List ℕ) (looked now : ℕ) (xid : ℤ) (r : Request) (out : List Action) (o : Option Bytes)
       → Works store lines conn c w bytes → read_request bytes ≡ Asks xid r → IsForTree r → LooksFirst c xid r now c' out o → Walks store lines conn Afresh c c' w looked out

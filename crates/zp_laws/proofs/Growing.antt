@@ -22,7 +22,7 @@ use Rattle.zp_step.specs.Stages.{Core, Pending, Stage, Unconnected, Connecting, 
 use Rattle.zp_laws.specs.Frames.{AreFrames, IsAtWork, IsFrameAt, IsRequestAt}
 use Rattle.zp_laws.specs.Growing.{Grows}
 use Rattle.zp_laws.specs.Inputs.{Precedes}
-use Rattle.zp_laws.specs.Standing.{IsFreshLook, IsMoment, IsPastFrame, IsReply, IsViewAt, Knows, Matches, Stands, has_looked}
+use Rattle.zp_laws.specs.Standing.{IsFreshLook, IsMadeOf, IsMoment, IsPastFrame, IsReply, IsViewAt, Knows, Matches, Stands, has_looked}
 use Rattle.zp_laws.proofs.Keeping.{views-kept}
 use Rattle.zp_laws.proofs.Strides.{placed}
 
@@ -112,7 +112,7 @@ module _ (store store' : Store) (lines more : List TranscriptLine) (conn : ℕ) 
   knows-push (Reading xid r v ws) e m k (tree, inr view) =
       (tree, inr (view-push lines more conn c.who w looked store store' v g.before view))
   knows-push (Committing xid r v p n) e m k (tree, b) =
-      (tree, record { number = b.number; revision = b.revision; known = omega (arith, b.known, (g.before).longer); agrees = subst (Agrees v) (sym ((g.before).same b.number b.known)) b.agrees; put = b.put; good = b.good; keepable = b.keepable })
+      (tree, record { number = b.number; revision = b.revision; known = omega (arith, b.known, (g.before).longer); made_of = subst (IsMadeOf r v p) (sym ((g.before).same b.number b.known)) b.made_of; put = b.put; good = b.good; keepable = b.keepable })
   knows-push (Waiting p) e m k h =
       (reply-push lines more conn c.who w p looked (ap (λ n. own_update conn n (lines ++ more)) m.next ∙ g.own p e ∙ sym (ap (λ n. own_update conn n lines) m.next)) h.0, h.1)
 

@@ -9,11 +9,22 @@ use Rattle.zx_base.proofs.Options.{none_some, some_is}
 use Rattle.zn_view.specs.Keeping.{max_kept_view, trimmed, view_size}
 use Rattle.zn_view.specs.Seen.{View}
 use Rattle.zn_view.specs.Views.{Agrees, children_kept}
+use Rattle.zn_view.specs.Laying.{placed}
 use Rattle.zn_view.specs.declared.snapshot.SeenChildren.{SeenChildren}
+use Rattle.zn_view.specs.declared.snapshot.SeenKey.{SeenKey}
 use Rattle.zp_step.specs.Kept.{kept_with, others_kept, put_first, used_first}
 use Rattle.zp_step.specs.Stages.{KeptViews}
 use Rattle.zp_laws.specs.Inputs.{Precedes}
 use Rattle.zp_laws.specs.Standing.{AreViewsOf, IsViewOf}
+
+-- ---- a key that is laid
+
+pub all-placed : (P : SeenKey → Type 0) (x : SeenKey) (ys : List SeenKey) → P x → All P ys → All P (placed x ys)
+all-placed P x [] h all = All-cons P x [] h all
+all-placed P x (y ∷ ys) h all = elim (same y.key x.key) as (λ b. All P (if b then x ∷ ys else y ∷ placed x ys)) [
+  | true ↦ All-cons P x ys h (All-tail P y ys all)
+  | false ↦ All-cons P y (placed x ys) (All-head P y ys all) (all-placed P x ys h (All-tail P y ys all))
+]
 
 -- ---- the views stay true
 

@@ -1,5 +1,5 @@
 -- A plan is made at the time of the step that asks its transaction.
-use Rattle.zp_step.specs.Looking.{asks_for, IfRecords, Looks, change_by, decided, expired, max_ranges, moved, pending}
+use Rattle.zp_step.specs.Looking.{asks_for, IfRecords, Looks, change_by, decided, expired, guessed, max_ranges, moved, pending}
 use Rattle.std.proofs.Common.{◌≡◌, ℕ, List, [], ◌++◌, take, refl, sym, ap, ◌∙◌, subst, Bool, true, false, ℤ, pos, inl, inr, append-nil}
 use Rattle.std.specs.Prelude.{Option, Some, None, ◌⊎◌, if◌then◌else◌, MatchBool}
 use Rattle.std.specs.Arc.{arc_value}
@@ -78,7 +78,8 @@ decided-plans c c' xid r v now out (Moved found) i = waits-plans c c' (moved c.w
 
 looks-plans : (c c' : Core) (xid : ℤ) (r : Request) (v : View) (now : ℕ) (out : List Action) → Looks c xid r v now c' out → IsPlannedAt now c'.stage
 looks-plans c c' xid r v now out (inl y) = planned-is now (asks_for c xid r v (take max_ranges y.lacking)) c' out y.is tt
-looks-plans c c' xid r v now out (inr y) = decided-plans (keeps c r v) c' xid r v now out y.decision y.is
+looks-plans c c' xid r v now out (inr (inl y)) = decided-plans c c' xid r (guessed v y.key) now out (Planned y.plan) y.is
+looks-plans c c' xid r v now out (inr (inr y)) = decided-plans (keeps c r v) c' xid r v now out y.decision y.is
 
 records-plan : (c c' : Core) (ws : List Want) (parts : List ActAns) (now : ℕ) (out : List Action) (Next : Type 0) → (Next → IsPlannedAt now c'.stage) → IfRecords c ws parts c' out Next → IsPlannedAt now c'.stage
 records-plan c c' ws parts now out Next f (inl e) = closed-plans c c' (cause.Damaged e.key e.value) now out e.is

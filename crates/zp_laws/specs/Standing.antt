@@ -1,8 +1,10 @@
 -- What is true of an attached core between two steps: it stands at a walker of its connection, and what its stage holds is
 -- true of the store and of the transcript.
-use Rattle.std.specs.Prelude.{◌≡◌, ℕ, pos, ◌+◌, ◌≤◌, ◌<◌, ◌⊎◌, Bool, true, false, not, ◌||◌, List, [], length, take, Some, is_some, All, slice_get}
+use Rattle.std.specs.Prelude.{◌≡◌, ℕ, pos, ◌+◌, ◌≤◌, ◌<◌, ◌⊎◌, Bool, true, false, not, ◌||◌, List, [], length, take, Some, None, is_some, All, slice_get}
+use Rattle.std.specs.FinMap.{get}
 use Rattle.std.specs.List.{list_all}
 use Rattle.std.specs.Ordering.{int_eq}
+use Rattle.ev_types.specs.Ranges.{Keys}
 use Rattle.ev_types.specs.Store.{Store, store_at}
 use Rattle.zk_jute.specs.Requests.{read_request}
 use Rattle.zk_model.specs.Watches.{Watches}
@@ -16,12 +18,13 @@ use Rattle.zk_transcript.specs.declared.transcript.TranscriptLine.TheVariants.{U
 use Rattle.zk_service.specs.declared.update.UpdateRec.{UpdateRec}
 use Rattle.zx_base.specs.Maps.{Bytes}
 use Rattle.zn_layout.specs.StandsFor.{StandsFor}
-use Rattle.zn_view.specs.Deciding.{IsGood}
+use Rattle.zn_view.specs.Deciding.{IsGood, IsTaken}
 use Rattle.zn_view.specs.Seen.{View}
 use Rattle.zn_view.specs.Views.{Agrees, WasPut}
 use Rattle.zn_view.specs.declared.plan.Plan.{Plan}
 use Rattle.zn_view.specs.declared.plan.Who.{Who}
-use Rattle.zp_step.specs.Looking.{IsForTree}
+use Rattle.zn_view.specs.declared.snapshot.SeenKey.{SeenKey}
+use Rattle.zp_step.specs.Looking.{IsForTree, is_node_key, makes_sequence}
 use Rattle.zp_step.specs.Replies.{is_due}
 use Rattle.zn_view.specs.Keeping.{IsKeepable}
 use Rattle.zp_step.specs.Stages.{Core, KeptViews, Pending, Stage, Unconnected, Connecting, Ready, Checking, Reading, Committing, Waiting, seen_by, waits_from}
@@ -86,12 +89,25 @@ pub record IsViewOf (store : Store) (v : View) : Type 0 where
 abbrev pub AreViewsOf : Store → KeptViews → Type 0
 AreViewsOf store xs = All (λ (x : Bytes × View). IsViewOf store x.1) xs
 
+-- What the view says of each key is so in these keys, but of one, a node's record, it says that it is absent: so it was guessed for
+-- the create of a sequence node. An etcd takes the plan, though the view may be of no state.
+pub record IsGuessOf (request : Request) (v : View) (p : Plan) (m : Keys) : Type 0 where
+  pub sequence : makes_sequence request ≡ true
+  pub key : Bytes
+  pub record_of_node : is_node_key key ≡ true
+  pub keys : All (λ (x : SeenKey). (get m x.key ≡ x.found) ⊎ ((x.key ≡ key) × (x.found ≡ None))) v.keys
+  pub taken : IsTaken p
+
+-- the view that a plan was made on agrees with these keys, or holds a guess
+abbrev pub IsMadeOf : Request → View → Plan → Keys → Type 0
+IsMadeOf request v p m = Agrees v m ⊎ IsGuessOf request v p m
+
 -- the plan is a good one, made on a view of a revision of the store
 pub record IsBoundPlan (store : Store) (who : Who) (request : Request) (v : View) (p : Plan) (time : ℕ) : Type 0 where
   pub number : ℕ
   pub revision : v.revision ≡ pos number
   pub known : number ≤ length store.revisions
-  pub agrees : Agrees v (store_at store number)
+  pub made_of : IsMadeOf request v p (store_at store number)
   pub put : All WasPut v.keys
   pub good : IsGood request who time v p
   pub keepable : IsKeepable request v p
