@@ -64,4 +64,11 @@ pub trait Feed {
         ensures below { cursor <ℤ floor (list self.new) → result ≢ Fed.Memory → IsLagged result }
         ensures lags { lags self.new ≡ lags self.old + if_lagged result }
         ensures closings { closings self.new ≡ closings self.old + if_closed result };
+
+    /// From now on the reader waits for entries of one of these bits alone. A look gives every entry all the same.
+    fn heed(&mut self, bits: u64)
+        ensures list { list self.new ≡ list self.old }
+        ensures reads { reads self.new ≡ reads self.old }
+        ensures lags { lags self.new ≡ lags self.old }
+        ensures closings { closings self.new ≡ closings self.old };
 }

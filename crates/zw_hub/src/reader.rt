@@ -100,4 +100,6 @@ impl Feed for HubReader {
         }
         fed
     }
+
+    fn heed(&mut self, _bits: u64) {}
 }

@@ -8,11 +8,12 @@ use zx_outside::Source;
 
 /// Wakes the one who waits for a source, from another thread.
 pub trait Bell {
-    /// Asks for one wake. Comes before the look at what the other thread gives.
-    fn arm(&self);
+    /// Asks for one wake, by a ring of one of these bits. Comes before the look at what the other thread gives.
+    fn arm(&self, bits: u64);
 
-    /// Wakes the reader, if it asked for that and was not woken since. Comes after the other thread has given.
-    fn ring(&self);
+    /// Wakes the reader, if it asked for one of these bits, or for all 64, and was not woken since. Comes after the other thread has
+    /// given. A ring of all bits is for every reader.
+    fn ring(&self, bits: u64);
 }
 
 /// A source that may have a bell.
@@ -35,7 +36,7 @@ pub trait Wakes: Source {
 pub struct NoBell;
 
 impl Bell for NoBell {
-    fn arm(&self) {}
+    fn arm(&self, _bits: u64) {}
 
-    fn ring(&self) {}
+    fn ring(&self, _bits: u64) {}
 }

@@ -27,7 +27,8 @@
 //!
 //! One who waits for a source and for another thread at once asks the source for a [`Bell`] ([`Wakes::bell`]), arms it,
 //! looks at what the other thread gives, and then reads. The other thread gives, and then rings. A read that waits
-//! answers an idle turn once the bell was rung, so no ring between the look and the read is lost.
+//! answers an idle turn once the bell was rung, so no ring between the look and the read is lost. Both name 64 bits: a ring passes
+//! over a reader that asked for none of its bits, unless either named all.
 //!
 //! # Jobs
 //!
