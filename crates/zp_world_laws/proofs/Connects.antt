@@ -22,9 +22,7 @@ use Rattle.zn_layout.specs.Keys.{key_bytes}
 use Rattle.zn_layout.specs.Records.{lease_value}
 use Rattle.zn_layout.specs.StandsFor.{StandsFor, at}
 use Rattle.zn_layout.specs.declared.record.LeaseRec.{LeaseRec}
-use Rattle.zn_view.specs.Asks.{picked}
-use Rattle.zn_view.proofs.Narrowing.{picked-among}
-use Rattle.zp_laws.proofs.Revisions.{may-commit}
+use Rattle.zp_laws.proofs.Revisions.{agrees-found, may-commit}
 use Rattle.ev_types.proofs.Revisions.{later_as_it_was}
 use Rattle.zp_laws.proofs.Attachments.{session-attached}
 use Rattle.zp_laws.proofs.NewSessions.{new_session-commits}
@@ -109,7 +107,8 @@ unfolding may_update updated
 reap-commits s lines id t w room b h =
     let z = next_revision s in
     let guards : list_all (holds (present s)) (b.plan).guards ≡ true = subst (λ (p : TxnReq). list_all (holds (present s)) p.guards ≡ true) b.txn h in
-    let may = may-commit s b.view b.plan b.number (length s.revisions) (picked b.view ((b.reaps).reads).keys) b.known b.agrees b.put (picked-among b.view ((b.reaps).reads).keys) ((b.reaps).reads).guards guards in
+    let found = agrees-found b.view (store_at s b.number) b.agrees in
+    let may = may-commit s b.view b.plan b.number (length s.revisions) ((b.reaps).reads).keys b.known found ((stands-now s lines w).layout).least b.put ((b.reaps).reads).guards guards in
     let r = (b.reaps).ends (present s) (after lines) z (legal-sound lines w.legal) (stands-now s lines w) may (zxid-next s lines w) room in
     record {
       may = ap is_lapsed r.is_open ∙ r.lapsed;

@@ -30,6 +30,7 @@ use Rattle.zk_service.specs.declared.update.UpdateKind.TheVariants.{Begin, Sessi
 use Rattle.zn_layout.specs.StandsFor.{StandsFor, at}
 use Rattle.zn_view.specs.Views.{Agrees}
 use Rattle.zp_laws.specs.Inputs.{Precedes}
+use Rattle.zp_laws.specs.Standing.{IsMadeOf}
 use Rattle.zs_session.specs.Sessions.{life_key}
 use Rattle.zn_layout.specs.declared.record.LeaseRec.{LeaseRec}
 use Rattle.zp_script.specs.declared.flight.Asking.{Asking}
@@ -92,7 +93,7 @@ request-kept s u lines more c i kind t x b =
         number = p.number;
         revision = p.revision;
         known = omega (arith, p.known, x.longer);
-        agrees = subst (Agrees b.view) (sym (x.same p.number p.known)) p.agrees;
+        made_of = subst (IsMadeOf b.request b.view b.plan) (sym (x.same p.number p.known)) p.made_of;
         put = p.put;
         good = p.good;
         keepable = p.keepable;

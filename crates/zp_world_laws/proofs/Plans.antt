@@ -11,7 +11,7 @@ use Rattle.std.proofs.lemmas.List.Sums.{AllPass-from_list_all}
 use Rattle.std.proofs.lemmas.Int.{ints}
 use Rattle.std.proofs.lemmas.Bool.Decides.{nat_tests, Decides-int_eq}
 use Rattle.ev_types.specs.Ranges.{Keys}
-use Rattle.ev_types.specs.Store.{Store, acts_applied, holds, last_revision, mod_of, present}
+use Rattle.ev_types.specs.Store.{Store, acts_applied, holds, last_revision, mod_of, present, store_at}
 use Rattle.ev_types.specs.declared.answer.Kv.{Kv}
 use Rattle.ev_types.specs.declared.ask.Guard.{Guard}
 use Rattle.ev_types.specs.declared.ask.TxnReq.{TxnReq}
@@ -38,7 +38,7 @@ use Rattle.zn_view.specs.Laws.{LivesAs}
 use Rattle.zn_view.specs.Views.{done_by, limit_at, live, state_after}
 use Rattle.zn_view.specs.declared.plan.Who.{Who}
 use Rattle.zp_laws.proofs.Attached.{IsAttached, acts-here, live-is}
-use Rattle.zp_laws.proofs.Revisions.{may-commit}
+use Rattle.zp_laws.proofs.Revisions.{made-found, may-commit}
 use Rattle.zp_laws.specs.Inputs.{kind_for}
 use Rattle.zp_step.specs.Looking.{IsForTree}
 use Rattle.zp_laws.specs.Standing.{is_ahead}
@@ -175,7 +175,8 @@ request-commits s lines c i t kind w room last b h =
     let rises = zxid-next s lines w in
     let guards : list_all (holds (present s)) (b.plan).guards ≡ true = subst (λ (p : TxnReq). list_all (holds (present s)) p.guards ≡ true) b.txn h in
     let p = b.bound in
-    let may = may-commit s b.view b.plan p.number (length s.revisions) ((p.good).asked).keys p.known p.agrees p.put ((p.good).asked).among ((p.good).asked).guards guards in
+    let found = made-found b.request b.view b.plan (store_at s p.number) p.made_of in
+    let may = may-commit s b.view b.plan p.number (length s.revisions) ((p.good).reads).keys p.known found (st.layout).least p.put ((p.good).reads).guards guards in
     let is_held = held (present s) (after lines) b.who st b.least b.rises (guard-holds (present s) (b.plan).guards (lease_guard b.who) guards ((p.good).asked).lease) in
     let a : IsAttached lines c b.who (length lines) = record { legal = ap is_legal (take-length lines) ∙ w.legal; place = b.place; own = ap (attach_of c) (take-length lines) ∙ b.attached; least = b.least } in
     let answer = ((p.good).commits).answers (present s) (after lines) z sound st may rises room in
