@@ -1,10 +1,9 @@
 -- A connection takes an answer, or an entry, and goes on: its asks that are still to come are no more than before.
-use Rattle.std.proofs.Common.{◌≡◌, ℕ, zero, suc, ◌+◌, ◌≤◌, List, [], take, refl, sym, ap, ◌∙◌, subst, arith, Bool, true, false, ℤ, pos, inl, inr}
-use Rattle.std.specs.Prelude.{Option, Some, None, ◌⊎◌, ◌||◌, if◌then◌else◌}
+use Rattle.std.proofs.Common.{◌≡◌, ℕ, zero, suc, ◌+◌, ◌≤◌, List, [], ◌∷◌, take, refl, sym, ap, ◌∙◌, subst, arith, Bool, true, false, ℤ, pos, inl, inr}
+use Rattle.std.specs.Prelude.{Option, Some, None, ◌⊎◌, if◌then◌else◌}
 use Rattle.std.specs.Arc.{arc_value}
 use Rattle.std.specs.Ordering.{int_eq}
-use Rattle.std.proofs.lemmas.Bool.Decides.{Decides-int_eq}
-use Rattle.ev_types.specs.Store.{Store, revision, succeeds}
+use Rattle.ev_types.specs.Store.{Store, succeeds}
 use Rattle.ev_types.specs.declared.answer.ActAns.{ActAns}
 use Rattle.ev_types.specs.declared.answer.Answer.{Answer}
 use Rattle.ev_types.specs.declared.answer.Answer.TheVariants as answer
@@ -12,19 +11,23 @@ use Rattle.ev_types.specs.declared.answer.Kv.{Kv}
 use Rattle.zk_jute.specs.Requests.{Frame, NoHeader, Unreadable, Unknown, Asks, read_request}
 use Rattle.zk_model.specs.Watches.{no_watches}
 use Rattle.zk_model.specs.declared.request.Request.{Request}
+use Rattle.zk_model.specs.declared.request.Request.TheVariants as req
 use Rattle.zk_service.proofs.PlainReplies.{plain-none}
 use Rattle.zk_service.specs.Answers.{Told, plain_reply, xid_of, is_auth_refusal}
 use Rattle.zk_service.specs.declared.cause.Cause.{Cause}
 use Rattle.zk_service.specs.declared.cause.Cause.TheVariants as cause
 use Rattle.zn_layout.specs.declared.entry.Entry.{Entry}
-use Rattle.zn_view.specs.Adding.{at_revision, is_new}
-use Rattle.zn_view.specs.Asks.{head_want, plan_txn, with_parts}
+use Rattle.zn_view.specs.Adding.{at_revision}
+use Rattle.zn_view.specs.Asks.{IsAskedPlan, head_want, plan_txn, with_parts}
 use Rattle.zn_view.specs.Lookups.{found_at}
+use Rattle.zn_view.specs.Needs.{AreNeeds, GuardsReads}
 use Rattle.zn_view.specs.Seen.{View, empty_view}
 use Rattle.zn_view.specs.declared.plan.Decision.{Decision}
 use Rattle.zn_view.specs.declared.plan.Decision.TheVariants.{Answered, Planned, Expired, Moved}
 use Rattle.zn_view.specs.declared.plan.Plan.{Plan}
+use Rattle.zn_view.specs.declared.plan.Who.{Who}
 use Rattle.zn_view.specs.declared.want.Want.{Want}
+use Rattle.zn_view.specs.declared.want.Want.TheVariants as want
 use Rattle.zs_reap.specs.Steps.{AreFewOwned}
 use Rattle.zs_session.specs.Alive.{is_alive_due}
 use Rattle.zs_session.specs.Answering.{viewed}
@@ -39,7 +42,7 @@ use Rattle.zp_step.proofs.Beside.{PlansBeside, first-or-anew, leaves-beside}
 use Rattle.zp_step.specs.Connects.{Connects, connected}
 use Rattle.zp_step.specs.Entries.{entered, then_reply, told_entry}
 use Rattle.zp_step.specs.Keepalives.{Checked, KeptAlive, Looked, StillMine, TakesUp, checks, keeps_alive}
-use Rattle.zp_step.specs.Looking.{IfRecords, Looks, asks_for, change_by, decided, expired, max_ranges, moved, pending}
+use Rattle.zp_step.specs.Looking.{IfRecords, IsBacked, Looks, MayGuess, asks_for, change_by, decided, expired, guessed, makes_sequence, max_ranges, moved, pending}
 use Rattle.zp_step.specs.Plans.{CommitAnswered, Committed, ReadOn, finishes}
 use Rattle.zp_step.specs.Replies.{Is, closed_by, is_due, replied, stage_after, waits}
 use Rattle.zp_step.specs.Stages.{Core, Pending, Stage, Unconnected, Connecting, Ready, KeepingAlive, Checking, Reading, Committing, Waiting, Shut, is_shut}
@@ -47,19 +50,30 @@ use Rattle.zp_step.specs.Steps.{Answers, Goes, StepsOpen, rests, takes}
 use Rattle.zp_step.specs.Taking.{TakesFrame, TakesReadable, end_of_plain, plainly}
 use Rattle.zp_step.specs.declared.action.Action.{Action}
 use Rattle.zp_step.specs.declared.input.Input.TheVariants as input
-use Rattle.zp_settle_laws.proofs.Coming.{AsksAfter, AsksOut, CommitAfter, ConnectAfter, EndsIf, IsTruthful, LooksOn, Remains, RemainsAfter, TruthIn, again_for, is_present}
-use Rattle.zp_settle_laws.proofs.Places.{request-ends, view_on}
+use Rattle.zp_settle_laws.proofs.Coming.{AreEnough, AsksAfter, AsksOut, CommitAfter, CommitsOut, ConnectAfter, EndsIf, IsAskedNow, IsNow, IsTruthful, LooksOn, Remains, RemainsAfter, TruthIn, again_for}
+use Rattle.zp_settle_laws.proofs.Places.{IsFewFor, few-for, request-ends, view_on}
+use Rattle.zp_settle_laws.proofs.Guessing.{guess-reads_all}
+use Rattle.zp_settle_laws.proofs.Truths.{planned-now}
 use Rattle.zp_settle_laws.specs.Looks.{asks_of, asks_of_all, looks, looks_in}
 use Rattle.zx_base.proofs.Booleans.{either}
+use Rattle.zx_base.specs.Maps.{Bytes}
 
 -- it has ended, or so much remains
 abbrev pub Then : Store → ℕ → Core → Type 0
 Then s n c = (is_shut c.stage ≡ true) ⊎ Remains s c n
 
-again-less : (a b : Bool) (r : Request) → again_for (a || b) r ≤ again_for b r
-again-less true true r = omega arith
-again-less true false r = omega arith
-again-less false b r = omega arith
+fewer-enough : (Now Then : Type 0) (m n : ℕ) (r : Request) (k : ℕ) → (Now → Then) → m ≤ n → AreEnough Now n r k → AreEnough Then m r k
+fewer-enough Now Then m n r k f le (inl h) = let most = h.1 in inl (f h.0, omega (arith, le, most))
+fewer-enough Now Then m n r k f le (inr most) = inr (omega (arith, le, most))
+
+key-some : (key : Bytes) → want.Key key ∷ [] ≡ [] → ⊥
+key-some key h = cc
+
+-- a sequence node's create reads by no session's nodes
+few-sequence : (r : Request) (id : ℤ) (v : View) → makes_sequence r ≡ true → IsFewFor r id v
+few-sequence (req.Create p d a f) id v h = tt
+few-sequence (req.Create2 p d a f) id v h = tt
+few-sequence _ id v h = absurd (cc)
 
 again-most : (b : Bool) (r : Request) → again_for b r ≤ looks r + 1
 again-most true r = omega arith
@@ -87,32 +101,49 @@ module _ (s : Store) (n : ℕ) where
 
   -- ---- a look
 
-  planned-out : (v : View) (r : Request) (p : Plan) (k : ℕ) → 1 + again_for (is_present s v) r ≤ k → (v.revision ≡ revision s → succeeds s (plan_txn p) ≡ true) → 1 + again_for (succeeds s (plan_txn p)) r ≤ k
-  planned-out v r p k most holds = go (is_present s v) refl most
-    where
-      go : (b : Bool) → is_present s v ≡ b → 1 + again_for b r ≤ k → 1 + again_for (succeeds s (plan_txn p)) r ≤ k
-      go true e m = omega (arith, m, ap (λ b. again_for b r) (holds ((Decides-int_eq v.revision (revision s)).0 e)))
-      go false e m = omega (arith, m, again-most (succeeds s (plan_txn p)) r)
+  -- a plan on the present is carried out
+  planned-out : (who : Who) (v : View) (r : Request) (p : Plan) (k : ℕ) → AreEnough (IsNow s v) 1 r k → IsAskedPlan who v p → CommitsOut s who r p k
+  planned-out who v r p k (inl h) asked = let most = h.1 in inl (omega (arith, most, ap (λ b. again_for b r) (planned-now s who v p asked (h.0).agrees)))
+  planned-out who v r p k (inr most) asked = inl (omega (arith, most, again-most (succeeds s (plan_txn p)) r))
 
-  decided-then : (c : Core) (xid : ℤ) (r : Request) (v : View) (now : ℕ) (d : Decision) (k : ℕ) → 1 + again_for (is_present s v) r ≤ k → k + asks_of_all c.waiting ≤ n → IsTruthful s (decided c xid r v now d).0 → Then s n (decided c xid r v now d).0
-  decided-then c xid r v now (Answered answer arm) k m w t = waits-then c (pending v xid answer (change_by r v arm) None) (omega (arith, w))
-  decided-then c xid r v now (Planned p) k m w t = inr (record { asks = k; out = planned-out v r p k m t; most = w })
-  decided-then c xid r v now Expired k m w t = waits-then c (expired v xid) (omega (arith, w))
-  decided-then c xid r v now (Moved found) k m w t = waits-then c (moved c.who v found xid) (omega (arith, w))
+  -- a plan on a guess may fail: on the present it is followed by one more decision, which nothing is lacking for
+  guessed-out : (who : Who) (v : View) (key : Bytes) (r : Request) (now : ℕ) (p : Plan) (k : ℕ) → AreEnough (IsNow s v) 2 r k → AreNeeds r who v (want.Key key ∷ []) → MayGuess r v key → AreNeeds r who (guessed v key) [] → GuardsReads r who (guessed v key) p → CommitsOut s who r p k
+  guessed-out who v key r now p k (inl h) needs may whole reads = inr (h.1, guess-reads_all s who r v key p (h.0).agrees needs may whole reads)
+  guessed-out who v key r now p k (inr most) needs may whole reads = inl (omega (arith, most, again-most (succeeds s (plan_txn p)) r))
+
+  decided-then : (c : Core) (xid : ℤ) (r : Request) (v : View) (now : ℕ) (d : Decision) (k : ℕ) → AreEnough (IsNow s v) 1 r k → k + asks_of_all c.waiting ≤ n → IsBacked r c.who now v d → Then s n (decided c xid r v now d).0
+  decided-then c xid r v now (Answered answer arm) k m w back = waits-then c (pending v xid answer (change_by r v arm) None) (omega (arith, w))
+  decided-then c xid r v now (Planned p) k m w back = inr (record { asks = k; out = planned-out c.who v r p k m (back.0).asked; most = w })
+  decided-then c xid r v now Expired k m w back = waits-then c (expired v xid) (omega (arith, w))
+  decided-then c xid r v now (Moved found) k m w back = waits-then c (moved c.who v found xid) (omega (arith, w))
 
   module _ (c' : Core) (out : List Action) where
     looks-then : (c : Core) (xid : ℤ) (r : Request) (v : View) (now k : ℕ) → LooksOn s c.who r v k → k + asks_of_all c.waiting ≤ n → IsTruthful s c' → Looks c xid r v now c' out → Then s n c'
-    looks-then c xid r v now k l w t (inr y) =
+    looks-then c xid r v now k l w t (inr (inr y)) =
         let d = keeps c r v in
-        is-then (decided d xid r v now y.decision) c' out (decided-then d xid r v now y.decision k (omega (arith, l.most)) w (is-true (decided d xid r v now y.decision) c' out t y.is)) y.is
+        is-then (decided d xid r v now y.decision) c' out (decided-then d xid r v now y.decision k (fewer-enough (IsNow s v) (IsNow s v) 1 (l.rounds + 1) r k (λ h. h) (omega arith) l.most) w y.backed) y.is
+    looks-then c xid r v now k l w t (inr (inl y)) = go l.rounds l.ends l.most
+      where
+        d : Core × List Action
+        d = decided c xid r (guessed v y.key) now (Planned y.plan)
+
+        go : (m : ℕ) → EndsIf r c.who m v → AreEnough (IsNow s v) (m + 1) r k → Then s n c'
+        go zero ends most = absurd (key-some y.key (ends (few-sequence r c.who.session v (y.may).sequence) (want.Key y.key ∷ []) y.needs))
+        go (suc m) ends most =
+            let out_now = guessed-out c.who v y.key r now y.plan k (fewer-enough (IsNow s v) (IsNow s v) 2 (suc m + 1) r k (λ h. h) (omega arith) most) y.needs y.may y.whole (y.backed.0).reads in
+            is-then d c' out (inr (record { asks = k; out = out_now; most = w })) y.is
     looks-then c xid r v now k l w t (inl y) =
         is-then (asks_for c xid r v (take max_ranges y.lacking)) c' out (go l.rounds l.ends l.most (is-true (asks_for c xid r v (take max_ranges y.lacking)) c' out t y.is)) y.is
       where
-        go : (m : ℕ) → EndsIf r c.who m v → m + 1 + again_for (is_present s v) r ≤ k → AreFewOwned c.who.session v → Then s n (asks_for c xid r v (take max_ranges y.lacking)).0
-        go zero ends most few = absurd (y.some (ends few y.lacking y.needs))
+        go : (m : ℕ) → EndsIf r c.who m v → AreEnough (IsNow s v) (m + 1) r k → AreFewOwned c.who.session v → Then s n (asks_for c xid r v (take max_ranges y.lacking)).0
+        go zero ends most few = absurd (y.some (ends (few-for r c.who.session v few) y.lacking y.needs))
         go (suc m) ends most few = inr (record {
           asks = k;
-          out = record { rounds = m; ends = λ z parts len then_few. ends few y.lacking z parts y.needs y.some len then_few; most = omega (arith, most, again-less (is_new v) (is_present s v) r) };
+          out = record {
+            rounds = m;
+            ends = λ z parts len then_few. ends (few-for r c.who.session v few) y.lacking z parts y.needs y.some len then_few;
+            most = fewer-enough (IsNow s v) (IsAskedNow s v) (m + 2) (suc m + 1) r k (λ h. inr h) (omega arith) most;
+          };
           most = w;
         })
 
@@ -133,12 +164,13 @@ module _ (s : Store) (n : ℕ) where
         go : PlansBeside c xid r now c' out ⊎ Looks c xid r empty_view now c' out → Then s n c'
         go (inl y) =
             is-then (decided (record c { views = y.views }) xid r y.view now (Planned y.plan)) c' out
-            (inr (record { asks = k; out = (let again = again-most (succeeds s (plan_txn y.plan)) r in omega (arith, m, again)); most = w })) y.is
-        go (inr (inr y)) = absurd (y.whole.enough refl (plain-none c.watches no_watches (Asks xid r) p) head_want (inl refl) refl)
+            (inr (record { asks = k; out = (let again = again-most (succeeds s (plan_txn y.plan)) r in inl (omega (arith, m, again))); most = w })) y.is
+        go (inr (inr (inl y))) = absurd (let begun : true ≡ false = (y.may).begun in cc)
+        go (inr (inr (inr y))) = absurd (y.whole.enough refl (plain-none c.watches no_watches (Asks xid r) p) head_want (inl refl) refl)
         go (inr (inl y)) =
             is-then (asks_for c xid r empty_view (take max_ranges y.lacking)) c' out (inr (record {
               asks = k;
-              out = record { rounds = looks r; ends = λ z parts len few. request-ends r c.who (view_on empty_view z (take max_ranges y.lacking) parts) few; most = omega (arith, m) };
+              out = record { rounds = looks r; ends = λ z parts len few. request-ends r c.who (view_on empty_view z (take max_ranges y.lacking) parts) few; most = inl (inl (refl, refl, refl), omega (arith, m)) };
               most = w;
             })) y.is
 

@@ -57,7 +57,8 @@ readable-who c c' now out (Asks xid r) None p h = go (first-or-anew c c' xid r n
     go : PlansBeside c xid r now c' out ⊎ Looks c xid r empty_view now c' out → c'.who ≡ c.who
     go (inl y) = is-who (decided (record c { views = y.views }) xid r y.view now (Planned y.plan)) c c' out refl y.is
     go (inr (inl y)) = is-who (asks_for c xid r empty_view (take max_ranges y.lacking)) c c' out refl y.is
-    go (inr (inr y)) = absurd (y.whole.enough refl (plain-none c.watches no_watches (Asks xid r) p) head_want (inl refl) refl)
+    go (inr (inr (inl y))) = absurd (let begun : true ≡ false = (y.may).begun in cc)
+    go (inr (inr (inr y))) = absurd (y.whole.enough refl (plain-none c.watches no_watches (Asks xid r) p) head_want (inl refl) refl)
 
 takes_up-who : (c c' : Core) (bytes : List ℕ) (now : ℕ) (out : List Action) → TakesUp c bytes now c' out → c'.who ≡ c.who
 takes_up-who c c' bytes now out h =

@@ -1,9 +1,10 @@
 -- What a connection has out is carried out: of its asks that are still to come one is done.
 use Rattle.std.proofs.Common.{◌≡◌, ℕ, zero, suc, ◌+◌, ◌≤◌, List, [], length, refl, sym, ap, ◌∙◌, subst, arith, Bool, true, false, ℤ, pos, inl, inr}
-use Rattle.std.specs.Prelude.{Contains, Option, Some, None, ◌&&◌, ◌||◌, MatchBool, if◌then◌else◌, is_some, int_lt}
+use Rattle.std.specs.Prelude.{Contains, Option, Some, None, ◌&&◌, ◌||◌, MatchBool, if◌then◌else◌, is_some, int_lt, nat_eq}
 use Rattle.std.specs.Ordering.{int_eq}
 use Rattle.std.proofs.lemmas.Bool.{and_from}
-use Rattle.std.proofs.lemmas.Bool.Decides.{Decides-int_eq}
+use Rattle.std.proofs.lemmas.Bool.Decides.{Decides-int_eq, nat_tests}
+use Rattle.std.proofs.lemmas.Int.{ints}
 use Rattle.ev_types.specs.Denials.{carry}
 use Rattle.ev_types.specs.Store.{Store, holds, mod_of, present, revision, succeeds}
 use Rattle.ev_types.specs.declared.answer.ActAns.{ActAns}
@@ -21,9 +22,9 @@ use Rattle.zn_layout.specs.StandsFor.{at}
 use Rattle.zn_layout.specs.declared.record.LeaseRec.{LeaseRec}
 use Rattle.zn_view.proofs.AsSeen.{agrees-seen}
 use Rattle.zn_view.proofs.SeenAfter.{wanted-shown}
-use Rattle.zn_view.proofs.Showing.{again-shown, first-shown}
+use Rattle.zn_view.proofs.Showing.{again-shown, first-shown, later-shown}
 use Rattle.zn_view.specs.Adding.{at_revision, is_new}
-use Rattle.zn_view.specs.Asks.{plan_txn, ranges_of, reading, transaction}
+use Rattle.zn_view.specs.Asks.{plan_txn, ranges_of, reading, transaction, with_parts}
 use Rattle.zn_view.specs.Lookups.{found_at}
 use Rattle.zn_view.specs.Needs.{key_want}
 use Rattle.zn_view.specs.Seen.{View, empty_view, head_of, head_zxid, seen}
@@ -46,7 +47,7 @@ use Rattle.zp_step.specs.Stages.{Stage, Unconnected, Connecting, Ready, KeepingA
 use Rattle.zp_world_laws.proofs.Asking.{ranges-read}
 use Rattle.zp_world_laws.proofs.Transactions.{txn-answered, txn-reads}
 use Rattle.zp_settle_laws.specs.Looks.{looks}
-use Rattle.zp_settle_laws.proofs.Coming.{AsksAfter, AsksOut, ConnectAfter, ConnectOut, LooksOn, ReadsOut, again_for, attach_again, is_asked_now, is_present}
+use Rattle.zp_settle_laws.proofs.Coming.{AsksAfter, AsksOut, CommitsOut, ConnectAfter, ConnectOut, IsAskedNow, IsNow, LooksOn, ReadsOut, again_for, attach_again}
 use Rattle.zp_settle_laws.proofs.Places.{request-ends, view_on}
 use Rattle.zx_base.proofs.Booleans.{either}
 
@@ -96,21 +97,23 @@ is-again s u p a h fails =
 
 -- ---- a round of a request
 
-again-read : (s : Store) (r : Request) (v : View) (z : ℤ) (ws : List Want) (parts : List ActAns) → z ≡ revision s → again_for (is_present s (view_on v z ws parts)) r ≤ again_for (is_asked_now s v) r
-again-read s r v z ws parts now = go (is_new v) refl
+begun-apart : (v : View) (n : ℕ) → v.revision ≡ pos n → 1 ≤ n → is_new v ≡ false
+begun-apart v n e le = ap (λ z. int_eq z (pos 0) && (nat_eq (length v.keys) 0 && nat_eq (length v.lists) 0)) e ∙ ap (λ b. b && (nat_eq (length v.keys) 0 && nat_eq (length v.lists) 0)) (above n le)
   where
-    kept : (view_on v z ws parts).revision ≡ (at_revision v z).revision
-    kept = revision-kept (at_revision v z) ws parts
+    above : (n : ℕ) → 1 ≤ n → int_eq (pos n) (pos 0) ≡ false
+    above n le = grind (arith, nat_tests, ints)
 
-    go : (b : Bool) → is_new v ≡ b → again_for (is_present s (view_on v z ws parts)) r ≤ again_for (b || is_present s v) r
-    go true e =
-        let there : (at_revision v z).revision ≡ z = ap (λ (c : Bool). (if c then record v { revision = z } else v).revision) e in
-        let is : is_present s (view_on v z ws parts) ≡ true = (Decides-int_eq (view_on v z ws parts).revision (revision s)).1 (kept ∙ there ∙ now) in
-        omega (arith, ap (λ c. again_for c r) is)
-    go false e =
-        let there : (at_revision v z).revision ≡ v.revision = ap (λ (c : Bool). (if c then record v { revision = z } else v).revision) e in
-        let is : is_present s (view_on v z ws parts) ≡ is_present s v = ap (λ y. int_eq y (revision s)) (kept ∙ there) in
-        omega (arith, ap (λ c. again_for c r) is)
+-- a view with one more round of the present is of the present
+round-now : (s u : Store) (v : View) (ws : List Want) (parts : List ActAns) → 1 ≤ length s.revisions → IsAskedNow s v → carry s (reading v.revision ws) ≡ Some (u, answer.Txn (revision u) true parts) → u ≡ s → IsNow s (view_on v (revision u) ws parts)
+round-now s u v ws parts begun (inl none) h same =
+    let is : v ≡ empty_view = λ i. record { revision = none.0 i; keys = none.1 i; lists = none.2 i } in
+    let shown = (first-shown s u ws (revision u) true parts (ap (λ z. carry s (reading z ws)) (sym none.0) ∙ h)).1 in
+    subst (λ y. IsNow s (view_on y (revision u) ws parts)) (sym is)
+    (record { same = revision-kept (at_revision empty_view (revision u)) ws parts ∙ ap revision same; agrees = shown.agrees })
+round-now s u v ws parts begun (inr now) h same =
+    let shown = later-shown s u v (length s.revisions) ws (revision u) true parts now.same begun now.agrees h in
+    let still : at_revision v (revision u) ≡ v = ap (λ b. if b then record v { revision = revision u } else v) (begun-apart v (length s.revisions) now.same begun) in
+    subst (λ y. IsNow s (with_parts y ws parts)) (sym still) (record { same = revision-kept v ws parts ∙ now.same; agrees = shown.agrees })
 
 -- one ask less
 pub record Done (k : ℕ) (P : ℕ → Type 0) : Type 0 where
@@ -122,20 +125,34 @@ pub done-one : (k : ℕ) (P : ℕ → Type 0) → 1 ≤ k → ((j : ℕ) → k �
 done-one (suc j) P h f = record { left = j; is = refl; after = f j refl }
 done-one zero P h f = absurd (omega (arith, h))
 
-module _ (s u : Store) (who : Who) where
+-- where something is out, some ask is left
+pub reads-some : (s : Store) (who : Who) (r : Request) (v : View) (ws : List Want) (k : ℕ) → ReadsOut s who r v ws k → 1 ≤ k
+reads-some s who r v ws k o = elim o.most [
+  | inl x ↦ (let m = x.1 in omega (arith, m))
+  | inr m ↦ omega (arith, m)
+]
+
+pub commits-some : (s : Store) (who : Who) (r : Request) (p : Plan) (k : ℕ) → CommitsOut s who r p k → 1 ≤ k
+commits-some s who r p k (inl m) = omega (arith, m)
+commits-some s who r p k (inr m) = let two = m.0 in omega (arith, two)
+
+module _ (s u : Store) (who : Who) (begun : 1 ≤ length s.revisions) where
   read-after : (xid : ℤ) (r : Request) (v : View) (ws : List Want) (a : Answer) (k : ℕ) → carry s (reading v.revision ws) ≡ Some (u, a) → ReadsOut s who r v ws k → Done k (AsksAfter u who (Reading xid r v ws) a)
   read-after xid r v ws a k h o =
       let d = is-read s u v.revision ws a h in
-      done-one k (AsksAfter u who (Reading xid r v ws) a) (let m = o.most in omega (arith, m)) (λ j e.
+      done-one k (AsksAfter u who (Reading xid r v ws) a) (reads-some s who r v ws k o) (λ j e.
       subst (λ y. AsksAfter u who (Reading xid r v ws) y j) (sym d.is)
       (subst (λ y. LooksOn y who r (view_on v (revision u) ws d.parts) j) (sym d.same) (record {
         rounds = o.rounds;
         ends = o.ends (revision u) d.parts (omega (arith, d.long));
-        most = (let m = o.most in omega (arith, m, e, again-read s r v (revision u) ws d.parts (ap revision d.same)));
+        most = elim o.most [
+          | inl x ↦ inl (round-now s u v ws d.parts begun x.0 (h ∙ ap (λ y. Some (u, y)) d.is) d.same, (let m = x.1 in omega (arith, m, e)))
+          | inr m ↦ inr (omega (arith, m, e))
+        ];
       })))
 
-  commit-after : (xid : ℤ) (r : Request) (v : View) (p : Plan) (time : ℕ) (a : Answer) (k : ℕ) → carry s (transaction p) ≡ Some (u, a) → 1 + again_for (succeeds s (plan_txn p)) r ≤ k → Done k (AsksAfter u who (Committing xid r v p time) a)
-  commit-after xid r v p time a k h o = done-one k (AsksAfter u who (Committing xid r v p time) a) (omega (arith, o)) (λ j e. go j e (succeeds s (plan_txn p)) refl)
+  commit-after : (xid : ℤ) (r : Request) (v : View) (p : Plan) (time : ℕ) (a : Answer) (k : ℕ) → carry s (transaction p) ≡ Some (u, a) → CommitsOut s who r p k → Done k (AsksAfter u who (Committing xid r v p time) a)
+  commit-after xid r v p time a k h o = done-one k (AsksAfter u who (Committing xid r v p time) a) (commits-some s who r p k o) (λ j e. go j e (succeeds s (plan_txn p)) refl)
     where
       go : (j : ℕ) → k ≡ suc j → (b : Bool) → succeeds s (plan_txn p) ≡ b → AsksAfter u who (Committing xid r v p time) a j
       go j e true f =
@@ -146,11 +163,10 @@ module _ (s u : Store) (who : Who) where
           let y = viewed (revision u) p.again d.parts in
           let at : y.revision ≡ revision s = revision-kept (at_revision empty_view (revision u)) p.again d.parts ∙ ap revision d.same in
           subst (λ q. AsksAfter u who (Committing xid r v p time) q j) (sym d.is)
-          (subst (λ q. LooksOn q who r (viewed (revision u) p.again d.parts) j) (sym d.same) (record {
-            rounds = looks r;
-            ends = λ few. request-ends r who y few;
-            most = omega (arith, o, e, ap (λ c. again_for c r) f, ap (λ c. again_for c r) ((Decides-int_eq y.revision (revision s)).1 at));
-          }))
+          (subst (λ q. LooksOn q who r (viewed (revision u) p.again d.parts) j) (sym d.same) (elim o [
+            | inl m ↦ record { rounds = looks r; ends = λ few. request-ends r who y few; most = inl (record { same = at; agrees = d.agrees }, omega (arith, m, e, ap (λ c. again_for c r) f)) }
+            | inr m ↦ record { rounds = 0; ends = λ few. m.1 (revision u) d.parts (omega (arith, d.long)) d.agrees; most = inl (record { same = at; agrees = d.agrees }, (let two = m.0 in omega (arith, two, e))) }
+          ]))
 
 -- ---- a connect
 
@@ -317,13 +333,13 @@ module _ (s u : Store) (x : Connect) (a : Answer) where
 
 -- ---- whatever is out
 
-pub stage-after : (s u : Store) (who : Who) (st : Stage) (q : Ask) (a : Answer) (k : ℕ) → asked_of who st ≡ Some q → carry s q ≡ Some (u, a) → AsksOut s who st k → Done k (AsksAfter u who st a)
-stage-after s u who (Unconnected fresh) q a k o h n = absurd (none_some o)
-stage-after s u who (Connecting x) q a k o h n = (connect-after s u x a x.phase q k refl o h n)
-stage-after s u who Ready q a k o h n = absurd (none_some o)
-stage-after s u who (KeepingAlive f) q a k o h n = (done-one k (AsksAfter u who (KeepingAlive f) a) (omega (arith, n)) (λ j e. omega (arith, n, e)))
-stage-after s u who (Checking f) q a k o h n = (done-one k (AsksAfter u who (Checking f) a) (omega (arith, n)) (λ j e. omega (arith, n, e)))
-stage-after s u who (Reading xid r v ws) q a k o h n = (read-after s u who xid r v ws a k (ap (carry s) (some_is o) ∙ h) n)
-stage-after s u who (Committing xid r v p m) q a k o h n = (commit-after s u who xid r v p m a k (ap (carry s) (some_is o) ∙ h) n)
-stage-after s u who (Waiting p) q a k o h n = absurd (none_some o)
-stage-after s u who Shut q a k o h n = absurd (none_some o)
+pub stage-after : (s u : Store) (who : Who) → 1 ≤ length s.revisions → (st : Stage) (q : Ask) (a : Answer) (k : ℕ) → asked_of who st ≡ Some q → carry s q ≡ Some (u, a) → AsksOut s who st k → Done k (AsksAfter u who st a)
+stage-after s u who begun (Unconnected fresh) q a k o h n = absurd (none_some o)
+stage-after s u who begun (Connecting x) q a k o h n = (connect-after s u x a x.phase q k refl o h n)
+stage-after s u who begun Ready q a k o h n = absurd (none_some o)
+stage-after s u who begun (KeepingAlive f) q a k o h n = (done-one k (AsksAfter u who (KeepingAlive f) a) (omega (arith, n)) (λ j e. omega (arith, n, e)))
+stage-after s u who begun (Checking f) q a k o h n = (done-one k (AsksAfter u who (Checking f) a) (omega (arith, n)) (λ j e. omega (arith, n, e)))
+stage-after s u who begun (Reading xid r v ws) q a k o h n = (read-after s u who begun xid r v ws a k (ap (carry s) (some_is o) ∙ h) n)
+stage-after s u who begun (Committing xid r v p m) q a k o h n = (commit-after s u who begun xid r v p m a k (ap (carry s) (some_is o) ∙ h) n)
+stage-after s u who begun (Waiting p) q a k o h n = absurd (none_some o)
+stage-after s u who begun Shut q a k o h n = absurd (none_some o)

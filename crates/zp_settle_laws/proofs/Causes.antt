@@ -44,7 +44,7 @@ use Rattle.zp_step.specs.Connects.{Connects, Opens, begun, connected}
 use Rattle.zp_step.specs.Entries.{entered, then_reply}
 use Rattle.zp_step.specs.Keepalives.{Looked, StillMine, TakesUp, checks, keeps_alive}
 use Rattle.zp_step.specs.Kept.{keeps}
-use Rattle.zp_step.specs.Looking.{IfRecords, Looks, asks_for, change_by, decided, expired, max_ranges, moved, pending}
+use Rattle.zp_step.specs.Looking.{IfRecords, Looks, asks_for, change_by, decided, expired, guessed, max_ranges, moved, pending}
 use Rattle.zp_step.specs.Plans.{Committed, end_after, finishes}
 use Rattle.zp_step.specs.Replies.{Is, close_after, closed_by, is_due, replied, send_notices, stage_after, waits}
 use Rattle.zp_step.specs.Stages.{Core, Pending, Stage, Unconnected, Connecting, Ready, KeepingAlive, Checking, Reading, Committing, Waiting, Shut, is_shut, seen_by}
@@ -208,7 +208,8 @@ module _ (damage : Bool) (now : ℕ) (c' : Core) (out : List Action) where
 
   fine-looks : (c : Core) (xid : ℤ) (r : Request) (v : View) → Looks c xid r v now c' out → Finely damage c' out
   fine-looks c xid r v (inl y) = fine-is (asks_for c xid r v (take max_ranges y.lacking)) (record { stage = tt; acts = tt }) y.is
-  fine-looks c xid r v (inr y) = fine-is (decided (keeps c r v) xid r v now y.decision) (fine-decided damage (keeps c r v) xid r v now y.decision) y.is
+  fine-looks c xid r v (inr (inl y)) = fine-is (decided c xid r (guessed v y.key) now (Planned y.plan)) (record { stage = tt; acts = tt }) y.is
+  fine-looks c xid r v (inr (inr y)) = fine-is (decided (keeps c r v) xid r v now y.decision) (fine-decided damage (keeps c r v) xid r v now y.decision) y.is
 
   fine-records : (c : Core) (ws : List Want) (parts : List ActAns) (Next : Type 0) → ((key value : Bytes) → IsFirstDamaged ws parts key value → damage ≡ false) → (Next → Finely damage c' out) → IfRecords c ws parts c' out Next → Finely damage c' out
   fine-records c ws parts Next u f (inl e) = fine-closed c (cause.Damaged e.key e.value) (u e.key e.value e.found) e.is

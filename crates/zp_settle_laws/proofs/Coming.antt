@@ -1,15 +1,15 @@
 -- How many asks of a connection are still to be carried out, while nobody else acts: in each stage, and after each answer.
 use Rattle.std.proofs.Common.{◌≡◌, ℕ, ◌+◌, ◌≤◌, List, length, Bool, true, false, ℤ}
-use Rattle.std.specs.Prelude.{◌||◌}
-use Rattle.std.specs.Ordering.{int_eq}
-use Rattle.ev_types.specs.Store.{Store, revision, succeeds}
+use Rattle.std.specs.Prelude.{◌⊎◌}
+use Rattle.ev_types.specs.Store.{Store, present, revision, succeeds}
 use Rattle.ev_types.specs.declared.answer.ActAns.{ActAns}
 use Rattle.ev_types.specs.declared.answer.Answer.{Answer}
 use Rattle.ev_types.specs.declared.answer.Answer.TheVariants as answer
 use Rattle.zk_model.specs.declared.request.Request.{Request}
-use Rattle.zn_view.specs.Adding.{is_new}
 use Rattle.zn_view.specs.Asks.{plan_txn}
 use Rattle.zn_view.specs.Seen.{View}
+use Rattle.zn_view.specs.Views.{Agrees}
+use Rattle.zn_view.specs.declared.plan.Plan.{Plan}
 use Rattle.zn_view.specs.declared.plan.Who.{Who}
 use Rattle.zn_view.specs.declared.want.Want.{Want}
 use Rattle.zs_reap.specs.Steps.{AreFewOwned}
@@ -21,19 +21,21 @@ use Rattle.zs_session.specs.declared.connect.ConnectStep.{ConnectStep}
 use Rattle.zs_session.specs.declared.connect.Phase.{Phase}
 use Rattle.zs_session.specs.declared.connect.Phase.TheVariants.{Attaching, Creating, Granting, Keeping, Looking, LookingAgain, Over, Unasked}
 use Rattle.zp_step.specs.Stages.{Core, Stage, Unconnected, Connecting, Ready, KeepingAlive, Checking, Reading, Committing, Waiting, Shut}
+use Rattle.zp_laws.specs.Standing.{IsNoView}
 use Rattle.zp_settle_laws.specs.Looks.{asks_of, asks_of_all, looks}
-use Rattle.zp_settle_laws.proofs.Places.{Ends, view_on}
+use Rattle.zp_settle_laws.proofs.Places.{Ends, IsFewFor, view_on}
 use Rattle.std.specs.Prelude.{Some}
 
 -- ---- a request
 
 -- the view is of the present
-abbrev pub is_present : Store → View → Bool
-is_present s v = int_eq v.revision (revision s)
+pub record IsNow (s : Store) (v : View) : Type 0 where
+  pub same : v.revision ≡ revision s
+  pub agrees : Agrees v (present s)
 
 -- the view is of the present, or it will be, since it has no round yet
-abbrev pub is_asked_now : Store → View → Bool
-is_asked_now s v = is_new v || is_present s v
+abbrev pub IsAskedNow : Store → View → Type 0
+IsAskedNow s v = IsNoView v ⊎ IsNow s v
 
 -- a plan on the present is carried out, and one on an earlier view may fail: then the request is looked up anew, and planned again
 abbrev pub again_for : Bool → Request → ℕ
@@ -41,19 +43,32 @@ again_for true r = 0
 again_for false r = looks r + 1
 
 abbrev pub EndsIf : Request → Who → ℕ → View → Type 0
-EndsIf r who n v = AreFewOwned who.session v → Ends r who n v
+EndsIf r who n v = IsFewFor r who.session v → Ends r who n v
+
+-- so many asks are enough: n on a view of the present, and on an earlier one also those of a request that is looked up anew
+abbrev pub AreEnough : Type 0 → ℕ → Request → ℕ → Type 0
+AreEnough Now n r k = (Now × (n ≤ k)) ⊎ (n + again_for false r ≤ k)
 
 -- a round is out: after it come at most n more, and the plan
 pub record ReadsOut (s : Store) (who : Who) (r : Request) (v : View) (ws : List Want) (k : ℕ) : Type 0 where
   pub rounds : ℕ
   pub ends : (z : ℤ) (parts : List ActAns) → length ws ≤ length parts → EndsIf r who rounds (view_on v z ws parts)
-  pub most : rounds + 2 + again_for (is_asked_now s v) r ≤ k
+  pub most : AreEnough (IsAskedNow s v) (rounds + 2) r k
 
 -- the view is looked at
 pub record LooksOn (s : Store) (who : Who) (r : Request) (v : View) (k : ℕ) : Type 0 where
   pub rounds : ℕ
   pub ends : EndsIf r who rounds v
-  pub most : rounds + 1 + again_for (is_present s v) r ≤ k
+  pub most : AreEnough (IsNow s v) (rounds + 1) r k
+
+-- Where a guard of the plan does not hold now, what is read again is all that the request reads: so it is after a guess, which was
+-- wrong then.
+abbrev pub ReadsAll : Store → Who → Request → Plan → Type 0
+ReadsAll s who r p = (z : ℤ) (parts : List ActAns) → length p.again ≤ length parts → Agrees (viewed z p.again parts) (present s) → Ends r who 0 (viewed z p.again parts)
+
+-- a plan is out
+abbrev pub CommitsOut : Store → Who → Request → Plan → ℕ → Type 0
+CommitsOut s who r p k = (1 + again_for (succeeds s (plan_txn p)) r ≤ k) ⊎ ((2 ≤ k) × ReadsAll s who r p)
 
 -- ---- a connect
 
@@ -86,7 +101,7 @@ AsksOut s who Ready k = Unit {0}
 AsksOut s who (KeepingAlive frame) k = asks_of frame ≤ k
 AsksOut s who (Checking frame) k = asks_of frame ≤ k + 1
 AsksOut s who (Reading xid r v ws) k = ReadsOut s who r v ws k
-AsksOut s who (Committing xid r v p time) k = 1 + again_for (succeeds s (plan_txn p)) r ≤ k
+AsksOut s who (Committing xid r v p time) k = CommitsOut s who r p k
 AsksOut s who (Waiting p) k = Unit {0}
 AsksOut s who Shut k = Unit {0}
 
@@ -117,10 +132,9 @@ pub record RemainsAfter (s : Store) (c : Core) (a : Answer) (n : ℕ) : Type 0 w
   pub after : AsksAfter s c.who c.stage a asks
   pub most : asks + asks_of_all c.waiting ≤ n
 
--- what it holds is true of the store: a session has few nodes, and the guards of a plan on the present hold
+-- what it holds is true of the store: a session has few nodes
 abbrev pub TruthIn : Store → Who → Stage → Type 0
 TruthIn s who (Reading xid r v ws) = AreFewOwned who.session v
-TruthIn s who (Committing xid r v p time) = v.revision ≡ revision s → succeeds s (plan_txn p) ≡ true
 TruthIn s who _ = Unit {0}
 
 abbrev pub IsTruthful : Store → Core → Type 0

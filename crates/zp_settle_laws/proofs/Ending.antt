@@ -1,5 +1,5 @@
 -- A settle comes to its end: each of its lines leaves fewer, and where none is left it has nothing to do.
-use Rattle.std.proofs.Common.{◌≡◌, ℕ, zero, suc, ◌+◌, ◌*◌, ◌≤◌, length, refl, sym, ap, ◌∙◌, subst, arith, Bool, true, false, ℤ}
+use Rattle.std.proofs.Common.{◌≡◌, ℕ, zero, suc, ◌+◌, ◌*◌, ◌≤◌, length, refl, sym, ap, ◌∙◌, subst, arith, Bool, true, false, ℤ, inl, inr}
 use Rattle.std.specs.Prelude.{Option, Some, None, if◌then◌else◌, is_some, option_and_then, nat_abs}
 use Rattle.ev_types.specs.Store.{Store, succeeds}
 use Rattle.ev_types.specs.declared.answer.Answer.{Answer}
@@ -34,7 +34,7 @@ use Rattle.zp_world_laws.specs.Accounting.{IsAccounted}
 use Rattle.zp_world_laws.specs.Reaping.{IsReapFlight}
 use Rattle.zp_settle_laws.proofs.Bytes.{first-counts, runs-counts}
 use Rattle.zp_settle_laws.proofs.Carried.{connect-most}
-use Rattle.zp_settle_laws.proofs.Coming.{AsksAfter, AsksOut, ConnectOut, again_for, attach_again, is_asked_now, is_present}
+use Rattle.zp_settle_laws.proofs.Coming.{AsksAfter, AsksOut, ConnectOut, again_for, attach_again}
 use Rattle.zp_settle_laws.proofs.Enough.{lines-enough}
 use Rattle.zp_settle_laws.proofs.Entered.{after-cursor, taken-left, wanted-served}
 use Rattle.zp_settle_laws.proofs.Lasting.{ConnLeft, CoreLeft, Left, LeftBy, LeftOf, ReapLeft, ReaperLeft, answers_of, asked-is, delivers-left, executes-left, left-at, out-some, reap-some, told-most}
@@ -208,8 +208,8 @@ stage-first s who (Connecting x) = connect-first s x.request.session x.phase
 stage-first s who Ready = tt
 stage-first s who (KeepingAlive f) = omega arith
 stage-first s who (Checking f) = omega arith
-stage-first s who (Reading xid r v ws) = record { rounds = looks r; ends = λ z parts len few. request-ends r who (view_on v z ws parts) few; most = omega (arith, again-most (is_asked_now s v) r) }
-stage-first s who (Committing xid r v p m) = omega (arith, again-most (succeeds s (plan_txn p)) r)
+stage-first s who (Reading xid r v ws) = record { rounds = looks r; ends = λ z parts len few. request-ends r who (view_on v z ws parts) few; most = inr (omega arith) }
+stage-first s who (Committing xid r v p m) = inl (omega (arith, again-most (succeeds s (plan_txn p)) r))
 stage-first s who (Waiting p) = tt
 stage-first s who Shut = tt
 
@@ -217,12 +217,12 @@ after-first : (s : Store) (who : Who) (st : Stage) (a : Answer) → AsksAfter s 
 after-first s who (Connecting x) a = connect-most s x a 4 (omega arith)
 after-first s who (KeepingAlive f) a = omega arith
 after-first s who (Checking f) a = omega arith
-after-first s who (Reading xid r v ws) (answer.Txn z b parts) = record { rounds = looks r; ends = λ few. request-ends r who (view_on v z ws parts) few; most = omega (arith, again-most (is_present s (view_on v z ws parts)) r) }
+after-first s who (Reading xid r v ws) (answer.Txn z b parts) = record { rounds = looks r; ends = λ few. request-ends r who (view_on v z ws parts) few; most = inr (omega arith) }
 after-first s who (Reading xid r v ws) (answer.Range z found) = tt
 after-first s who (Reading xid r v ws) (answer.Granted z id ttl) = tt
 after-first s who (Reading xid r v ws) (answer.Alive z id ttl) = tt
 after-first s who (Committing xid r v p m) (answer.Txn z true parts) = tt
-after-first s who (Committing xid r v p m) (answer.Txn z false parts) = record { rounds = looks r; ends = λ few. request-ends r who (viewed z p.again parts) few; most = omega (arith, again-most (is_present s (viewed z p.again parts)) r) }
+after-first s who (Committing xid r v p m) (answer.Txn z false parts) = record { rounds = looks r; ends = λ few. request-ends r who (viewed z p.again parts) few; most = inr (omega arith) }
 after-first s who (Committing xid r v p m) (answer.Range z found) = tt
 after-first s who (Committing xid r v p m) (answer.Granted z id ttl) = tt
 after-first s who (Committing xid r v p m) (answer.Alive z id ttl) = tt

@@ -63,7 +63,8 @@ readable-cursor c c' now out (Asks xid r) None p h = go (first-or-anew c c' xid 
     go : PlansBeside c xid r now c' out ⊎ Looks c xid r empty_view now c' out → c'.cursor ≡ c.cursor
     go (inl y) = is-cursor (decided (record c { views = y.views }) xid r y.view now (Planned y.plan)) c c' out refl y.is
     go (inr (inl y)) = is-cursor (asks_for c xid r empty_view (take max_ranges y.lacking)) c c' out refl y.is
-    go (inr (inr y)) = absurd (y.whole.enough refl (plain-none c.watches no_watches (Asks xid r) p) head_want (inl refl) refl)
+    go (inr (inr (inl y))) = absurd (let begun : true ≡ false = (y.may).begun in cc)
+    go (inr (inr (inr y))) = absurd (y.whole.enough refl (plain-none c.watches no_watches (Asks xid r) p) head_want (inl refl) refl)
 
 takes-cursor : (c c' : Core) (bytes : List ℕ) (now : ℕ) (out : List Action) → TakesFrame c bytes now c' out → c'.cursor ≡ c.cursor
 takes-cursor c c' bytes now out h = readable-cursor c c' now out (read_request bytes) (plain_reply c.watches (read_request bytes)) refl h

@@ -38,7 +38,7 @@ use Rattle.zp_step.proofs.Shutting.{shut-for-good, steps-open}
 use Rattle.zp_step.specs.Connects.{Connects, Opens, begun, connected}
 use Rattle.zp_step.specs.Entries.{entered, then_reply}
 use Rattle.zp_step.specs.Keepalives.{Looked, StillMine, TakesUp, checks, keeps_alive}
-use Rattle.zp_step.specs.Looking.{IfRecords, Looks, asks_for, change_by, decided, expired, max_ranges, moved, pending}
+use Rattle.zp_step.specs.Looking.{IfRecords, Looks, asks_for, change_by, decided, expired, guessed, max_ranges, moved, pending}
 use Rattle.zp_step.specs.Plans.{Committed, finishes}
 use Rattle.zp_step.specs.Replies.{Is, closed_by, is_due, replied, stage_after, waits}
 use Rattle.zp_step.specs.Stages.{Core, Pending, Stage, Unconnected, Connecting, Ready, KeepingAlive, Checking, Reading, Committing, Waiting, Shut, is_shut}
@@ -88,7 +88,8 @@ module _ (now : ℕ) (c' : Core) (out : List Action) where
 
   few-looks : (c : Core) (xid : ℤ) (r : Request) (v : View) → Looks c xid r v now c' out → AsksFew c'.stage
   few-looks c xid r v (inl y) = few-is (asks_for c xid r v (take max_ranges y.lacking)) (at-most y.lacking) y.is
-  few-looks c xid r v (inr y) = few-is (decided (keeps c r v) xid r v now y.decision) (few-decided (keeps c r v) xid r v now y.decision) y.is
+  few-looks c xid r v (inr (inl y)) = few-is (decided c xid r (guessed v y.key) now (Planned y.plan)) tt y.is
+  few-looks c xid r v (inr (inr y)) = few-is (decided (keeps c r v) xid r v now y.decision) (few-decided (keeps c r v) xid r v now y.decision) y.is
 
   few-records : (c : Core) (ws : List Want) (parts : List ActAns) (Next : Type 0) → (Next → AsksFew c'.stage) → IfRecords c ws parts c' out Next → AsksFew c'.stage
   few-records c ws parts Next f (inl e) = few-closed c (cause.Damaged e.key e.value) e.is

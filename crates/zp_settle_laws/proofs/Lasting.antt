@@ -63,7 +63,7 @@ use Rattle.zp_world_laws.specs.Connections.{IsFlying, IsServingConn}
 use Rattle.zp_world_laws.specs.Counting.{HasFrames}
 use Rattle.zp_world_laws.specs.Reaping.{IsReapAsk, IsReapFlight}
 use Rattle.zp_settle_laws.proofs.Answered.{Then, answer-then}
-use Rattle.zp_settle_laws.proofs.Carried.{stage-after}
+use Rattle.zp_settle_laws.proofs.Carried.{commits-some, reads-some, stage-after}
 use Rattle.zp_settle_laws.proofs.Coming.{AsksOut, ConnectOut, IsTruthful, Remains, RemainsAfter, TruthIn}
 use Rattle.zp_settle_laws.proofs.Reaps.{ReapAfter, ReapOut, ReapThen, reap-after}
 use Rattle.zp_settle_laws.proofs.Truths.{serving-true}
@@ -208,7 +208,7 @@ module _ (w w' : World) (c : ℕ) (i : Input) (hd : Handed c [] w i w') (idle : 
       by-stage (KeepingAlive f) e = subst (TruthIn w.store hd.next.who) (sym e) tt
       by-stage (Checking f) e = subst (TruthIn w.store hd.next.who) (sym e) tt
       by-stage (Reading xid r v ws) e = served-true (ap is_served e)
-      by-stage (Committing xid r v p m) e = served-true (ap is_served e)
+      by-stage (Committing xid r v p m) e = subst (TruthIn w.store hd.next.who) (sym e) tt
       by-stage (Waiting p) e = subst (TruthIn w.store hd.next.who) (sym e) tt
       by-stage Shut e = subst (TruthIn w.store hd.next.who) (sym e) tt
 
@@ -372,8 +372,8 @@ out-some s who (Connecting x) q k e h = connect-some s x.request.session x x.pha
 out-some s who Ready q k e h = absurd (none_some e)
 out-some s who (KeepingAlive f) q k e h = omega (arith, h)
 out-some s who (Checking f) q k e h = omega (arith, h)
-out-some s who (Reading xid r v ws) q k e h = (let most = h.most in omega (arith, most))
-out-some s who (Committing xid r v p m) q k e h = omega (arith, h)
+out-some s who (Reading xid r v ws) q k e h = reads-some s who r v ws k h
+out-some s who (Committing xid r v p m) q k e h = commits-some s who r p k h
 out-some s who (Waiting p) q k e h = absurd (none_some e)
 out-some s who Shut q k e h = absurd (none_some e)
 
@@ -441,7 +441,7 @@ module _ (w w' : World) (c j : ℕ) (ex : Executes c w w') (k : IsAccounted w) w
       left-by (Connection core) actor Denied denied (record { total = 0; left = tt; most = omega (arith, some, most, t.most, then-entries, ap (λ (u : World). length u.entries) same) })
   core-carried core actor l (Some (u, b)) e (carried, stored) =
       let t = l.left in
-      let d = stage-after w.store u core.who core.stage ex.asking.ask b t.asks (asked-is w c ex.conn core ex.asking k ex.found actor ex.out) e t.out in
+      let d = stage-after w.store u core.who (let begun = ((k.whole.holds).serves).begun in omega (arith, begun)) core.stage ex.asking.ask b t.asks (asked-is w c ex.conn core ex.asking k ex.found actor ex.out) e t.out in
       let at_u : w'.store ≡ u = then-store ∙ (stored-in w ex.mid u ex.asking.kind stored).store in
       let one_more = entries-stored w ex.mid u ex.asking.kind stored in
       let most = l.most in

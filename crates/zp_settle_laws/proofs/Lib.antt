@@ -1,5 +1,6 @@
 pub mod Places
 pub mod Coming
+pub mod Guessing
 pub mod Answered
 pub mod Truths
 pub mod Carried

@@ -81,6 +81,17 @@ lacks-before v u (want.Children p) x h = go (listed v p) refl
     go None e = e
     go (Some f) e = absurd (none_some (sym h ∙ x.lists p f e))
 
+-- ---- the nodes of a session
+
+-- they are few, where the request reads by them: a closeSession alone does
+abbrev pub IsFewFor : Request → ℤ → View → Type 0
+IsFewFor req.Close id v = AreFewOwned id v
+IsFewFor _ id v = Unit {0}
+
+pub few-for : (r : Request) (id : ℤ) (v : View) → AreFewOwned id v → IsFewFor r id v
+few-for req.Close id v few = few
+few-for _ id v few = tt
+
 -- ---- what follows from a view follows from one that sees more
 
 saw-same : (v u : View) (k : Key) (a b : Bytes) → Extends v u → SawValue v k a → SawValue u k b → a ≡ b
@@ -232,7 +243,7 @@ contained-at (y ∷ xs) x (inr h) = let t = contained-at xs x h in (suc (t.0), o
 listed-place : (r : Request) (id : ℤ) (v : View) (w : Want) → In w (listings r) → HasPlace r id v (places r id) w
 listed-place r id v w h = fixed-place r id v w (inr (inr (in_right w (map key_want (reads r id)) (listings r) h)))
 
-follows-place : (r : Request) (id : ℤ) (v : View) (w : Want) → AreFewOwned id v → Follows r id v w → HasPlace r id v (places r id) w
+follows-place : (r : Request) (id : ℤ) (v : View) (w : Want) → IsFewFor r id v → Follows r id v w → HasPlace r id v (places r id) w
 follows-place (req.Create p d a f) id v w few h = after-place (req.Create p d a f) id v w 0 (omega arith) h
 follows-place (req.Create2 p d a f) id v w few h = after-place (req.Create2 p d a f) id v w 0 (omega arith) h
 follows-place (req.Delete p x) id v w few h = after-place (req.Delete p x) id v w 0 (omega arith) h
@@ -245,7 +256,7 @@ follows-place req.Close id v w few (ps, p, q, saw, has, e, is) =
 follows-place (req.Multi parts) id v w few h = let t = from-part id v [] parts w h in after-place (req.Multi parts) id v w t.0 t.1 t.2
 follows-place _ id v w few h = absurd h
 
-read-place : (r : Request) (who : Who) (v : View) (w : Want) → AreFewOwned who.session v → IsRead r who v w → HasPlace r who.session v (places r who.session) w
+read-place : (r : Request) (who : Who) (v : View) (w : Want) → IsFewFor r who.session v → IsRead r who v w → HasPlace r who.session v (places r who.session) w
 read-place r who v w few (inl e) = fixed-place r who.session v w (inl (sym e))
 read-place r who v w few (inr (inl e)) = fixed-place r who.session v w (inr (inl (sym e)))
 read-place r who v w few (inr (inr (inl (k, has, e)))) =
@@ -277,11 +288,11 @@ without-other s (x ∷ free) (inr h) t (inr k) = elim (without-other s free h t 
 abbrev pub Ends : Request → Who → ℕ → View → Type 0
 Ends r who zero v = (ws : List Want) → AreNeeds r who v ws → ws ≡ []
 Ends r who (suc n) v = (ws : List Want) (z : ℤ) (parts : List ActAns) → AreNeeds r who v ws → ws ≢ [] → length (take max_ranges ws) ≤ length parts
-    → AreFewOwned who.session (view_on v z (take max_ranges ws) parts) → Ends r who n (view_on v z (take max_ranges ws) parts)
+    → IsFewFor r who.session (view_on v z (take max_ranges ws) parts) → Ends r who n (view_on v z (take max_ranges ws) parts)
 
 -- what is still lacking has a place that is free
 record Open (r : Request) (who : Who) (free : List Place) (v : View) : Type 0 where
-  free_for : (u : View) (w : Want) → Extends v u → AreFewOwned who.session u → IsRead r who u w → IsLacking u w → HasPlace r who.session u free w
+  free_for : (u : View) (w : Want) → Extends v u → IsFewFor r who.session u → IsRead r who u w → IsLacking u w → HasPlace r who.session u free w
 
 open-on : (r : Request) (who : Who) (free : List Place) (v u : View) (w : Want) (at : HasPlace r who.session v free w) → Extends v u → (IsLacking u w → ⊥) → Open r who free v → Open r who (without at.place free at.among) u
 open-on r who free v u w at x shown o = record {
@@ -298,7 +309,7 @@ open-on r who free v u w at x shown o = record {
         let same_want : w ≡ y = takes-same r who.session v t at.place w y (extends-then v u t x e) at.takes takes_it in
         absurd (shown (lacks-before u t w e (subst (IsLacking t) (sym same_want) lacks)))
 
-none-left : (r : Request) (who : Who) (v : View) (free : List Place) (ws : List Want) → free ≡ [] → Open r who free v → AreFewOwned who.session v → AreNeeds r who v ws → ws ≡ []
+none-left : (r : Request) (who : Who) (v : View) (free : List Place) (ws : List Want) → free ≡ [] → Open r who free v → IsFewFor r who.session v → AreNeeds r who v ws → ws ≡ []
 none-left r who v free [] e o few n = refl
 none-left r who v free (w ∷ ws) e o few n =
     let h = n.only w (0, omega arith, refl) in
@@ -309,12 +320,12 @@ length-none : (free : List Place) → length free ≤ 0 → free ≡ []
 length-none [] h = refl
 length-none (s ∷ free) h = absurd (omega (arith, h))
 
-open-ends : (r : Request) (who : Who) (n : ℕ) (v : View) (free : List Place) → length free ≤ n → Open r who free v → AreFewOwned who.session v → Ends r who n v
+open-ends : (r : Request) (who : Who) (n : ℕ) (v : View) (free : List Place) → length free ≤ n → Open r who free v → IsFewFor r who.session v → Ends r who n v
 open-ends r who zero v free le o few = λ ws needs. none-left r who v free ws (length-none free le) o few needs
 open-ends r who (suc n) v free le o few = λ ws z parts needs some answered few_then. go (λ u rest. open-ends r who n u rest) ws z parts needs some answered few_then
   where
-    go : ((u : View) (rest : List Place) → length rest ≤ n → Open r who rest u → AreFewOwned who.session u → Ends r who n u) → (ws : List Want) (z : ℤ) (parts : List ActAns) → AreNeeds r who v ws → ws ≢ [] → length (take max_ranges ws) ≤ length parts
-        → AreFewOwned who.session (view_on v z (take max_ranges ws) parts) → Ends r who n (view_on v z (take max_ranges ws) parts)
+    go : ((u : View) (rest : List Place) → length rest ≤ n → Open r who rest u → IsFewFor r who.session u → Ends r who n u) → (ws : List Want) (z : ℤ) (parts : List ActAns) → AreNeeds r who v ws → ws ≢ [] → length (take max_ranges ws) ≤ length parts
+        → IsFewFor r who.session (view_on v z (take max_ranges ws) parts) → Ends r who n (view_on v z (take max_ranges ws) parts)
     go later [] z parts needs some answered few_then = absurd (some refl)
     go later (w ∷ ws) z parts needs some answered few_then =
         let h = needs.only w (0, omega arith, refl) in
@@ -407,5 +418,5 @@ places-length r id =
 
 -- ---- so it ends
 
-pub request-ends : (r : Request) (who : Who) (v : View) → AreFewOwned who.session v → Ends r who (looks r) v
+pub request-ends : (r : Request) (who : Who) (v : View) → IsFewFor r who.session v → Ends r who (looks r) v
 request-ends r who v few = open-ends r who (looks r) v (places r who.session) (places-length r who.session) (record { free_for = λ u w x f reads lacks. read-place r who u w f reads }) few

@@ -1,6 +1,6 @@
 -- A store with room denies nothing that an attached connection asks.
 use Rattle.std.proofs.Common.{◌≡◌, ℕ, zero, suc, ◌≤◌, List, [], ◌∷◌, ◌++◌, length, take, refl, sym, ap, ◌∙◌, subst, arith, Bool, true, false, ℤ, pos, inl, inr}
-use Rattle.std.specs.Prelude.{Option, Some, None, ◌≤ℤ◌, ◌<ℤ◌, ◌&&◌, ◌||◌, if◌then◌else◌, int_lt, not}
+use Rattle.std.specs.Prelude.{Contains, Option, Some, None, ◌≤ℤ◌, ◌<ℤ◌, ◌&&◌, ◌||◌, if◌then◌else◌, int_lt, not}
 use Rattle.std.specs.Cmp.Lexicographic.{slice_cmp}
 use Rattle.std.specs.FinMap.{get, get-empty}
 use Rattle.std.specs.List.{list_all, list_any}
@@ -9,7 +9,6 @@ use Rattle.std.proofs.lemmas.Bool.{le-ltb}
 use Rattle.std.proofs.lemmas.Bool.Decides.{Decides-int_eq}
 use Rattle.std.proofs.lemmas.Int.{ints}
 use Rattle.std.proofs.lemmas.List.Elements.{All-contains}
-use Rattle.std.proofs.lemmas.List.Sums.{AllPass-from_list_all}
 use Rattle.ev_types.proofs.Allowed.{plain-not_denied}
 use Rattle.ev_types.specs.Denials.{carry, is_compacted, is_denied, is_full_store, is_future, names_missing, writes_twice}
 use Rattle.ev_types.specs.Ranges.{Keys}
@@ -28,16 +27,18 @@ use Rattle.zk_transcript.specs.declared.transcript.TranscriptLine.{TranscriptLin
 use Rattle.zk_transcript.specs.declared.transcript.TranscriptLine.TheVariants.{Update, Open, Frame as FrameLine, Send, Lapse, Close}
 use Rattle.zn_layout.specs.Keys.{HeadKey, key_bytes}
 use Rattle.zn_layout.specs.StandsFor.{HeadMeans, at}
-use Rattle.zn_view.proofs.Narrowing.{asked-found}
-use Rattle.zn_view.specs.Asks.{lease_guard, ranges_of, reading, transaction}
+use Rattle.zn_view.proofs.Members.{In, contains_in, in_contains}
+use Rattle.zn_view.specs.Asks.{guards_of, lease_guard, ranges_of, reading, transaction}
 use Rattle.zn_view.specs.Seen.{View}
 use Rattle.zn_view.specs.declared.plan.Plan.{Plan}
 use Rattle.zn_view.specs.declared.plan.Who.{Who}
+use Rattle.zn_view.specs.declared.snapshot.SeenKey.{SeenKey}
 use Rattle.zn_view.specs.declared.want.Want.{Want}
 use Rattle.zn_view.specs.declared.want.Want.TheVariants as want
 use Rattle.zs_session.specs.Sessions.{attach_wants}
 use Rattle.zx_base.proofs.Options.{none_some, some_is}
-use Rattle.zx_base.specs.Maps.{Bytes}
+use Rattle.zx_base.specs.Maps.{Bytes, same}
+use Rattle.zp_laws.proofs.Revisions.{IsFoundIn, made-found}
 use Rattle.zp_laws.specs.Inputs.{Precedes}
 use Rattle.zp_laws.specs.Standing.{IsBoundPlan, Knows}
 use Rattle.zp_step.specs.Looking.{max_ranges}
@@ -46,7 +47,6 @@ use Rattle.zp_script.specs.declared.flight.Flight.{Flight}
 use Rattle.zp_world_laws.proofs.Arrivals.{nat-either}
 use Rattle.zp_world_laws.specs.Connections.{IsServingConn}
 use Rattle.zp_world_laws.specs.Serving.{StoreServes, moment_of}
-use Rattle.zp_settle_laws.proofs.Truths.{found-holds}
 use Rattle.zx_base.proofs.Booleans.{and-false, or-neither as both_false, true-not_false as true-false}
 
 -- ---- the store of a script: nothing was compacted, and it began as a new one
@@ -147,29 +147,56 @@ alive-allowed s id = refl
 
 -- ---- a plan, which guards the record of its session's life
 
+-- the key of a guard among those that were seen
+record IsOf (xs : List SeenKey) (g : Guard) : Type 0 where
+  seen_key : SeenKey
+  among : In seen_key xs
+  at_key : seen_key.key ≡ g.key
+  put : mod_of seen_key.found ≡ g.mod_revision
+
+guard-of : (xs : List SeenKey) (g : Guard) → In g (guards_of xs) → IsOf xs g
+guard-of [] g h = absurd h
+guard-of (x ∷ xs) g h = go (same x.key (key_bytes HeadKey)) (guard-of xs g) h
+  where
+    later : IsOf xs g → IsOf (x ∷ xs) g
+    later y = record { seen_key = y.seen_key; among = inr y.among; at_key = y.at_key; put = y.put }
+
+    go : (b : Bool) → (In g (guards_of xs) → IsOf xs g) → In g (if b then guards_of xs else record { key = x.key; mod_revision = mod_of x.found } ∷ guards_of xs) → IsOf (x ∷ xs) g
+    go true rest k = later (rest k)
+    go false rest (inl e) = record { seen_key = x; among = inl refl; at_key = ap (λ (y : Guard). y.key) e; put = ap (λ (y : Guard). y.mod_revision) e }
+    go false rest (inr k) = later (rest k)
+
 module _ (s : Store) (who : Who) (r : Request) (v : View) (p : Plan) (time : ℕ) (b : IsBoundPlan s who r v p time) where
-  guard-holds : holds (store_at s b.number) (lease_guard who) ≡ true
-  guard-holds =
+  -- the view found that record
+  saw-life : IsOf v.keys (lease_guard who)
+  saw-life =
       let asked = (b.good).asked in
-      let all : list_all (holds (store_at s b.number)) p.guards ≡ true = ap (list_all (holds (store_at s b.number))) asked.guards ∙ found-holds (store_at s b.number) asked.keys (asked-found who v p (store_at s b.number) asked b.agrees) in
-      All-contains (λ (g : Guard). holds (store_at s b.number) g ≡ true) p.guards (lease_guard who) (AllPass-from_list_all (holds (store_at s b.number)) p.guards all) asked.lease
+      let guarded = subst (λ (gs : List Guard). Contains gs (lease_guard who)) asked.guards asked.lease in
+      let x = guard-of asked.keys (lease_guard who) (contains_in (lease_guard who) (guards_of asked.keys) guarded) in
+      record { seen_key = x.seen_key; among = contains_in x.seen_key v.keys (All-contains (Contains v.keys) asked.keys x.seen_key asked.among (in_contains x.seen_key asked.keys x.among)); at_key = x.at_key; put = x.put }
 
   plan-number : IsOfScript s → pos 1 ≤ℤ who.mine → 2 ≤ b.number
-  plan-number o rises = go (get (store_at s b.number) (lease_guard who).key) refl
+  plan-number o rises = go (saw-life.seen_key).found refl
     where
-      life : mod_of (get (store_at s b.number) (lease_guard who).key) ≡ who.mine
-      life = (Decides-int_eq (mod_of (get (store_at s b.number) (lease_guard who).key)) who.mine).0 guard-holds
+      m : Keys
+      m = store_at s b.number
 
-      go : (found : Option Kv) → get (store_at s b.number) (lease_guard who).key ≡ found → 2 ≤ b.number
-      go None e = absurd (let zero_is : pos 0 ≡ who.mine = sym (ap mod_of e) ∙ life in omega (arith, ints, rises, zero_is))
-      go (Some kv) e = later-there s b.number (lease_guard who).key kv o e
+      found : IsFoundIn m saw-life.seen_key
+      found = All-contains (IsFoundIn m) v.keys saw-life.seen_key (made-found r v p m b.made_of) (in_contains saw-life.seen_key v.keys saw-life.among)
+
+      go : (o : Option Kv) → (saw-life.seen_key).found ≡ o → 2 ≤ b.number
+      go None e = absurd (let zero_is : pos 0 ≡ who.mine = sym (ap mod_of e) ∙ saw-life.put in omega (arith, ints, rises, zero_is))
+      go (Some kv) e = later-there s b.number (saw-life.seen_key).key kv o (found kv e)
 
   plan-allowed : (lines : List TranscriptLine) → StoreServes s lines → IsOfScript s → pos 1 ≤ℤ who.mine → revision s <ℤ last_revision → is_denied s (transaction p) ≡ false
   plan-allowed lines w o rises room =
       let n = b.number in
       let lo = plan-number o rises in
       let x = state_at lines (moment_of lines (pos n)) in
-      ((b.good).taken x (sound-at s lines n w lo b.known) (store_at s n, w.stands n lo b.known, b.agrees)).allowed s room
+      elim b.made_of [
+        | inl agrees ↦ ((b.good).taken x (sound-at s lines n w lo b.known) (store_at s n, w.stands n lo b.known, agrees)).allowed s room
+        | inr guess ↦ (guess.taken).allowed s room
+      ]
 
 -- ---- whatever is out
 

@@ -40,7 +40,7 @@ use Rattle.zs_session.specs.Sessions.{attach_wants, life_key}
 use Rattle.zx_base.proofs.Options.{none_some, some_is}
 use Rattle.zp_step.proofs.Cases.{of_alive}
 use Rattle.zp_laws.proofs.Honest.{records-sound}
-use Rattle.zp_step.specs.Looking.{IsForTree, IfRecords, Looks, asks_for, change_by, decided, max_ranges, moved, pending}
+use Rattle.zp_step.specs.Looking.{IsForTree, IfRecords, Looks, asks_for, change_by, decided, guessed, max_ranges, moved, pending}
 use Rattle.zp_step.specs.Kept.{keeps}
 use Rattle.zn_view.specs.Keeping.{update_path}
 use Rattle.zp_step.proofs.Beside.{PlansBeside, first-or-anew, leaves-beside}
@@ -125,7 +125,8 @@ not-refused w x t p k = go (is_auth_refusal t.reply) refl
 module _ (c' : Core) (out : List Action) where
   looks-lasting : (c : Core) (xid : ℤ) (r : Request) (v : View) (now : ℕ) → pos 1 ≤ℤ c.who.mine → IsForTree r → SeesLife c.who v → is_close r ≡ false → AreLasting c.waiting → Looks c xid r v now c' out → IsLasting c'
   looks-lasting c xid r v now rises tree s k w (inl y) = is-lasting (asks_for c xid r v (take max_ranges y.lacking)) c' out (record { work = k; waiting = w }) y.is
-  looks-lasting c xid r v now rises tree s k w (inr y) =
+  looks-lasting c xid r v now rises tree s k w (inr (inl y)) = is-lasting (decided c xid r (guessed v y.key) now (Planned y.plan)) c' out (record { work = k; waiting = w }) y.is
+  looks-lasting c xid r v now rises tree s k w (inr (inr y)) =
       let by_tree = tested-tree c.who v y.decision (sees v (life_key c.who.session)) refl (y.whole.enough refl tree (life_want c.who.session) (inr (inl refl))) rises s (y.tested tree) in
       is-lasting (decided (keeps c r v) xid r v now y.decision) c' out (decided-lasting (keeps c r v) xid r v now y.decision by_tree k w) y.is
 
@@ -150,7 +151,8 @@ module _ (c' : Core) (out : List Action) where
       go : PlansBeside c xid r now c' out ⊎ Looks c xid r empty_view now c' out → IsLasting c'
       go (inl y) = is-lasting (decided (record c { views = y.views }) xid r y.view now (Planned y.plan)) c' out (record { work = stays; waiting = w }) y.is
       go (inr (inl y)) = is-lasting (asks_for c xid r empty_view (take max_ranges y.lacking)) c' out (record { work = stays; waiting = w }) y.is
-      go (inr (inr y)) = absurd (y.whole.enough refl (plain-none c.watches no_watches (Asks xid r) p) head_want (inl refl) refl)
+      go (inr (inr (inl y))) = absurd (let begun : true ≡ false = (y.may).begun in cc)
+      go (inr (inr (inr y))) = absurd (y.whole.enough refl (plain-none c.watches no_watches (Asks xid r) p) head_want (inl refl) refl)
 
   takes-lasting : (c : Core) (bytes : List ℕ) (now : ℕ) → closes_after (read_request bytes) ≡ false → AreLasting c.waiting → TakesFrame c bytes now c' out → IsLasting c'
   takes-lasting c bytes now k w h = readable-lasting c now (read_request bytes) (plain_reply c.watches (read_request bytes)) refl k w h

