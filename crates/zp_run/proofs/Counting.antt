@@ -35,7 +35,7 @@ use Rattle.zp_step.specs.Connects.{Connects, Opens, begun, connected}
 use Rattle.zp_step.specs.Entries.{entered, then_reply}
 use Rattle.zp_step.specs.Keepalives.{Looked, StillMine, TakesUp, checks, keeps_alive}
 use Rattle.zp_step.specs.Kept.{keeps}
-use Rattle.zp_step.specs.Looking.{IfRecords, Looks, change_by, decided, expired, moved, pending}
+use Rattle.zp_step.specs.Looking.{IfRecords, Looks, change_by, decided, expired, guessed, moved, pending}
 use Rattle.zp_step.specs.Plans.{Committed, finishes}
 use Rattle.zp_step.specs.Replies.{Is, closed_by, is_due, replied, waits}
 use Rattle.zp_step.specs.Stages.{Core, Pending, Stage, Unconnected, Connecting, Ready, KeepingAlive, Checking, Reading, Committing, Waiting, Shut, counted_up, is_shut}
@@ -65,7 +65,8 @@ decided-same c c' xid r v now out (Moved found) i = waits-same c c' (moved c.who
 
 looks-same : (c c' : Core) (xid : ℤ) (r : Request) (v : View) (now : ℕ) (out : List Action) → Looks c xid r v now c' out → c'.taken ≡ c.taken
 looks-same c c' xid r v now out (inl y) = ap (λ (d : Core). d.taken) (y.is).0
-looks-same c c' xid r v now out (inr y) = decided-same (keeps c r v) c' xid r v now out y.decision y.is
+looks-same c c' xid r v now out (inr (inl y)) = decided-same c c' xid r (guessed v y.key) now out (Planned y.plan) y.is
+looks-same c c' xid r v now out (inr (inr y)) = decided-same (keeps c r v) c' xid r v now out y.decision y.is
 
 records-same : (c c' : Core) (ws : List Want) (parts : List ActAns) (out : List Action) (Next : Type 0) → (Next → c'.taken ≡ c.taken) → IfRecords c ws parts c' out Next → c'.taken ≡ c.taken
 records-same c c' ws parts out Next f (inl e) = ap (λ (d : Core). d.taken) (e.is).0

@@ -48,7 +48,7 @@ use Rattle.zx_base.specs.Maps.{Bytes}
 use Rattle.zp_step.proofs.Cases.{of_alive}
 use Rattle.zp_step.proofs.Ending.{notices-only, only_sends}
 use Rattle.zp_step.proofs.Beside.{PlansBeside, first-or-anew, leaves-beside}
-use Rattle.zp_step.specs.Looking.{IsForTree, IfRecords, Looks, change_by, decided, expired, moved, pending}
+use Rattle.zp_step.specs.Looking.{IsForTree, IfRecords, Looks, change_by, decided, expired, guessed, moved, pending}
 use Rattle.zp_step.proofs.Shutting.{steps-open}
 use Rattle.zp_step.specs.Connects.{Connects, Opens, begun, connected}
 use Rattle.zp_step.specs.Entries.{entered, then_reply}
@@ -115,7 +115,9 @@ module _ (k : Heard) (c0 : Core) (x : Input) where
   looks-done : (c c' : Core) (xid : ℤ) (r : Request) (v : View) (now : ℕ) (out : List Action) → Waits-heard c → IsFrameAsking k xid r → IsForTree r → IsGathered k.answers v → Looks c xid r v now c' out → Done k c0 x c' out
   looks-done c c' xid r v now out w f t g (inl y) =
       asks-done k c0 x (record c { stage = Reading xid r v _ }) c' _ out (record { waiting = w; stage = (f, t, g) }) (λ e. cc) y.is
-  looks-done c c' xid r v now out w f t g (inr y) = decided-done (keeps c r v) c' xid r v now out y.decision w f t g y.tested y.is
+  looks-done c c' xid r v now out w f t g (inr (inl y)) =
+      asks-done k c0 x (record c { stage = Committing xid r (guessed v y.key) y.plan now }) c' _ out (record { waiting = w; stage = (f, t) }) (λ e. cc) y.is
+  looks-done c c' xid r v now out w f t g (inr (inr y)) = decided-done (keeps c r v) c' xid r v now out y.decision w f t g y.tested y.is
 
   -- ---- a frame is taken up
 
