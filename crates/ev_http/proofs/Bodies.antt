@@ -9,7 +9,8 @@ use Rattle.ev_http.specs.declared.body.Part.TheVariants as part
 use Rattle.ev_http.specs.declared.taking.Tally.{Tally}
 use Rattle.httparse.specs.Grammar.{print_chunk_line}
 use Rattle.ev_http.proofs.Takings.{no_feed-nil}
-use Rattle.ev_http.specs.Taking.{Told, HasNoFeed}
+use Rattle.zx_outside.specs.Reading.{HasNoFeed}
+use Rattle.ev_http.specs.Taking.{Told}
 use Rattle.std.specs.Prelude.{Option, Result}
 use Rattle.ev_http.specs.Body.{Chunk, print_chunks, contents, AfterChunks, AtContent, Came, EndsWhole, TakesBytes, TakesPart, after_content, Framed}
 

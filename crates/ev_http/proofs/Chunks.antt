@@ -13,7 +13,8 @@ use Rattle.ev_http.specs.declared.framing.Framing.{Framing}
 use Rattle.ev_http.specs.declared.body.Part.{Part}
 use Rattle.ev_http.specs.declared.body.Part.TheVariants as part
 use Rattle.ev_http.specs.declared.taking.Tally.{Tally}
-use Rattle.ev_http.specs.Taking.{Told, Ends, counted, HasNoFeed, IsLine, Grows, TakesLine}
+use Rattle.zx_outside.specs.Reading.{HasNoFeed}
+use Rattle.ev_http.specs.Taking.{Told, Ends, counted, IsLine, Grows, TakesLine}
 use Rattle.ev_http.specs.Body.{Chunk, IsChunk, print_chunk, IsSizeLine, print_chunks, contents, IsFieldLine, AreFields, InChunks, AfterChunks, AtSize, AtGap, AtTrailer, Came, IsOpen, IsNoChunk, IsNoTrailer, BreaksAt, TakesPart, SizeAnswer, TrailerAnswer, Framed}
 use Rattle.ev_http.proofs.Takings.{no_feed-nil}
 use Rattle.ev_http.proofs.Feeds.{same_line, text_short, no_feed-append, no_feed-cons, no_chunk-long, no_chunk-never}

@@ -4,7 +4,8 @@ use Rattle.std.proofs.lemmas.List.Elements.{All-weaker, All-append, All-cons, Al
 use Rattle.httparse.specs.Grammar.{AllPass, is_ows, is_extension_byte, ChunkLine, IsChunkLine, IsExtension, print_chunk_line, print_extension, chunk_size, HasNoChunkLine, NeverHasChunkLine, MayBecomeChunkLine}
 use Rattle.httparse.specs.Spans.{IsChunkLineAt}
 use Rattle.std.specs.Char.{is_ascii_hexdigit}
-use Rattle.ev_http.specs.Taking.{HasNoFeed, IsLine}
+use Rattle.zx_outside.specs.Reading.{HasNoFeed}
+use Rattle.ev_http.specs.Taking.{IsLine}
 use Rattle.ev_http.specs.Body.{IsSizeLine, IsNoChunk}
 
 -- a line feed after bytes without one ends the line

@@ -3,7 +3,7 @@ use Rattle.std.proofs.Common.{suc, ◌≡◌, ◌≢◌, ℕ, ◌+◌, ◌-◌, 
 use Rattle.std.proofs.lemmas.Bool.{cases_lt}
 use Rattle.std.proofs.Math.Seq.{take-append-add, take-append_seam}
 use Rattle.std.specs.List.{flat_map}
-use Rattle.httparse.specs.Grammar.{LineEnd, crlf, lf, Field, print_end, print_blank, print_version, print_reason, print_field, ResponseHead, print_response, RequestHead, print_request}
+use Rattle.httparse.specs.Grammar.{LineEnd, crlf, lf, Field, print_end, print_blank, print_version, print_reason, print_field, print_section, ResponseHead, print_response, RequestHead, print_request}
 use Rattle.ev_http.specs.declared.head.Kind.{Kind}
 use Rattle.ev_http.specs.declared.head.Kind.TheVariants as kind
 use Rattle.ev_http.specs.declared.head.Judged.{Judged}
@@ -12,7 +12,8 @@ use Rattle.std.specs.Prelude.{Err}
 use Rattle.ev_http.specs.declared.fault.HttpFault.{HttpFault}
 use Rattle.ev_http.specs.declared.fault.HttpFault.TheVariants as fault
 use Rattle.ev_http.specs.declared.taking.Tally.{Tally}
-use Rattle.ev_http.specs.Taking.{HasNoFeed, IsLine, Grows, TakesLine, Told}
+use Rattle.zx_outside.specs.Reading.{HasNoFeed}
+use Rattle.ev_http.specs.Taking.{IsLine, Grows, TakesLine, Told}
 use Rattle.ev_http.proofs.Takings.{grown_twice}
 use Rattle.ev_http.specs.Heads.{IsHead, HasNoHead, NeverFits, FitsHead, IsOpenHead, BeginsWithHead, MayBecome, TakesHead}
 
@@ -26,6 +27,29 @@ front_of a x p r e le =
 pub end_of_line : (e : LineEnd) → (front : List ℕ) × (print_end e ≡ front ++ 10 ∷ [])
 end_of_line crlf = (13 ∷ [], refl)
 end_of_line lf = ([], refl)
+
+-- a section follows a line, and ends in an empty one
+section_after_line : (fields : List Field) (last : LineEnd) → (front : List ℕ) × (10 ∷ print_section fields last ≡ front ++ 10 ∷ print_end last)
+section_after_line [] last = ([], refl)
+section_after_line (f ∷ fields) last =
+    let later = section_after_line fields last in
+    let e = end_of_line f.end in
+    let begin : List ℕ = f.name ++ 58 ∷ f.raw ++ e.0 in
+    let line : print_field f ≡ begin ++ 10 ∷ [] = ap (λ (x : List ℕ). f.name ++ 58 ∷ f.raw ++ x) e.1 ∙ sym (append_assoc (f.name ++ 58 ∷ f.raw) e.0 (10 ∷ [])) in (
+      10 ∷ (begin ++ later.0),
+      ap (λ (x : List ℕ). 10 ∷ x) (append_assoc (print_field f) (flat_map print_field fields) (print_end last)
+          ∙ ap (λ (x : List ℕ). x ++ print_section fields last) line ∙ append_assoc begin (10 ∷ []) (print_section fields last)
+          ∙ ap (λ (x : List ℕ). begin ++ x) later.1 ∙ sym (append_assoc begin later.0 (10 ∷ print_end last))),
+    )
+
+after_line : (start : List ℕ) (e : LineEnd) (fields : List Field) (last : LineEnd) → (front : List ℕ) × ((start ++ print_end e) ++ print_section fields last ≡ front ++ 10 ∷ print_end last)
+after_line start e fields last =
+    let end = end_of_line e in
+    let later = section_after_line fields last in (
+      (start ++ end.0) ++ later.0,
+      ap (λ (x : List ℕ). (start ++ x) ++ print_section fields last) end.1 ∙ ap (λ (x : List ℕ). x ++ print_section fields last) (sym (append_assoc start end.0 (10 ∷ [])))
+          ∙ append_assoc (start ++ end.0) (10 ∷ []) (print_section fields last) ∙ ap (λ (x : List ℕ). (start ++ end.0) ++ x) later.1 ∙ sym (append_assoc (start ++ end.0) later.0 (10 ∷ print_end last)),
+    )
 
 abbrev ResponseStart : ResponseHead → List ℕ
 ResponseStart h = print_blank h.blank ++ print_version h.minor ++ 32 ∷ h.digits ++ print_reason h.reason ++ print_end h.line_end
@@ -45,6 +69,16 @@ head_ends kind.Response fields head h =
 head_ends kind.Request fields head h =
     let e = end_of_line h.0.last in
     (RequestStart h.0 ++ (flat_map print_field h.0.fields ++ e.0), h.3 ∙ section_ends (RequestStart h.0) (flat_map print_field h.0.fields) (print_end h.0.last) e.0 e.1)
+
+-- a head ends in an empty line, which follows another line
+pub head_ends_empty : (k : Kind) (fields : List Field) (head : List ℕ) → IsHead k fields head → (front : List ℕ) × (end : LineEnd) × (head ≡ front ++ 10 ∷ print_end end)
+unfolding print_response print_request
+head_ends_empty kind.Response fields head h =
+    let e = after_line (print_blank h.0.blank ++ print_version h.0.minor ++ 32 ∷ h.0.digits ++ print_reason h.0.reason) h.0.line_end h.0.fields h.0.last in
+    (e.0, h.0.last, h.3 ∙ e.1)
+head_ends_empty kind.Request fields head h =
+    let e = after_line (print_blank h.0.blank ++ h.0.method ++ 32 ∷ h.0.target ++ 32 ∷ print_version h.0.minor) h.0.line_end h.0.fields h.0.last in
+    (e.0, h.0.last, h.3 ∙ e.1)
 
 pub last_of : (a b : List ℕ) (x y : ℕ) → a ++ x ∷ [] ≡ b ++ y ∷ [] → x ≡ y
 last_of [] [] x y e = cc
@@ -88,6 +122,14 @@ pub head_is_all : (k : Kind) (bytes text : List ℕ) → HasNoHead k bytes → H
 head_is_all k bytes text none no_feed fields head rest is e =
     let at_end = push_cases k (bytes ++ text) 10 (no_head-append k bytes text none no_feed) fields head rest is (append_assoc bytes text (10 ∷ []) ∙ e) in
     e ∙ ap (λ (x : List ℕ). head ++ x) at_end.0 ∙ append-nil head
+
+-- no head came whole with a line that is not empty
+pub no_head-line : (k : Kind) (old added new : List ℕ) → HasNoHead k old → IsLine added → new ≡ old ++ added → ((front : List ℕ) (end : LineEnd) → new ≡ front ++ 10 ∷ print_end end → ⊥) → HasNoHead k new
+no_head-line k old added new none line grown other fields head rest is e =
+    let same : new ≡ old ++ (line.0 ++ 10 ∷ []) = grown ∙ ap (λ (x : List ℕ). old ++ x) line.2 in
+    let all : new ≡ head = same ∙ head_is_all k old line.0 none line.1 fields head rest is (sym same ∙ e) in
+    let end = head_ends_empty k fields head is in
+    other end.0 end.1 (all ∙ end.2)
 
 pub never_fits-full : (k : Kind) (bytes : List ℕ) → HasNoHead k bytes → 16384 ≤ length bytes → NeverFits k bytes
 never_fits-full k bytes none full fields head more rest is e =

@@ -7,7 +7,8 @@ use Rattle.ev_http.specs.declared.body.Part.TheVariants as part
 use Rattle.ev_http.specs.declared.lines.State.{State}
 use Rattle.ev_http.specs.declared.lines.State.TheVariants as state
 use Rattle.ev_http.specs.declared.taking.Tally.{Tally}
-use Rattle.ev_http.specs.Taking.{Told, Took, Ends, HasNoFeed}
+use Rattle.zx_outside.specs.Reading.{HasNoFeed}
+use Rattle.ev_http.specs.Taking.{Told, Took, Ends}
 use Rattle.ev_http.specs.Body.{Came, EndsWhole, IsOpen, announced}
 use Rattle.ev_http.specs.Messages.{HoldsResponse}
 use Rattle.ev_http.specs.Stream.{InBody, AtLine, IsOver, AnswersLine, ReadsLine}

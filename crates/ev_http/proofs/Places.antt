@@ -8,7 +8,8 @@ use Rattle.std.proofs.Common.{false, length-drop}
 use Rattle.std.proofs.lemmas.List.Elements.{All-head, All-tail, All-nil, All-cons, All-append, All-take, All-drop}
 use Rattle.httparse.specs.Grammar.{LineEnd, crlf, lf, Field, IsField, is_token_byte, is_value_byte, print_end, print_blank, print_version, print_reason, print_field, print_section, print_response, print_request}
 use Rattle.std.proofs.lemmas.Grind.{flat_map-append}
-use Rattle.ev_http.specs.Taking.{HasNoFeed, IsLine}
+use Rattle.zx_outside.specs.Reading.{HasNoFeed}
+use Rattle.ev_http.specs.Taking.{IsLine}
 use Rattle.ev_http.specs.declared.head.Kind.{Kind}
 use Rattle.ev_http.specs.declared.head.Kind.TheVariants as kind
 use Rattle.ev_http.specs.Heads.{IsHead}

@@ -13,7 +13,8 @@ use Rattle.ev_http.specs.declared.body.Part.TheVariants as part
 use Rattle.ev_http.specs.declared.lines.State.{State}
 use Rattle.ev_http.specs.declared.lines.State.TheVariants as state
 use Rattle.ev_http.specs.declared.taking.Tally.{Tally}
-use Rattle.ev_http.specs.Taking.{Told, counted, risen, HasNoFeed}
+use Rattle.zx_outside.specs.Reading.{HasNoFeed}
+use Rattle.ev_http.specs.Taking.{Told, counted, risen}
 use Rattle.ev_http.specs.Heads.{IsOpenHead, NeverFits, FitsHead, TakesHead}
 use Rattle.ev_http.specs.Body.{Came, EndsWhole, PartAnswer, TakesPart, first_part}
 use Rattle.ev_http.specs.Messages.{IsWholeResponse, JudgesResponse}

@@ -15,7 +15,8 @@ use Rattle.ev_http.specs.declared.framing.Framing.TheVariants as framing
 use Rattle.ev_http.specs.declared.body.Part.{Part}
 use Rattle.ev_http.specs.declared.body.Part.TheVariants as part
 use Rattle.ev_http.specs.declared.taking.Tally.{Tally}
-use Rattle.ev_http.specs.Taking.{Told, Ends, HasNoFeed}
+use Rattle.zx_outside.specs.Reading.{HasNoFeed}
+use Rattle.ev_http.specs.Taking.{Told, Ends}
 use Rattle.ev_http.specs.Body.{Chunk, IsChunk, print_chunk, IsLastLine, print_chunks, contents, IsFieldLine, InChunks, Framed, AtSize, AtContent, AtGap, AtTrailer, Came, IsOpen, announced, BreaksAt, BodyAnswer, EndsWhole, LastsTo, IsNoChunk, IsNoTrailer, ReadsBody}
 use Rattle.ev_http.proofs.Feeds.{text_short, size_text, size_line}
 use Rattle.ev_http.proofs.Heads.{front_of}

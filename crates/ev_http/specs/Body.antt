@@ -10,7 +10,8 @@ use Rattle.ev_http.specs.declared.framing.Framing.TheVariants as framing
 use Rattle.ev_http.specs.declared.body.Part.{Part}
 use Rattle.ev_http.specs.declared.body.Part.TheVariants as part
 use Rattle.ev_http.specs.declared.taking.Tally.{Tally}
-use Rattle.ev_http.specs.Taking.{Told, Ends, counted, HasNoFeed, IsLine}
+use Rattle.zx_outside.specs.Reading.{HasNoFeed}
+use Rattle.ev_http.specs.Taking.{Told, Ends, counted, IsLine}
 
 -- A chunk: its line, its content and CR LF.
 pub record Chunk : Type 0 where

@@ -13,7 +13,8 @@ use Rattle.ev_http.specs.declared.lines.Refusal.TheVariants as refusal
 use Rattle.ev_http.specs.declared.lines.Lines.{Lines}
 use Rattle.ev_http.specs.declared.taking.Tally.{Tally}
 use Rattle.httparse.specs.Grammar.{ResponseHead}
-use Rattle.ev_http.specs.Taking.{Told, Ends, counted, HasNoFeed}
+use Rattle.zx_outside.specs.Reading.{HasNoFeed}
+use Rattle.ev_http.specs.Taking.{Told, Ends, counted}
 use Rattle.ev_http.specs.Heads.{IsOpenHead, NeverFits, MayBecome}
 use Rattle.ev_http.specs.Body.{Came, EndsWhole, IsOpen}
 use Rattle.ev_http.specs.Messages.{IsWholeResponse, JudgesResponse, RefusesResponse, GoesOn}

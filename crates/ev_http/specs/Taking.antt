@@ -2,10 +2,12 @@
 use Rattle.std.specs.Prelude.{◌≡◌, ◌≢◌, ℕ, ◌+◌, ◌-◌, ◌<◌, ◌≤◌, ◌^◌, min, max, Bool, true, false, cond, List, [], ◌∷◌, ◌++◌, length, take, All, ⊤, Option, Some, None, Result, Ok, Err}
 use Rattle.std.specs.Io.KnownBytes.{IsAtEnd}
 use Rattle.zx_outside.specs.Counts.{InputCounts, one_more}
-use Rattle.zx_outside.specs.Reading.{Gives}
+use Rattle.zx_outside.specs.Reading.{Gives, HasNoFeed}
 use Rattle.ev_http.specs.declared.fault.HttpFault.{HttpFault}
 use Rattle.ev_http.specs.declared.fault.HttpFault.TheVariants as fault
 use Rattle.ev_http.specs.declared.taking.Tally.{Tally}
+use Rattle.ev_http.specs.declared.taking.Piece.{Piece}
+use Rattle.ev_http.specs.declared.taking.Piece.TheVariants as piece
 use Rattle.ev_http.specs.declared.taking.Cut.{Cut}
 use Rattle.ev_http.specs.declared.taking.Cut.TheVariants as cut
 
@@ -71,17 +73,17 @@ bytes_in (Ok (Some n)) buffer = take n buffer
 bytes_in (Ok None) buffer = []
 bytes_in (Err e) buffer = []
 
--- The byte of the answer.
-abbrev pub byte_in : Result (Option ℕ) HttpFault → List ℕ
-byte_in (Ok (Some b)) = b ∷ []
-byte_in (Ok None) = []
-byte_in (Err e) = []
-
 -- At least one byte, and no more than there is room for.
 abbrev pub Fits : Result (Option ℕ) HttpFault → ℕ → Type 0
 Fits (Ok (Some n)) room = (0 < n) × (n ≤ room)
 Fits (Ok None) room = ⊤
 Fits (Err e) room = ⊤
+
+-- Of the bytes of the answer at most the last is a line feed.
+abbrev pub EndsAtFeed : Result (Option ℕ) HttpFault → List ℕ → Type 0
+EndsAtFeed (Ok (Some n)) buffer = HasNoFeed (take (n - 1) buffer)
+EndsAtFeed (Ok None) buffer = ⊤
+EndsAtFeed (Err e) buffer = ⊤
 
 -- No bytes come where the source has ended.
 abbrev pub AtEnd : Result (Option ℕ) HttpFault → Told → Type 0
@@ -102,13 +104,25 @@ Stopped (fault.TooLong n) tally = ⊥
 Stopped (fault.Ended n) tally = ⊥
 Stopped fault.WriteFault tally = ⊥
 
--- No byte is a line feed.
-abbrev pub HasNoFeed : List ℕ → Type 0
-HasNoFeed bytes = All (λ b. b ≢ 10) bytes
-
 -- One line feed, at the end.
 abbrev pub IsLine : List ℕ → Type 0
 IsLine bytes = (text : List ℕ) × HasNoFeed text × (bytes ≡ text ++ 10 ∷ [])
+
+-- What the taking of a piece of a line came to, by its answer. Without memory the piece is lost.
+abbrev pub TakesPiece : Result Piece HttpFault → List ℕ → List ℕ → List ℕ → ℕ → Told → Tally → Type 0
+TakesPiece (Ok piece.Last) old added new most source tally = IsLine added × (new ≡ old ++ added) × (length added ≤ most)
+TakesPiece (Ok piece.Part) old added new most source tally = HasNoFeed added × (new ≡ old ++ added) × (length added ≤ most) × (0 < length added)
+TakesPiece (Ok piece.End) old added new most source tally = (added ≡ []) × (new ≡ old) × Ends source
+TakesPiece (Err fault.Idle) old added new most source tally = (added ≡ []) × (new ≡ old) × (tally.turns ≡ 6000)
+TakesPiece (Err fault.ReadFault) old added new most source tally = (added ≡ []) × (new ≡ old)
+TakesPiece (Err fault.Memory) old added new most source tally = ⊤
+TakesPiece (Err fault.Head) old added new most source tally = ⊥
+TakesPiece (Err (fault.Status n)) old added new most source tally = ⊥
+TakesPiece (Err fault.Route) old added new most source tally = ⊥
+TakesPiece (Err (fault.Body p)) old added new most source tally = ⊥
+TakesPiece (Err (fault.TooLong n)) old added new most source tally = ⊥
+TakesPiece (Err (fault.Ended n)) old added new most source tally = ⊥
+TakesPiece (Err fault.WriteFault) old added new most source tally = ⊥
 
 -- A line grew by bytes with no line feed, to at most so many.
 pub record Grows (old added new : List ℕ) (limit : ℕ) : Type 0 where
@@ -116,7 +130,7 @@ pub record Grows (old added new : List ℕ) (limit : ℕ) : Type 0 where
   pub grown : new ≡ old ++ added
   pub short : length new ≤ max limit (length old)
 
--- What the taking of a line came to, by its answer. Without memory the line may have lost its last byte.
+-- What the taking of a line came to, by its answer. Without memory the line may have lost its last bytes.
 abbrev pub TakesLine : Result Cut HttpFault → List ℕ → List ℕ → List ℕ → ℕ → Told → Tally → Type 0
 TakesLine (Ok cut.LineFeed) old added new limit source tally = IsLine added × (new ≡ old ++ added) × (length new ≤ limit)
 TakesLine (Ok cut.Full) old added new limit source tally = Grows old added new limit × (limit ≤ length new)

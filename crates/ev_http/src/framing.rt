@@ -1,6 +1,6 @@
 //! How the body of a message is framed, by the fields of its head.
 
-ghost use Rattle.ev_http.specs.Taking.{HasNoFeed};
+ghost use Rattle.zx_outside.specs.Reading.{HasNoFeed};
 ghost use Rattle.std.specs.Prelude.{◌≡◌, ◌≤◌, ◌++◌, ◌∷◌, [], List, ℕ, length, map, All};
 ghost use Rattle.httparse.specs.Spans.{IsHeaderWithin, header_bytes};
 ghost use Rattle.ev_http.specs.Framing.{is_word, count_of, after_count, after_coding, after_field, framing_after, BeginsLastLines, EndsInFeed, StandsAt};

@@ -1,9 +1,10 @@
 //! The head of a message.
 
 ghost use Rattle.std.specs.List.{list_all};
-ghost use Rattle.std.specs.Prelude.{◌≡◌, ◌<◌, ◌≤◌, ◌++◌, List, ℕ, length, true};
+ghost use Rattle.std.specs.Prelude.{◌≡◌, ◌<◌, ◌≤◌, ◌++◌, ◌∷◌, List, ℕ, length, true, false};
 ghost use Rattle.ev_http.specs.Heads.{is_blank_byte, HasNoHead, MayBecome, NeverFits, BeginsWithHead, IsOpenHead, TakesHead, HeadAnswer};
-ghost use Rattle.ev_http.specs.Taking.{Took, told, failed};
+ghost use Rattle.ev_http.specs.Taking.{Took, told, failed, IsLine};
+ghost use Rattle.httparse.specs.Grammar.{LineEnd, print_end};
 
 use crate::fault::HttpFault;
 use crate::taking::{Cut, Tally, take_line};
@@ -91,20 +92,33 @@ fn stays_blank(was_blank: bool, bytes: &[u8], from: usize) -> bool
     was_blank && from <= bytes.len() && is_blank(&bytes[from..])
 }
 
-/// What the bytes so far come to. They are not parsed where they are CR and LF alone.
+/// Whether the bytes end in an empty line that follows another line, as each head does.
+fn ends_in_empty_line(bytes: &[u8]) -> bool
+    ensures { result ≡ false → (front : List ℕ) (end : LineEnd) → bytes.now ≡ front ++ 10 ∷ print_end end → ⊥ }
+{
+    bytes.ends_with(b"\n\n") || bytes.ends_with(b"\n\r\n")
+}
+
+/// What the bytes so far come to, which end in a line feed. They are parsed only where they end in an empty line, and not where
+/// they are CR and LF alone.
 fn judge_begun(blank: bool, kind: Kind, bytes: &[u8]) -> Judged
     ensures whole { result ≡ Judged.Whole → BeginsWithHead kind bytes.now }
-    ensures more { (blank ≡ true → list_all is_blank_byte bytes.now ≡ true) → result ≡ Judged.More → HasNoHead kind bytes.now }
+    ensures more { (blank ≡ true → list_all is_blank_byte bytes.now ≡ true) → (old added : List ℕ) → HasNoHead kind old → IsLine added → bytes.now ≡ old ++ added
+        → result ≡ Judged.More → HasNoHead kind bytes.now }
     ensures never { result ≡ Judged.Never → NeverFits kind bytes.now }
 {
     if blank {
         return Judged::More;
     }
-    judge(kind, bytes)
+    if ends_in_empty_line(bytes) {
+        return judge(kind, bytes);
+    }
+    Judged::More
 }
 
-/// Takes the rest of a head, and no byte after it. The head is parsed anew at each of its lines, but for the empty lines in front of
-/// it. What was taken stays in `head`, whatever the answer, but for a byte that there was no memory for.
+/// Takes the rest of a head, and no byte after it. The head is parsed at its empty line, so bytes that no head begins with are refused
+/// there, or once they are as many as a head has at most. What was taken stays in `head`, whatever the answer, but for bytes that there
+/// was no memory for.
 pub fn take_head<S: Source>(
     source: &mut S,
     tally: &mut Tally,

@@ -1,13 +1,16 @@
 //! Takes bytes from a source, and no more than are asked for.
 
 ghost use Rattle.std.specs.Prelude.{◌≡◌, ◌<◌, ◌≤◌, List, ℕ, length, IfErr};
-ghost use Rattle.ev_http.specs.Taking.{Took, told, failed, bytes_in, byte_in, Fits, AtEnd, Stopped, TakesLine};
+ghost use Rattle.ev_http.specs.Taking.{Took, told, failed, bytes_in, Fits, EndsAtFeed, AtEnd, Stopped, TakesPiece, TakesLine};
 
 use crate::fault::HttpFault;
 use zx_outside::{Got, Source};
 
 /// How many idle turns one call waits.
 pub const MAX_IDLE_TURNS: u32 = 6000;
+
+/// How many bytes of a line are taken at once.
+const LINE_PIECE: usize = 128;
 
 /// What was counted so far: the idle turns of this call, and the bytes taken of this message.
 #[derive(Clone, Copy)]
@@ -55,19 +58,75 @@ pub fn take_piece<S: Source>(
     Err(HttpFault::Idle)
 }
 
-/// Takes the next byte; `None` at the source's end.
-fn next_byte<S: Source>(source: &mut S, tally: &mut Tally) -> Result<Option<u8>, HttpFault>
-    requires { tally.old.turns ≤ 6000 }
-    ensures took { Took (byte_in result) (failed result) tally.old tally.new
+/// As `take_piece`, but up to a line feed at most.
+fn take_line_piece<S: Source>(
+    source: &mut S,
+    tally: &mut Tally,
+    buffer: &mut [u8],
+) -> Result<Option<usize>, HttpFault>
+    requires room { 0 < length buffer.old }
+    requires within { tally.old.turns ≤ 6000 }
+    ensures size { Fits result (length buffer.new) }
+    ensures took { Took (bytes_in result buffer.new) (failed result) tally.old tally.new
         (told S.given S.left S.counts S.ended S.name source.old)
         (told S.given S.left S.counts S.ended S.name source.new) }
+    ensures feed { EndsAtFeed result buffer.new }
     ensures end { AtEnd result (told S.given S.left S.counts S.ended S.name source.new) }
     ensures stopped { IfErr result (λ e. Stopped e tally.new) }
 {
-    let mut one = [0u8; 1];
-    match take_piece(source, tally, &mut one)? {
-        Some(_) => Ok(Some(one[0])),
-        None => Ok(None),
+    'turns: while tally.turns < MAX_IDLE_TURNS {
+        match source.read_line(buffer) {
+            Got::Bytes(count) => {
+                tally.taken = tally.taken.saturating_add(count as u64);
+                return Ok(Some(count));
+            }
+            Got::End => return Ok(None),
+            Got::Failed => return Err(HttpFault::ReadFault),
+            Got::Nothing => tally.turns += 1,
+        }
+    }
+    Err(HttpFault::Idle)
+}
+
+/// What a piece of a line is.
+#[derive(Clone, Copy)]
+enum Piece {
+    /// It ends with the line's feed.
+    Last,
+    /// More of the line is to come.
+    Part,
+    /// There is none: the source ended.
+    End,
+}
+
+/// Takes a piece of a line onto its end, by way of a buffer that is not empty and has room for as many bytes as are taken at most.
+fn take_some<S: Source>(
+    source: &mut S,
+    tally: &mut Tally,
+    line: &mut Vec<u8>,
+    buffer: &mut [u8],
+) -> Result<Piece, HttpFault>
+    requires within { tally.old.turns ≤ 6000 }
+    requires room { 0 < length buffer.old }
+    ensures line { (added : List ℕ)
+        × Took added (failed result) tally.old tally.new
+        (told S.given S.left S.counts S.ended S.name source.old)
+        (told S.given S.left S.counts S.ended S.name source.new)
+        × TakesPiece result line.old.items added line.new.items (length buffer.old)
+        (told S.given S.left S.counts S.ended S.name source.new) tally.new }
+{
+    match take_line_piece(source, tally, buffer) {
+        Ok(Some(count)) => {
+            if line.extend_from_slice(&buffer[..count]).is_err() {
+                return Err(HttpFault::Memory);
+            }
+            if buffer[count - 1] == b'\n' {
+                return Ok(Piece::Last);
+            }
+            Ok(Piece::Part)
+        }
+        Ok(None) => Ok(Piece::End),
+        Err(fault) => Err(fault),
     }
 }
 
@@ -82,8 +141,8 @@ pub enum Cut {
     End,
 }
 
-/// Takes bytes onto the end of a line, one by one, up to a line feed or until the line has `limit` bytes. What was taken stays in
-/// the line, whatever the answer, but for a byte that there was no memory for.
+/// Takes bytes onto the end of a line, up to a line feed or until the line has `limit` bytes. What was taken stays in the line, whatever
+/// the answer, but for the last piece where there was no memory for it.
 pub fn take_line<S: Source>(
     source: &mut S,
     tally: &mut Tally,
@@ -98,15 +157,14 @@ pub fn take_line<S: Source>(
         × TakesLine result line.old.items added line.new.items limit
         (told S.given S.left S.counts S.ended S.name source.new) tally.new }
 {
-    'bytes: while line.len() < limit {
-        let Some(byte) = next_byte(source, tally)? else {
-            return Ok(Cut::End);
-        };
-        if line.push(byte).is_err() {
-            return Err(HttpFault::Memory);
-        }
-        if byte == b'\n' {
-            return Ok(Cut::LineFeed);
+    let mut buffer = [0u8; LINE_PIECE];
+    'pieces: while line.len() < limit {
+        let room = (limit - line.len()).min(LINE_PIECE);
+        match take_some(source, tally, line, &mut buffer[..room]) {
+            Ok(Piece::Last) => return Ok(Cut::LineFeed),
+            Ok(Piece::Part) => {}
+            Ok(Piece::End) => return Ok(Cut::End),
+            Err(fault) => return Err(fault),
         }
     }
     Ok(Cut::Full)

@@ -73,6 +73,6 @@ lines-preserved g c =
     subst (λ (x : List ℕ). list_all is_blank_byte x ≡ true) c.as_slice-in-Ok-LineFeed.ensures.value
     (c.stays_blank-blank.ensures c.lines.head.items got.0 (c.as_slice-in-Ok-LineFeed.ensures.value ∙ got.2.1) size was.4 yes) in
     let same = c.as_slice-in-Ok-LineFeed-2.ensures.value in
-    let none = subst (λ (x : List ℕ). HasNoHead c.args.kind x) same
-    (c.judge_begun.ensures.more (λ yes. subst (λ (x : List ℕ). list_all is_blank_byte x ≡ true) (sym same) (blank yes)) c.in-More.is) in
-    (was.0 ++ got.0, Took-append _ _ _ _ _ _ _ _ _ was.1 got.1, grown_twice _ _ _ _ _ was.2 got.2.1, (λ begun. record { none = none; short = got.2.2 }), blank)
+    let none : HasNoHead c.args.kind c.lines.head.items → HasNoHead c.args.kind c.take_line.new.line.items = λ old. subst (λ (x : List ℕ). HasNoHead c.args.kind x) same
+    (c.judge_begun.ensures.more (λ yes. subst (λ (x : List ℕ). list_all is_blank_byte x ≡ true) (sym same) (blank yes)) c.lines.head.items got.0 old got.2.0 (same ∙ got.2.1) c.in-More.is) in
+    (was.0 ++ got.0, Took-append _ _ _ _ _ _ _ _ _ was.1 got.1, grown_twice _ _ _ _ _ was.2 got.2.1, (λ begun. record { none = none (was.3 begun).none; short = got.2.2 }), blank)

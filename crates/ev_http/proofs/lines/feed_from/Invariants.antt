@@ -1,5 +1,5 @@
 use Rattle.std.proofs.Common.{take}
-use Rattle.ev_http.specs.Taking.{HasNoFeed}
+use Rattle.zx_outside.specs.Reading.{HasNoFeed}
 use Rattle.ev_http.proofs.lines.feed_from.Given as goal
 
 abbrev pub invariant-loop-at : goal.invariant-loop-at

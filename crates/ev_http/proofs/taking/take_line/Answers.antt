@@ -1,19 +1,28 @@
-use Rattle.std.proofs.Common.{◌≡◌, [], ◌∷◌, ◌++◌, List, ℕ, rules, subst, sym}
-use Rattle.ev_http.specs.Taking.{Grows}
-use Rattle.ev_http.proofs.Takings.{Took-none, Took-append, Grows-none, Grows-push}
+use Rattle.std.proofs.Common.{◌≡◌, ◌+◌, ◌-◌, ◌≤◌, [], ◌++◌, length, Ok, Err, rules, arith}
+use Rattle.ev_http.specs.declared.taking.Piece.TheVariants as piece
+use Rattle.ev_http.specs.Taking.{told}
+use Rattle.ev_http.proofs.Takings.{Took-none, Took-append, Grows-none, line_after}
 use Rattle.ev_http.proofs.taking.take_line.Goals as goal
 
-pub bytes-init : goal.bytes-init
-bytes-init g c = ([], Took-none _ _ c.requires.within, Grows-none _ _)
+pub pieces-init : goal.pieces-init
+pieces-init g c = ([], Took-none _ _ c.requires.within, Grows-none _ _)
 
-pub returns-then-is_err : goal.returns-then-is_err
-returns-then-is_err g c =
-    record { line = (c.bytes.invariant.0 ++ c.in-Some.byte ∷ [], Took-append _ _ _ _ _ _ _ _ _ c.bytes.invariant.1 (search rules), tt) }
+pub returns-in-Ok-Last : goal.returns-in-Ok-Last
+returns-in-Ok-Last g c =
+    let was = c.pieces.invariant in
+    let got = rw c.in-Ok-Last.field-0-is at c.in-Ok-Last.ensures.line in
+    let source = told g.S.Source.given g.S.Source.left g.S.Source.counts g.S.Source.ended g.S.Source.name c.take_some.new.source in
+    record { line = (was.0 ++ got.0, Took-append _ _ _ _ _ _ _ _ _ was.1 got.1, line_after (Ok piece.Last) _ _ _ _ _ _ _ source c.take_some.new.tally was.2 (search rules) got.2) }
 
-pub bytes-preserved : goal.bytes-preserved
-bytes-preserved g c =
-    let pushed : c.push.new.self.items ≡ c.bytes.line.items ++ c.in-Some.byte ∷ [] = search rules in (
-      c.bytes.invariant.0 ++ c.in-Some.byte ∷ [],
-      Took-append _ _ _ _ _ _ _ _ _ c.bytes.invariant.1 (search rules),
-      subst (λ (x : List ℕ). Grows c.args.line.now.items (c.bytes.invariant.0 ++ c.in-Some.byte ∷ []) x c.args.limit) (sym pushed) (Grows-push _ _ _ _ _ c.bytes.invariant.2 (search rules) c.if-byte-eq10.false),
-    )
+pub pieces-preserved : goal.pieces-preserved
+pieces-preserved g c =
+    let was = c.pieces.invariant in
+    let got = rw c.in-Ok-Part.field-0-is at c.in-Ok-Part.ensures.line in
+    let source = told g.S.Source.given g.S.Source.left g.S.Source.counts g.S.Source.ended g.S.Source.name c.take_some.new.source in
+    (was.0 ++ got.0, Took-append _ _ _ _ _ _ _ _ _ was.1 got.1, line_after (Ok piece.Part) _ _ _ _ _ _ _ source c.take_some.new.tally was.2 (search rules) got.2)
+
+pub returns-in-Err : goal.returns-in-Err
+returns-in-Err g c =
+    let was = c.pieces.invariant in
+    let got = c.in-Err.ensures.line in
+    record { line = (was.0 ++ got.0, Took-append _ _ _ _ _ _ _ _ _ was.1 got.1, line_after (Err c.in-Err.fault) _ _ _ _ _ _ _ _ _ was.2 (search rules) got.2) }
