@@ -1,8 +1,10 @@
 """The measurements of bench/serve.sh: speed.py PROGRAM FOLDER SECONDS."""
+import glob
 import os
 import signal
 import subprocess
 import sys
+import threading
 import time
 
 from cluster import Etcd, Proxy, ZooKeeper, until
@@ -34,6 +36,34 @@ def processor(pid):
     return (int(words[11]) + int(words[12])) / os.sysconf("SC_CLK_TCK")
 
 
+class Switches(threading.Thread):
+    """Counts the context switches of a process while it is watched: each thread's, as they were seen last."""
+
+    def __init__(self, pid):
+        super().__init__(daemon=True)
+        self.pid, self.last, self.is_over = pid, {}, threading.Event()
+        self.look()
+        self.before = sum(self.last.values())
+        self.start()
+
+    def look(self):
+        for path in glob.glob(f"/proc/{self.pid}/task/*/status"):
+            try:
+                lines = open(path).read().splitlines()
+            except OSError:
+                continue
+            self.last[path] = sum(int(it.split()[1]) for it in lines if "ctxt_switches" in it)
+
+    def run(self):
+        while not self.is_over.wait(0.1):
+            self.look()
+
+    def end(self):
+        self.is_over.set()
+        self.join()
+        return sum(self.last.values()) - self.before
+
+
 def costs(ours, before, after, seconds):
     """The processor time of each process for a request, in microseconds."""
     if not ours or ours[0] == 0:
@@ -61,17 +91,19 @@ def main():
     zookeeper = ZooKeeper(work)
     proxy = Proxy(program, etcd.address, work)
     try:
-        print(f"{'':10s} {'connections':>11s}   {'zetcd':^22s}   {'the gateway':^22s}   ratio   {'ZooKeeper':^22s}   us of zetcd and etcd")
+        print(f"{'':10s} {'connections':>11s}   {'zetcd':^22s}   {'the gateway':^22s}   ratio   {'ZooKeeper':^22s}   us of zetcd and etcd   switches")
         for what in WHAT:
             for connections in CONNECTIONS:
                 # By turns, so that both meet the same moments of a busy machine.
                 before = [processor(it.process.pid) for it in (proxy, etcd)]
+                switches = Switches(proxy.process.pid)
                 ours = load(work, proxy.port, "zk", what, connections, seconds)
+                switched = f"{switches.end() / (ours[0] * seconds):6.1f}" if ours and ours[0] else "     -"
                 used = costs(ours, before, [processor(it.process.pid) for it in (proxy, etcd)], seconds)
                 theirs = load(work, etcd.port, "etcd", what, connections, seconds)
                 real = load(work, zookeeper.port, "zk", what, connections, seconds) if zookeeper.is_up else None
                 ratio = f"{ours[0] / theirs[0]:5.2f}" if ours and theirs else "    -"
-                print(f"{what:10s} {connections:11d}   {told(ours)}   {told(theirs)}   {ratio}   {told(real)}   {used}", flush=True)
+                print(f"{what:10s} {connections:11d}   {told(ours)}   {told(theirs)}   {ratio}   {told(real)}   {used}   {switched}", flush=True)
         for connections in CONNECTIONS:
             ours = load(work, proxy.port, "zk", "watch", connections, seconds)
             real = load(work, zookeeper.port, "zk", "watch", connections, seconds) if zookeeper.is_up else None
