@@ -1,5 +1,5 @@
 -- A link over a store that nobody else changes is honest.
-use Rattle.std.proofs.Common.{◌≡◌, ◌≤◌, Bool, true, false, List, [], ◌∷◌, length, refl, sym, ap, subst, ◌∙◌, arith}
+use Rattle.std.proofs.Common.{◌≡◌, ◌≤◌, inl, inr, Bool, true, false, List, [], ◌∷◌, length, refl, sym, ap, subst, ◌∙◌, arith}
 use Rattle.std.specs.Prelude.{All, IfOk, Some, None, Result, Ok, Err, if◌then◌else◌}
 use Rattle.std.proofs.lemmas.List.{length-append}
 use Rattle.std.proofs.lemmas.List.Elements.{All-cons, All-nil}
@@ -51,7 +51,8 @@ carry-on s t q a e = subst (Continues s) (ap (λ (x : Store × Answer). x.0) (ca
 
 call-on : (s t : Store) (q : Ask) (r : Result Answer CallFault) → CarriesCall s q r t → Continues s t
 call-on s t q (Ok a) h = carry-on s t q a h
-call-on s t q (Err e) h = subst (Continues s) (sym h) (stays s)
+call-on s t q (Err e) (inl h) = subst (Continues s) (sym h) (stays s)
+call-on s t q (Err e) (inr (a, h)) = carry-on s t q a h
 
 here : (s mid t : Store) (q : Ask) (r : Result Answer CallFault) → CarriesCall s q r mid → Continues mid t → IfOk r (IsHonestAnswer s t q)
 here s mid t q (Ok a) h more = record { before = s; after = mid; after_ask = stays s; carried = h; before_answer = more }

@@ -11,6 +11,7 @@ use Rattle.ev_call.specs.Honest.{CarriesCall}
 use Rattle.ev_call.specs.declared.etcd.CallFault.{CallFault}
 use Rattle.ev_call.specs.declared.etcd.CallFault.TheVariants as call
 use Rattle.ev_failover.specs.Endpoints.{IsSentBy, Sent}
+use Rattle.ev_failover.proofs.Repeating.{changes_nothing}
 use Rattle.ev_failover.specs.Reading.{is_reading}
 use Rattle.ev_failover.specs.Theorem.{CarriesEnd, FailsOnly, IsFault, NoneTwice, SendsOnce}
 use Rattle.ev_failover.specs.Turns.{IsLast, Tries, answer_of, goes_on, next_of, place_after, places}
@@ -155,13 +156,16 @@ as_honest P rs last h = answered P last (last_of (λ (r : Came). IfOk r P) rs la
 
 last_carries : (s t : Store) (q : Ask) (last : Came) → CarriesEnd s q last t → CarriesCall s q (answer_of last) t
 last_carries s t q (Ok a) h = h
-last_carries s t q (Err fault.NotSent) h = h
+last_carries s t q (Err fault.NotSent) h = inl h
 last_carries s t q (Err fault.Failed) h = h
 last_carries s t q (Err fault.Memory) h = h
 
 unchanged : (s t : Store) (q : Ask) (r : Came) → goes_on q r ≡ true → CarriesEnd s q r t → t ≡ s
 unchanged s t q (Ok a) on h = absurd (cc)
-unchanged s t q (Err e) on h = h
+unchanged s t q (Err fault.NotSent) on h = h
+unchanged s t q (Err fault.Failed) on (inl h) = h
+unchanged s t q (Err fault.Failed) on (inr (a, h)) = changes_nothing s t q a on h
+unchanged s t q (Err fault.Memory) on h = absurd (cc)
 
 pub carries : {E : Type 0} (came : E → ℕ → Ask → Came → E → Type 0) (sent : E → Option (List Sent)) (store : E → Store) (q : Ask) (size e : ℕ) (a b : E) (rs : List Came) (last : Came)
     → ((x y : E) (n : ℕ) (r : Came) → came x n q r y → CarriesEnd (store x) q r (store y)) → WentOn q rs → Tries came sent q size e a (rs ++ last ∷ []) b → CarriesCall (store a) q (answer_of last) (store b)

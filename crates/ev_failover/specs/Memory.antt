@@ -1,5 +1,5 @@
 -- Endpoints in memory, as contracts see them.
-use Rattle.std.specs.Prelude.{◌≡◌, ◌⊎◌, ℕ, List, true, false, None, Result, Err}
+use Rattle.std.specs.Prelude.{◌≡◌, ◌⊎◌, ℕ, List, true, false, None, Result, Err, OnErr}
 use Rattle.ev_types.specs.Denials.{carry}
 use Rattle.ev_types.specs.Store.{Store}
 use Rattle.ev_types.specs.declared.answer.Answer.{Answer}
@@ -17,10 +17,11 @@ pub record EndsState : Type 0 where
   pub failing : List ℕ
   pub calls : ℕ
 
--- A call is not sent exactly where its number is listed so. It fails where its number is listed so and it is sent, or where the store
+-- A call that has no answer changes nothing. It is not sent exactly where its number is listed so. It fails where its number is listed so and it is sent, or where the store
 -- denies the ask, and nowhere else.
 pub record CarriesAt (s : EndsState) (q : Ask) (r : Result Answer EndFault) (t : EndsState) : Type 0 where
   pub carries : CarriesEnd s.store q r t.store
+  pub kept : OnErr r (t.store ≡ s.store)
   pub unsent : fails_next s.not_sent s.calls ≡ true → r ≡ Err fault.NotSent
   pub sent : fails_next s.not_sent s.calls ≡ false → r ≡ Err fault.NotSent → ⊥
   pub listed : fails_next s.not_sent s.calls ≡ false → fails_next s.failing s.calls ≡ true → r ≡ Err fault.Failed

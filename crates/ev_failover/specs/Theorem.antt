@@ -32,10 +32,12 @@ FailsOnly q size tries =
 
 -- ---- endpoints of one store that nobody else changes
 
--- an answer is what the store gives; a call that was not sent, failed, or ran out of memory changed nothing
+-- an answer is what the store gives; a call that was not sent changed nothing; what was asked by one that failed, or ran out of
+-- memory, was carried out or was not
 abbrev pub CarriesEnd : Store → Ask → Result Answer EndFault → Store → Type 0
 CarriesEnd s q (Ok a) t = carry s q ≡ Some (t, a)
-CarriesEnd s q (Err e) t = t ≡ s
+CarriesEnd s q (Err fault.NotSent) t = t ≡ s
+CarriesEnd s q (Err _) t = (t ≡ s) ⊎ ((a : Answer) × (carry s q ≡ Some (t, a)))
 
 -- each call of an endpoint does so, by what the endpoints came to and by the store that they have
 abbrev pub AreOfOneStore : {E : Type 0} → (E → ℕ → Ask → Result Answer EndFault → E → Type 0) → (E → Store) → Ask → Type 0

@@ -1,6 +1,6 @@
 //! Endpoints in memory.
 
-ghost use Rattle.std.specs.Prelude.{◌≡◌, ◌≤◌, [], min, max, true, false, Err, None, IfOk};
+ghost use Rattle.std.specs.Prelude.{◌≡◌, ◌≤◌, [], min, max, true, false, Err, None, IfOk, OnErr};
 ghost use Rattle.ev_call.specs.Asks.{IsGrantable};
 ghost use Rattle.ev_call.specs.Fitting.{Fits};
 ghost use Rattle.ev_types.specs.Denials.{carry};
@@ -87,6 +87,7 @@ fn carried(
     ensures works { link.new.failing ≡ [] }
     ensures fits { IfOk result (Fits ask.now) }
     ensures carries { CarriesEnd link.old.store ask.now result link.new.store }
+    ensures kept { OnErr result (link.new.store ≡ link.old.store) }
     ensures unsent { is_unsent ≡ true → result ≡ Err EndFault.NotSent }
     ensures sent { is_unsent ≡ false → result ≡ Err EndFault.NotSent → ⊥ }
     ensures listed { is_unsent ≡ false → is_failing ≡ true → result ≡ Err EndFault.Failed }

@@ -1,6 +1,6 @@
 //! A link to an etcd in memory, which nobody else uses.
 
-ghost use Rattle.std.specs.Prelude.{◌≡◌, [], true, false, None, Err, IfOk};
+ghost use Rattle.std.specs.Prelude.{◌≡◌, [], true, false, None, Err, IfOk, OnErr};
 ghost use Rattle.ev_call.specs.Asks.{IsGrantable};
 ghost use Rattle.ev_call.specs.Calls.{failures_after};
 ghost use Rattle.ev_call.specs.Fitting.{Fits};
@@ -91,6 +91,7 @@ fn carried(store: &mut Store, ask: &Ask, listed: bool) -> Result<Answer, CallFau
     requires { IsGrantable ask.now }
     ensures fits { IfOk result (Fits ask.now) }
     ensures carries { CarriesCall store.old ask.now result store.new }
+    ensures kept { OnErr result (store.new ≡ store.old) }
     ensures denied { listed ≡ false → result ≡ Err CallFault.Failed → carry store.old ask.now ≡ None }
     ensures listed { listed ≡ true → result ≡ Err CallFault.Failed }
 {
@@ -105,7 +106,7 @@ fn carried(store: &mut Store, ask: &Ask, listed: bool) -> Result<Answer, CallFau
 }
 
 impl Etcd for StoreLink {
-    ghost use Rattle.std.specs.Prelude.{◌≡◌, Some, Err, IfOk, true};
+    ghost use Rattle.std.specs.Prelude.{◌≡◌, Some, Err, IfOk, OnErr, true};
     ghost use Rattle.ev_call.specs.Asks.{IsGrantable};
     ghost use Rattle.ev_call.specs.Calls.{failures_after, with_call};
     ghost use Rattle.ev_call.specs.Fitting.{Fits};
@@ -125,6 +126,8 @@ impl Etcd for StoreLink {
         ensures counts { self.new.failures ≡ failures_after result self.old.failures }
         ensures told { Some self.new.told ≡ with_call (Some self.old.told) ask.now result }
         ensures carries { CarriesCall self.old.store ask.now result self.new.store }
+        // A call that has no answer has carried nothing out.
+        ensures kept { OnErr result (self.new.store ≡ self.old.store) }
         ensures fails { result ≡ Err CallFault.Failed → MayFail self.old ask.now }
         ensures listed { fails_next self.old.failing self.old.calls ≡ true → result ≡ Err CallFault.Failed }
         ensures failing { self.new.failing ≡ self.old.failing }

@@ -1,5 +1,5 @@
 -- The calls of an honest link are answered by its store.
-use Rattle.std.proofs.Common.{◌≡◌, List, [], ◌∷◌, ◌++◌, map, refl, sym, ap, subst, ◌∙◌, inl}
+use Rattle.std.proofs.Common.{◌≡◌, List, [], ◌∷◌, ◌++◌, map, refl, sym, ap, subst, ◌∙◌}
 use Rattle.std.specs.Prelude.{Option, Some, Result, Ok, Err}
 use Rattle.std.proofs.lemmas.List.{append_cancel_left}
 use Rattle.ev_call.specs.Calls.{Call}
@@ -16,7 +16,7 @@ use Rattle.zx_base.proofs.Options.{none_some, some_is}
 -- one call
 one : (s mid : Store) (q : Ask) (r : Result Answer CallFault) (o : Option Answer) → outcome_of r ≡ Some o → CarriesCall s q r mid → IsAnswered s q o mid
 one s mid q (Ok a) o e h = subst (λ x. IsAnswered s q x mid) (some_is e) h
-one s mid q (Err fault.Failed) o e h = subst (λ x. IsAnswered s q x mid) (some_is e) (inl h)
+one s mid q (Err fault.Failed) o e h = subst (λ x. IsAnswered s q x mid) (some_is e) h
 one s mid q (Err fault.Memory) o e h = absurd (none_some e)
 
 head-is : (x y : Option (Option Answer)) (xs ys : List (Option (Option Answer))) → x ∷ xs ≡ y ∷ ys → x ≡ y

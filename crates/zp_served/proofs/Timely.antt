@@ -1,5 +1,5 @@
 -- A store that answers keeps its entries.
-use Rattle.std.proofs.Common.{◌≡◌, List, [], ◌∷◌, ◌++◌, refl, sym, ap, subst, ◌∙◌, inl, inr, arith, append_assoc}
+use Rattle.std.proofs.Common.{◌≡◌, List, [], ◌∷◌, ◌++◌, refl, sym, ap, subst, ◌∙◌, arith, append_assoc}
 use Rattle.std.specs.Prelude.{Option, Some, None, Ok, Err, Contains}
 use Rattle.std.proofs.lemmas.List.Elements.{Contains-append_left, Contains-push, filter_map-append}
 use Rattle.ev_call.specs.Calls.{Call}
@@ -27,8 +27,7 @@ use Rattle.zp_served.specs.Honest.{AreEntriesOf, IsInTime}
 -- an answer, as a call of an honest link
 call-of : (s t : Store) (q : Ask) (o : Option Answer) → IsAnswered s q o t → (c : Call) × CarriesAll s (c ∷ []) t
 call-of s t q (Some a) h = (record { ask = q; result = Ok a }, (t, h, refl))
-call-of s t q None (inl same) = (record { ask = q; result = Err fault.Failed }, (t, same, refl))
-call-of s t q None (inr (a, done)) = (record { ask = q; result = Ok a }, (t, done, refl))
+call-of s t q None h = (record { ask = q; result = Err fault.Failed }, (t, h, refl))
 
 goes-on : (s t u : Store) → Continues s t → Continues t u → Continues s u
 goes-on s t u f g = let first = f.longer in let later = g.longer in record {
