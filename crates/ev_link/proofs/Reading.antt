@@ -14,10 +14,11 @@ use Rattle.ev_types.specs.declared.ask.Act.{Act}
 use Rattle.ev_types.specs.declared.ask.Act.TheVariants as act
 use Rattle.ev_types.specs.declared.ask.Ask.{Ask}
 use Rattle.ev_types.specs.declared.ask.Ask.TheVariants as ask
+use Rattle.ev_types.specs.declared.ask.Guard.{Guard}
 use Rattle.ev_fields.specs.Ranges.{IsCount as IsCounted}
 use Rattle.ev_json.specs.Bodies.{reads}
-use Rattle.ev_json.specs.Ranges.{KvFits, PartFits as IsPart, PartsFit as AreParts, AnswerFits}
-use Rattle.ev_call.specs.Fitting.{IsCount, AreCounts, Fits, PartFits, PartsFit}
+use Rattle.ev_json.specs.Ranges.{KvFits, PartFits as IsPart, PartsFit as AreParts, CanCome as Comes, AnswerFits}
+use Rattle.ev_call.specs.Fitting.{IsCount, AreCounts, CanCome, Fits, PartFits, PartsFit}
 use Rattle.ev_call.specs.declared.etcd.CallFault.{CallFault}
 use Rattle.ev_http.specs.Taking.{Told}
 use Rattle.ev_link.specs.Asking.{Calls, Exchanges, answer_of, is_memory}
@@ -52,8 +53,12 @@ parts_fit [] (p ∷ parts) h = absurd h
 parts_fit (a ∷ acts) [] h = absurd h
 parts_fit (a ∷ acts) (p ∷ parts) h = (part_fits a p h.0, parts_fit acts parts h.1)
 
+can_come : (guards : List Guard) (succeeded : Bool) → Comes guards succeeded → CanCome guards succeeded
+can_come [] succeeded h = h
+can_come (guard ∷ guards) succeeded h = tt
+
 fits : (q : Ask) (a : Answer) → AnswerFits q a → Fits q a
-fits (ask.Txn t) (answer.Txn r succeeded parts) h = (count r h.0, parts_fit (chosen succeeded t) parts h.1)
+fits (ask.Txn t) (answer.Txn r succeeded parts) h = (count r h.0, parts_fit (chosen succeeded t) parts h.1, can_come t.guards succeeded h.2)
 fits (ask.Txn t) (answer.Range r found) h = absurd h
 fits (ask.Txn t) (answer.Granted r id ttl) h = absurd h
 fits (ask.Txn t) (answer.Alive r id ttl) h = absurd h

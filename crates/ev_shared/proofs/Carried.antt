@@ -1,11 +1,12 @@
 -- What a store carries out fits what was asked.
-use Rattle.std.proofs.Common.{◌≡◌, ℤ, pos, List, [], ◌∷◌, Bool, true, false, sym, ap, subst, arith}
+use Rattle.std.proofs.Common.{◌≡◌, ℤ, pos, List, [], ◌∷◌, Bool, true, false, refl, sym, ap, subst, arith}
 use Rattle.std.proofs.lemmas.Int.{ints}
 use Rattle.std.specs.Prelude.{Option, Some, None, All, ◌≤ℤ◌, if◌then◌else◌}
 use Rattle.std.specs.FinMap.{get}
+use Rattle.std.specs.List.{list_all}
 use Rattle.ev_types.specs.Denials.{carry, is_denied}
 use Rattle.ev_types.specs.Ranges.{Keys}
-use Rattle.ev_types.specs.Store.{Store, acts_from, after_changes, carried_out, chosen, last_revision, present, key_removal, succeeds, then_done, txn_done, worked}
+use Rattle.ev_types.specs.Store.{Store, acts_from, after_changes, carried_out, chosen, holds, last_revision, present, key_removal, succeeds, then_done, txn_done, worked}
 use Rattle.ev_types.specs.declared.answer.ActAns.TheVariants as part
 use Rattle.ev_types.specs.declared.answer.Answer.{Answer}
 use Rattle.ev_types.specs.declared.answer.Kv.{Kv}
@@ -13,8 +14,10 @@ use Rattle.ev_types.specs.declared.ask.Act.{Act}
 use Rattle.ev_types.specs.declared.ask.Act.TheVariants as act
 use Rattle.ev_types.specs.declared.ask.Ask.{Ask}
 use Rattle.ev_types.specs.declared.ask.Ask.TheVariants as ask
+use Rattle.ev_types.specs.declared.ask.Guard.{Guard}
+use Rattle.ev_types.specs.declared.ask.TxnReq.{TxnReq}
 use Rattle.ev_store.specs.Numbers.{HasNumbers, IsPutBy, ShowsPuts}
-use Rattle.ev_call.specs.Fitting.{AreCounts, Fits, PartsFit}
+use Rattle.ev_call.specs.Fitting.{AreCounts, CanCome, Fits, PartsFit}
 use Rattle.std.proofs.lemmas.List.Elements.{All-head, All-tail}
 use Rattle.zx_base.proofs.Options.{some_is}
 use Rattle.zx_base.specs.Maps.{Bytes}
@@ -38,9 +41,13 @@ parts-fit s r z m (act.Delete k ∷ acts) most h = delete-fits s r z m k acts (g
 parts-fit s r z m (act.Range q ∷ acts) most h =
     (within z _ most (All-head (ShowsPuts z) _ _ h), parts-fit s r z _ acts most (All-tail (ShowsPuts z) _ _ h))
 
+comes : (s : Store) (t : TxnReq) (guards : List Guard) → t.guards ≡ guards → CanCome guards (succeeds s t)
+comes s t [] e = ap (list_all (holds (present s))) e
+comes s t (guard ∷ guards) e = tt
+
 answered : (s : Store) (q : Ask) → HasNumbers (carried_out s q).1 → Fits q (carried_out s q).1
 unfolding carried_out txn_done worked
-answered s (ask.Txn t) h = (record { least = h.least; most = h.most }, parts-fit s _ _ (present s) (chosen (succeeds s t) t) h.most h.puts)
+answered s (ask.Txn t) h = (record { least = h.least; most = h.most }, parts-fit s _ _ (present s) (chosen (succeeds s t) t) h.most h.puts, comes s t t.guards refl)
 answered s (ask.Range q) h = (record { least = h.least; most = h.most }, within _ _ h.most h.puts)
 answered s (ask.Grant id ttl) h = record { least = h.least; most = h.most }
 answered s (ask.Alive id) h = record { least = h.least; most = h.most }

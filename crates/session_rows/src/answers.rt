@@ -2,7 +2,7 @@
 
 ghost use Rattle.std.specs.Prelude.{IfOk, IfSome, IsTrue};
 ghost use Rattle.ev_store.specs.Asks.{IsGrantable};
-ghost use Rattle.zs_session.specs.Answering.{IsAnswerTo};
+ghost use Rattle.zs_session.specs.Answering.{HasTxnNumbers, IsAnswerTo};
 
 use ev_store::{Denied, Store, StoreFault};
 use ev_types::{Answer, Ask};
@@ -11,23 +11,17 @@ use std::alloc::Global;
 use zn_view::{are_numbers, is_count};
 use zx_base::Memory;
 
-/// Whether an answer is of the kind of its ask, with numbers in an etcd's range.
-fn is_answer_to(ask: &Ask, answer: &Answer) -> bool
-    ensures { IsTrue result → IsAnswerTo ask.now answer.now }
+/// Whether the numbers of a transaction's answer are in an etcd's range.
+fn has_numbers(answer: &Answer) -> bool
+    ensures { IsTrue result → HasTxnNumbers answer.now }
 {
-    match (ask, answer) {
-        (
-            Ask::Txn(_),
-            Answer::Txn {
-                revision,
-                parts,
-                ..
-            },
-        ) => is_count(*revision) && are_numbers(parts.as_slice()),
-        (Ask::Range(_), Answer::Range { .. }) => true,
-        (Ask::Grant { .. }, Answer::Granted { .. }) => true,
-        (Ask::Alive { .. }, Answer::Alive { .. }) => true,
-        _ => false,
+    match answer {
+        Answer::Txn {
+            revision,
+            parts,
+            ..
+        } => is_count(*revision) && are_numbers(parts.as_slice()),
+        Answer::Range { .. } | Answer::Granted { .. } | Answer::Alive { .. } => true,
     }
 }
 
@@ -42,6 +36,7 @@ fn is_grantable(ask: &Ask) -> bool
 
 /// What the etcd answers. If it denies the ask, `None`, and the text of the denial is added: `no ask` and `no answer` where a
 /// number is out of range.
+#[tactic(auto, using(zs_session::proofs::Carrying::answers))]
 pub fn answer_of(
     alloc: Global,
     text: &mut String,
@@ -55,7 +50,7 @@ pub fn answer_of(
         return Ok(None);
     }
     match store.carry_out(ask) {
-        Ok(answer) if is_answer_to(ask, &answer) => return Ok(Some(answer)),
+        Ok(answer) if has_numbers(&answer) => return Ok(Some(answer)),
         Ok(_other) => push(text, "no answer")?,
         Err(fault) => push_fault(alloc, text, &fault)?,
     }

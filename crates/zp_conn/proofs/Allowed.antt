@@ -1,7 +1,7 @@
 -- What the driver hands in may be handed in.
 use Rattle.std.proofs.Common.{◌≡◌, ℤ, pos, List, [], ◌∷◌, Bool, true, false, refl, sym, ap, ◌∙◌, subst, inl, inr}
 use Rattle.std.specs.Prelude.{◌⊎◌, Option, Some, None, ◌+ℤ◌, ◌<ℤ◌, if◌then◌else◌}
-use Rattle.ev_call.specs.Fitting.{AreCounts, Fits, PartsFit, PartFits}
+use Rattle.ev_call.specs.Fitting.{AreCounts, CanCome, Fits, PartsFit, PartFits}
 use Rattle.ev_types.specs.declared.answer.ActAns.{ActAns}
 use Rattle.ev_types.specs.declared.answer.ActAns.TheVariants as part
 use Rattle.ev_types.specs.declared.answer.Answer.{Answer}
@@ -11,12 +11,13 @@ use Rattle.ev_types.specs.declared.ask.Act.{Act}
 use Rattle.ev_types.specs.declared.ask.Act.TheVariants as act
 use Rattle.ev_types.specs.declared.ask.Ask.{Ask}
 use Rattle.ev_types.specs.declared.ask.Ask.TheVariants as ask
+use Rattle.ev_types.specs.declared.ask.Guard.{Guard}
 use Rattle.ev_types.specs.Store.{chosen}
 use Rattle.std.proofs.lemmas.List.Elements.{All-cons, All-nil}
 use Rattle.zk_model.specs.Watches.{is_unarmed}
 use Rattle.zn_view.specs.Adding.{AreNumbers, AreNumbersIn}
 use Rattle.zn_view.specs.Seen as seen
-use Rattle.zs_session.specs.Answering.{IsAnswerTo, IsAwaited}
+use Rattle.zs_session.specs.Answering.{ArePartsOf, IsAnswerTo, IsAwaited, IsPartOf, MaySucceed}
 use Rattle.zp_step.specs.Stages.{Core, Stage, Unconnected, Connecting, Ready, KeepingAlive, Checking, Reading, Committing, Waiting, Shut, asked_of, wanted_in, wants_of}
 use Rattle.zp_step.specs.Steps.{awaits_entry}
 use Rattle.zp_step.specs.declared.input.Input.TheVariants as input
@@ -58,8 +59,34 @@ parts-numbers [] (p ∷ ps) h = absurd h
 parts-numbers (a ∷ acts) [] h = absurd h
 parts-numbers (a ∷ acts) (p ∷ ps) h = All-cons AreNumbersIn p ps (part-numbers a p h.0) (parts-numbers acts ps h.1)
 
+part-each : (a : Act) (p : ActAns) → PartFits a p → IsPartOf a p
+part-each (act.Put k v lease) part.Put h = tt
+part-each (act.Delete k) (part.Deleted n) h = tt
+part-each (act.Range q) (part.Range found) h = tt
+part-each (act.Put k v lease) (part.Deleted n) h = absurd h
+part-each (act.Put k v lease) (part.Range found) h = absurd h
+part-each (act.Delete k) part.Put h = absurd h
+part-each (act.Delete k) (part.Range found) h = absurd h
+part-each (act.Range q) part.Put h = absurd h
+part-each (act.Range q) (part.Deleted n) h = absurd h
+
+parts-each : (acts : List Act) (parts : List ActAns) → PartsFit acts parts → ArePartsOf acts parts
+parts-each [] [] h = tt
+parts-each [] (p ∷ ps) h = absurd h
+parts-each (a ∷ acts) [] h = absurd h
+parts-each (a ∷ acts) (p ∷ ps) h = (part-each a p h.0, parts-each acts ps h.1)
+
+may-succeed : (guards : List Guard) (b : Bool) → CanCome guards b → MaySucceed guards b
+may-succeed [] b h = h
+may-succeed (guard ∷ guards) b h = tt
+
 pub fits_awaited : (q : Ask) (a : Answer) → Fits q a → IsAnswerTo q a
-fits_awaited (ask.Txn t) (answer.Txn revision b parts) h = record { revision_is = record { least = (h.0).least; most = (h.0).most }; numbers = parts-numbers (chosen b t) parts h.1 }
+fits_awaited (ask.Txn t) (answer.Txn revision b parts) h = record {
+  revision_is = record { least = (h.0).least; most = (h.0).most };
+  numbers = parts-numbers (chosen b t) parts h.1;
+  succeeds = may-succeed t.guards b h.2;
+  each = parts-each (chosen b t) parts h.1;
+}
 fits_awaited (ask.Txn t) (answer.Range revision found) h = absurd h
 fits_awaited (ask.Txn t) (answer.Granted revision id ttl) h = absurd h
 fits_awaited (ask.Txn t) (answer.Alive revision id ttl) h = absurd h

@@ -38,7 +38,8 @@ KeptAlive c bytes now c' out a = OfAlive a (λ seconds. MatchBool (int_eq second
 
 -- ---- the look at the session
 
--- by the record of its life: it is gone, still as this connection's attachment put it, or put by another attachment
+-- by the record of its life, which was looked up, since an answer that may be handed in has a part for it (see `IsFit`): it is gone,
+-- still as this connection's attachment put it, or put by another attachment
 abbrev pub StillMine : Core → List ℕ → View → ℕ → Core → List Action → Option Kv → Type 0
 StillMine c bytes v now c' out None = Is (waits c (expired v (xid_of (read_request bytes)))) c' out
 StillMine c bytes v now c' out (Some kv) =

@@ -40,8 +40,9 @@ pub record IsLag (c : Core) (cursor floor : ℤ) : Type 0 where
   pub own : cursor ≡ c.cursor
   pub above : cursor <ℤ floor
 
--- A frame is within the limit; an answer fits the ask that is out, and a failure needs one; an entry or a lag comes where an entry
--- is awaited, and the feed's end while no ask is out. A bad length and the client's end may come at any time.
+-- A frame is within the limit; an answer fits the ask that is out, with a part for each operation, and a failure needs one; an
+-- entry or a lag comes where an entry is awaited, and the feed's end while no ask is out. A bad length and the client's end may
+-- come at any time.
 abbrev pub IsFit : Core → Input → Type 0
 IsFit c (input.Frame bytes) = length bytes ≤ max_frame
 IsFit c (input.Answer a) = IsAwaited (asked_of c.who c.stage) (Some a)

@@ -8,7 +8,7 @@ use Rattle.std.proofs.lemmas.Int.{ints}
 use Rattle.std.proofs.lemmas.List.Elements.{All-nil}
 use Rattle.ev_store.specs.Numbers.{HasNumbers, IsPutBy, ShowsPuts}
 use Rattle.ev_types.specs.Denials.{carry}
-use Rattle.ev_types.specs.Store.{Store, carried_out, last_revision, txn_done}
+use Rattle.ev_types.specs.Store.{Store, last_revision}
 use Rattle.ev_types.specs.declared.answer.ActAns.{ActAns}
 use Rattle.ev_types.specs.declared.answer.ActAns.TheVariants as part
 use Rattle.ev_types.specs.declared.answer.Answer.{Answer}
@@ -31,13 +31,13 @@ use Rattle.zp_script.specs.declared.flight.Flight.TheVariants.{Out, Carried, Den
 use Rattle.zp_step.specs.Stages.{Core, asked_of}
 use Rattle.zs_reap.specs.Steps.{IsOfTxn, IsTxn}
 use Rattle.zs_reap.specs.declared.reap.Reap.{Reap}
-use Rattle.zs_session.specs.Answering.{IsAnswerTo, IsAwaited}
+use Rattle.zs_session.proofs.Carrying.{answers as is_answer}
+use Rattle.zs_session.specs.Answering.{HasTxnNumbers, IsAnswerTo, IsAwaited}
 use Rattle.zx_base.proofs.Options.{none_some, some_none, some_is}
 use Rattle.zp_world.specs.Asking.{Asks, Shows, asked_out}
 use Rattle.zp_world.specs.Doing.{without}
 use Rattle.zp_world.specs.Flying.{IsActive, IsCarried, IsFit, IsFlyingOf, IsReapFlying, IsReapOut}
 use Rattle.zp_world.proofs.Apart.{insert-removed}
-use Rattle.zp_world.proofs.Stillness.{carried-is}
 
 -- ---- it is an answer to the ask, with numbers in an etcd's range
 
@@ -49,17 +49,14 @@ part-numbers r (part.Range found) most h = λ k d below. counts r _ most (h k d 
 part-numbers r part.Put most h = All-nil AreCounts
 part-numbers r (part.Deleted n) most h = All-nil AreCounts
 
-answered : (s : Store) (q : Ask) → HasNumbers (carried_out s q).1 → IsAnswerTo q (carried_out s q).1
-unfolding carried_out txn_done
-answered s (ask.Txn t) h = record { revision_is = record { least = h.least; most = h.most }; numbers = λ k d below. part-numbers _ _ h.most (h.puts k d below) }
-answered s (ask.Range q) h = tt
-answered s (ask.Grant id ttl) h = tt
-answered s (ask.Alive id) h = tt
+txn-numbers : (a : Answer) → HasNumbers a → HasTxnNumbers a
+txn-numbers (answer.Txn revision succeeded parts) h = record { revision_is = record { least = h.least; most = h.most }; numbers = λ k d below. part-numbers _ _ h.most (h.puts k d below) }
+txn-numbers (answer.Range revision found) h = tt
+txn-numbers (answer.Granted revision id ttl) h = tt
+txn-numbers (answer.Alive revision id ttl) h = tt
 
 pub answers : (s t : Store) (q : Ask) (a : Answer) → carry s q ≡ Some (t, a) → HasNumbers a → IsAnswerTo q a
-answers s t q a h numbers =
-    let e : (carried_out s q).1 ≡ a = ap (λ (p : Store × Answer). p.1) (carried-is s q (t, a) h) in
-    subst (IsAnswerTo q) e (answered s q (subst HasNumbers (sym e) numbers))
+answers s t q a h numbers = is_answer s t q a h (txn-numbers a numbers)
 
 -- ---- and is shown
 
@@ -84,7 +81,7 @@ awaits core q (Carried a) asked h = subst (λ (o : Option Ask). IsAwaited o (Som
 awaits core q Denied asked h = λ none. some_none (sym asked ∙ none)
 
 of-txn : (q : Ask) (a : Answer) → IsTxn q → IsAnswerTo q a → IsOfTxn a
-of-txn (ask.Txn t) (answer.Txn revision succeeded parts) is h = h
+of-txn (ask.Txn t) (answer.Txn revision succeeded parts) is h = record { revision_is = h.revision_is; numbers = h.numbers }
 of-txn (ask.Txn t) (answer.Range revision found) is h = absurd h
 of-txn (ask.Txn t) (answer.Granted revision id ttl) is h = absurd h
 of-txn (ask.Txn t) (answer.Alive revision id ttl) is h = absurd h

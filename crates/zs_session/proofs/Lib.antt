@@ -4,3 +4,4 @@ pub mod SessionKeys
 pub mod Sizes
 pub mod Holding
 pub mod Welcomes
+pub mod Carrying

@@ -1,10 +1,16 @@
 -- Which answers an ask may have, and what a look shows.
-use Rattle.std.specs.Prelude.{ℤ, Bool, List, Option, Some, None}
+use Rattle.std.specs.Prelude.{◌≡◌, ℤ, Bool, true, List, [], ◌∷◌, Option, Some, None}
+use Rattle.ev_types.specs.Store.{chosen}
 use Rattle.ev_types.specs.declared.answer.ActAns.{ActAns}
+use Rattle.ev_types.specs.declared.answer.ActAns.TheVariants as part
 use Rattle.ev_types.specs.declared.answer.Answer.{Answer}
 use Rattle.ev_types.specs.declared.answer.Answer.TheVariants as answer
+use Rattle.ev_types.specs.declared.ask.Act.{Act}
+use Rattle.ev_types.specs.declared.ask.Act.TheVariants as act
 use Rattle.ev_types.specs.declared.ask.Ask.{Ask}
 use Rattle.ev_types.specs.declared.ask.Ask.TheVariants as ask
+use Rattle.ev_types.specs.declared.ask.Guard.{Guard}
+use Rattle.ev_types.specs.declared.ask.TxnReq.{TxnReq}
 use Rattle.zn_view.specs.declared.want.Want.{Want}
 use Rattle.zn_view.specs.Adding.{AreNumbers, at_revision, IsFirstDamaged}
 use Rattle.zn_view.specs.Asks.{with_parts}
@@ -17,9 +23,39 @@ pub record IsTxnAnswer (revision : ℤ) (parts : List ActAns) : Type 0 where
   pub revision_is : IsCountNumber revision
   pub numbers : AreNumbers parts
 
--- an answer is of the kind of its ask; of a transaction, it has numbers in an etcd's range
+-- so they are where the answer is a transaction's
+abbrev pub HasTxnNumbers : Answer → Type 0
+HasTxnNumbers (answer.Txn revision succeeded parts) = IsTxnAnswer revision parts
+HasTxnNumbers _ = Unit {0}
+
+-- a part is of its operation's kind
+abbrev pub IsPartOf : Act → ActAns → Type 0
+IsPartOf (act.Put k v lease) part.Put = Unit {0}
+IsPartOf (act.Delete k) (part.Deleted n) = Unit {0}
+IsPartOf (act.Range q) (part.Range found) = Unit {0}
+IsPartOf _ _ = ⊥
+
+-- one part for each operation, in their order
+abbrev pub ArePartsOf : List Act → List ActAns → Type 0
+ArePartsOf [] [] = Unit {0}
+ArePartsOf (a ∷ acts) (p ∷ parts) = IsPartOf a p × ArePartsOf acts parts
+ArePartsOf _ _ = ⊥
+
+-- a transaction without guards succeeds
+abbrev pub MaySucceed : List Guard → Bool → Type 0
+MaySucceed [] succeeded = succeeded ≡ true
+MaySucceed (guard ∷ guards) succeeded = Unit {0}
+
+-- the answer to a transaction has numbers in an etcd's range, and a part for each operation of the list that was carried out
+pub record IsAnswerToTxn (t : TxnReq) (revision : ℤ) (succeeded : Bool) (parts : List ActAns) : Type 0 where
+  pub revision_is : IsCountNumber revision
+  pub numbers : AreNumbers parts
+  pub succeeds : MaySucceed t.guards succeeded
+  pub each : ArePartsOf (chosen succeeded t) parts
+
+-- an answer is of the kind of its ask
 abbrev pub IsAnswerTo : Ask → Answer → Type 0
-IsAnswerTo (ask.Txn t) (answer.Txn revision succeeded parts) = IsTxnAnswer revision parts
+IsAnswerTo (ask.Txn t) (answer.Txn revision succeeded parts) = IsAnswerToTxn t revision succeeded parts
 IsAnswerTo (ask.Range q) (answer.Range revision found) = Unit {0}
 IsAnswerTo (ask.Grant id ttl) (answer.Granted revision i seconds) = Unit {0}
 IsAnswerTo (ask.Alive id) (answer.Alive revision i seconds) = Unit {0}
