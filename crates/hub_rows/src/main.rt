@@ -4,6 +4,7 @@
 //! |---|---|
 //! | `hub FIRST` | a new hub with one reader replaces the one before; its first entry has the number FIRST + 1 |
 //! | `publish COUNT` | COUNT entries are published |
+//! | `forget` | what was published so far is forgotten |
 //! | `close END` | the hub is closed: `compacted REV`, `gap EXPECTED FOUND`, `no line` or `memory` |
 //! | `next CURSOR` | the reader reads at this cursor |
 //! | `orphan` | a hub publishes two entries, is closed and is gone; then its reader reads at 0, at 1 and at 2, and at 2 again once the keeper is gone too |
@@ -69,6 +70,7 @@ fn run<R: Print + Wait + Drop + AllocGlobal>(
 ) -> io::Result<()> {
     match word {
         "publish" => trial.publisher.publish_all(rt.alloc(), number_of(rest)?),
+        "forget" => trial.publisher.forget(),
         "close" => trial.publisher.close(end_of(rest)?),
         "next" => {
             let cursor = number_of(rest)?;

@@ -64,6 +64,17 @@ impl<R: Wait + Drop> Publisher<R> {
         }
     }
 
+    /// Has readers be told nothing of what was published so far. A fault where the hub is closed.
+    pub fn forget(&mut self) -> io::Result<()> {
+        if !self.is_open {
+            return Err(io::Error::from(io::ErrorKind::InvalidInput));
+        }
+        match self.hub.forget() {
+            Ok(()) => Ok(()),
+            Err(_) => Err(out_of_memory()),
+        }
+    }
+
     /// Closes the hub. A fault where it is closed already, or the end is not a proper one.
     pub fn close(&mut self, end: FeedEnd) -> io::Result<()> {
         if !self.is_open || !is_proper(&end) {

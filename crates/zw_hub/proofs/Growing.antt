@@ -1,6 +1,7 @@
 -- A list that changes extends what it was, and so the rule is kept.
 use Rattle.std.proofs.Common.{◌≡◌, ℕ, ◌≢◌, ◌+◌, Bool, true, false, List, [], ◌∷◌, ◌++◌, Some, is_none, fold, refl, sym, ◌∙◌, ap, subst, ⊎_elim, append_assoc, append-nil, arith}
 use mathlib.Core.Option.{some}
+use Rattle.std.proofs.lemmas.Int.{int_max_is, ints}
 use lib.ListN.{get_elem?}
 use Rattle.std.specs.Arc.{arc_value}
 use Rattle.left_right.specs.Register.{Admits, TurnsAt}
@@ -11,12 +12,12 @@ use Rattle.zw_hub.specs.declared.change.Change.TheVariants as changes
 use Rattle.zw_hub.specs.declared.feed.FeedEnd.{FeedEnd}
 use Rattle.zw_hub.specs.declared.published.Published.{Published}
 use Rattle.zw_hub.specs.declared.rule.View.{View}
-use Rattle.zw_hub.specs.Lists.{Extends, added, closed_by, is_next}
+use Rattle.zw_hub.specs.Lists.{Extends, added, closed_by, forgotten_by, is_next, last_number}
 use Rattle.zw_hub.specs.ListChanges.{list_after}
 use Rattle.zw_hub.specs.Steps.{ExtendsSeen, Keeps, SeesOnce, nothing_seen}
 
 pub extends-same : (list : Published) → Extends list list
-extends-same list = record { first = refl; entries = ([], append-nil list.entries); closed = λ _ _. refl }
+extends-same list = record { first = refl; entries = ([], append-nil list.entries); closed = λ _ _. refl; forgets = omega (arith, ints) }
 
 pub extends-later : (c b a : Published) → Extends c b → Extends b a → Extends c a
 extends-later c b a up down = record {
@@ -26,6 +27,7 @@ extends-later c b a up down = record {
     sym (append_assoc a.entries down.entries.0 up.entries.0) ∙ ap (λ xs. xs ++ up.entries.0) down.entries.1 ∙ up.entries.1,
   );
   closed = λ end is. let same = down.closed end is in up.closed end (ap (λ (l : Published). l.end) same ∙ is) ∙ same;
+  forgets = omega (arith, ints, up.forgets, down.forgets);
 }
 
 -- a closed list takes no entry
@@ -33,7 +35,7 @@ none_next : (list : Published) (entry : Entry) (end : FeedEnd) → is_next list 
 none_next list entry end next is = grind arith
 
 added_by : (list : Published) (entry : Entry) (b : Bool) → is_next list entry ≡ b → Extends (added list entry) list
-added_by list entry true is = rw is (record { first = refl; entries = (entry ∷ [], refl); closed = λ end closed. absurd (none_next list entry end is closed) })
+added_by list entry true is = rw is (record { first = refl; entries = (entry ∷ [], refl); closed = λ end closed. absurd (none_next list entry end is closed); forgets = omega (arith, ints) })
 added_by list entry false is = rw is (extends-same list)
 
 pub extends-added : (list : Published) (entry : Entry) → Extends (added list entry) list
@@ -43,15 +45,23 @@ none_open : (list : Published) (end : FeedEnd) → is_none list.end ≡ true →
 none_open list end open_is is = grind arith
 
 ended_by : (list : Published) (end : FeedEnd) (b : Bool) → is_none list.end ≡ b → Extends (closed_by list end) list
-ended_by list end true is = rw is (record { first = refl; entries = ([], append-nil list.entries); closed = λ other closed. absurd (none_open list other is closed) })
+ended_by list end true is = rw is (record { first = refl; entries = ([], append-nil list.entries); closed = λ other closed. absurd (none_open list other is closed); forgets = omega (arith, ints) })
 ended_by list end false is = rw is (extends-same list)
 
 pub extends-closed : (list : Published) (end : FeedEnd) → Extends (closed_by list end) list
 extends-closed list end = ended_by list end (is_none list.end) refl
 
+forgot_by : (list : Published) (b : Bool) → is_none list.end ≡ b → Extends (forgotten_by list) list
+forgot_by list true is = rw is (record { first = refl; entries = ([], append-nil list.entries); closed = λ other closed. absurd (none_open list other is closed); forgets = omega (arith, ints, int_max_is list.forgotten (last_number list)) })
+forgot_by list false is = rw is (extends-same list)
+
+pub extends-forgotten : (list : Published) → Extends (forgotten_by list) list
+extends-forgotten list = forgot_by list (is_none list.end) refl
+
 pub extends-changed : (list : Published) (change : Change) → Extends (list_after list change) list
 extends-changed list (changes.Entry entry) = extends-added list (arc_value entry)
 extends-changed list (changes.End end) = extends-closed list end
+extends-changed list changes.Forget = extends-forgotten list
 
 pub extends-fold : (list : Published) (log : List Change) → Extends (fold list_after list log) list
 extends-fold list [] = extends-same list

@@ -7,7 +7,7 @@ use Rattle.zw_hub.specs.Lists.{max_kept, last_number, IsNumbered}
 
 -- all that was published, as a list
 abbrev pub published : Inside → Published
-published w = record { first = w.first; entries = w.all.items; end = w.end }
+published w = record { first = w.first; entries = w.all.items; end = w.end; forgotten = w.forgotten }
 
 -- the ring has the newest entries of the list, and room for as many as are kept; the last number is the list's, and the numbers of
 -- its entries are consecutive

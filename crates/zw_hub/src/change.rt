@@ -6,11 +6,12 @@ use std::marker::Model;
 use std::sync::Arc;
 use zn_layout::Entry;
 
-/// A change of the published list: one more entry, or its end.
+/// A change of the published list: one more entry, its end, or that the entries so far are forgotten.
 #[derive(Drop)]
 pub enum Change {
     Entry(Arc<Entry, Global>),
     End(Ending),
+    Forget,
 }
 
 /// An end that may close a list. Contracts see the end itself.

@@ -28,7 +28,7 @@ pub enum Fed {
     Entry(Arc<Entry, Global>),
     /// No entry is above the cursor yet.
     None,
-    /// The entry after the cursor is no longer kept. The floor is the number before that of the oldest entry that is.
+    /// The entry after the cursor is no longer kept, or was forgotten. The floor is the number before that of the oldest entry that is told.
     Lagged { cursor: i64, floor: i64 },
     /// No entry is above the cursor, and none will come.
     Closed(Arc<FeedEnd, Global>),

@@ -4,7 +4,7 @@
 //! number of the last entry that it took. [`hub`] makes a [`Hub`], which publishes and closes, all of its [`HubReader`]s, and a
 //! [`Keeper`].
 //! A read takes no lock and waits for nobody. The newest 4,096 entries are kept. A reader whose next entry is older than those
-//! is told that it lagged.
+//! is told that it lagged, and so is one whose next entry was forgotten ([`Hub::forget`]).
 //!
 //! There are two copies of the newest entries, kept by `left_right`: readers read one while the writer updates the other. So a
 //! publish costs two pushes into a ring and a look at each reader's seat, and waits for readers that are inside a read. A read

@@ -15,4 +15,6 @@ pub struct Published {
     pub entries: Seq<Entry>,
     /// Why the list was closed, where it was.
     pub end: Option<FeedEnd>,
+    /// Readers are told no entry up to this number, also if it is kept.
+    pub forgotten: i64,
 }

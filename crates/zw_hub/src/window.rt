@@ -22,6 +22,8 @@ pub struct Window {
     first: i64,
     last: i64,
     end: Option<KeptEnd>,
+    /// Readers are told no entry up to this number.
+    forgotten: i64,
     all: GhostHistory<Entry>,
 }
 
@@ -40,7 +42,7 @@ impl Model for Window {
 impl Window {
     ghost use Rattle.std.specs.Prelude.{◌≡◌, ◌<◌, ◌-◌, ◌≤ℤ◌, ◌<ℤ◌, ℤ, Some, None, IfOk};
     ghost use Rattle.std.specs.Arc.{arc_value};
-    ghost use Rattle.zw_hub.specs.Lists.{empty, last_number, floor, is_next, added, closed_by};
+    ghost use Rattle.zw_hub.specs.Lists.{empty, last_number, oldest, floor, is_next, added, closed_by, forgotten_by};
     ghost use Rattle.zw_hub.specs.Feeds.{IsFed, IsLagged};
 
     /// No entries yet, with room for 4,096; the next is to have the number `first + 1`.
@@ -53,15 +55,23 @@ impl Window {
             first,
             last: first,
             end: None,
+            forgotten: first,
             all: GhostHistory::new(),
         })
+    }
+
+    /// The number before that of the oldest entry that is kept.
+    fn oldest(&self) -> i64
+        ensures { result ≡ oldest self.now }
+    {
+        let _first = self.first;
+        self.last - self.ring.len() as i64
     }
 
     fn floor(&self) -> i64
         ensures { result ≡ floor self.now }
     {
-        let _first = self.first;
-        self.last - self.ring.len() as i64
+        self.oldest().max(self.forgotten)
     }
 
     fn is_next(&self, entry: &Entry) -> bool
@@ -71,6 +81,7 @@ impl Window {
     }
 
     /// What a reader with this cursor is answered.
+    #[tactic(auto, using(crate::proofs::Keeping::above_oldest))]
     pub fn look(&self, cursor: i64) -> Fed
         ensures answer { IsFed self.now cursor result }
         ensures below { cursor <ℤ floor self.now → IsLagged result }
@@ -85,13 +96,14 @@ impl Window {
         self.above()
     }
 
-    /// The entry after the cursor, which is kept.
+    /// The entry after the cursor, which is kept and not forgotten.
     fn kept(&self, cursor: i64) -> Fed
+        requires kept { oldest self.now ≤ℤ cursor }
         requires least { floor self.now ≤ℤ cursor }
         requires most { cursor <ℤ last_number self.now }
         ensures { IsFed self.now cursor result }
     {
-        let place = (cursor - self.floor()) as usize;
+        let place = (cursor - self.oldest()) as usize;
         self.ring.get(place).unwrap().answer()
     }
 
@@ -125,6 +137,15 @@ impl Window {
             self.end = Some(KeptEnd::of(end.end()));
         }
     }
+
+    /// Tells readers no entry so far any more, if the list is open.
+    fn forget(&mut self)
+        ensures { self.new ≡ forgotten_by self.old }
+    {
+        if self.end.is_none() {
+            self.forgotten = self.forgotten.max(self.last);
+        }
+    }
 }
 
 impl Absorb<Change> for Window {
@@ -142,6 +163,7 @@ impl Absorb<Change> for Window {
         match change {
             Change::Entry(entry) => self.add(entry),
             Change::End(end) => self.close(end),
+            Change::Forget => self.forget(),
         }
         Ok(())
     }

@@ -74,7 +74,7 @@ impl<R: Wait + Drop> Hub<R> {
     ghost use Rattle.left_right.specs.Sides.{view};
     ghost use Rattle.zw_hub.specs.ListChanges.{list_after};
     ghost use Rattle.zw_hub.specs.Ends.{IsProper};
-    ghost use Rattle.zw_hub.specs.Lists.{last_number, with_entry, with_end};
+    ghost use Rattle.zw_hub.specs.Lists.{last_number, with_entry, with_end, forgetting};
     ghost use Rattle.zw_hub.specs.Steps.{nothing_seen};
 
     /// A hub over this writer, which has published nothing yet.
@@ -121,6 +121,17 @@ impl<R: Wait + Drop> Hub<R> {
     {
         let end = Arc::new(self.alloc, end)?;
         self.show(Change::End(Ending::of(end)))
+    }
+
+    /// Has readers be told no entry so far any more: one whose next entry is among them is told that it lagged. Where memory is refused, the
+    /// hub is as before.
+    pub fn forget(&mut self) -> Result<(), Memory>
+        requires { self.old.list.end ≡ None }
+        ensures ok { OnOk result (self.new.list ≡ forgetting self.old.list) }
+        ensures err { OnErr result (self.new ≡ self.old) }
+        ensures once { OnOk result (self.new.steps ≡ self.old.steps + 1) }
+    {
+        self.show(Change::Forget)
     }
 
     fn show(&mut self, change: Change) -> Result<(), Memory>
