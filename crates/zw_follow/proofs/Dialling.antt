@@ -8,7 +8,7 @@ use Rattle.ev_http.specs.declared.fault.HttpFault.TheVariants as http
 use Rattle.ev_http.specs.declared.lines.Lines.{Lines}
 use Rattle.ev_words.specs.declared.fault.Fault.{Fault}
 use Rattle.zn_layout.specs.declared.entry.Entry.{Entry}
-use Rattle.zw_hub.specs.Lists.{with_end}
+use Rattle.zw_hub.specs.Lists.{forgetting, with_end}
 use Rattle.zw_hub.specs.declared.feed.FeedEnd.{FeedEnd}
 use Rattle.zw_hub.specs.declared.feed.FeedEnd.TheVariants as ends
 use Rattle.zw_hub.specs.declared.published.Published.{Published}
@@ -16,14 +16,14 @@ use Rattle.zx_net.specs.Nets.{NetCounts}
 use Rattle.zx_net.specs.declared.net.NetFault.{NetFault}
 use Rattle.zx_net.specs.declared.net.NetFault.TheVariants as refused
 use Rattle.zx_outside.specs.Counts.{one_more}
-use Rattle.zw_follow.specs.Dials.{Answers, AreBarren, AreDials, AreFewEnough, Comes, CountsTo, Dial, DialsOnce, EndBarren, Followed, Follows, GivesUp, IsBetween, IsDial, IsFailed, IsOverDial, IsUndialledBy, NetTold, Opens, OpensNone, Stops, Telling, WasRead, at_after, barren_after, entries_of, host_after, host_at, said_of}
-use Rattle.zw_follow.specs.Publishing.{Explains, IsPlaced, Publishes, Said, heads_of, told_after}
+use Rattle.zw_follow.specs.Dials.{Answers, AreBarren, AreDials, AreFewEnough, Comes, CountsTo, Dial, DialsOnce, EndBarren, Followed, Follows, Forgets, GivesUp, IsBetween, IsDial, IsFailed, IsOverDial, IsUndialledBy, NetTold, Opens, OpensNone, Stops, Telling, WasRead, at_after, barren_after, entries_of, host_after, host_at, left_after, said_of}
+use Rattle.zw_follow.specs.Publishing.{Explains, IsPlaced, Publishes, Said, heads_of, told_after, with_entries}
 use Rattle.zw_follow.specs.Streams.{GoesOn, IsOver, IsUnsentBy, ReadsStream}
 use Rattle.zw_follow.specs.declared.place.Place.{Place}
 use Rattle.zw_follow.specs.declared.stream.StreamEnd.{StreamEnd}
 use Rattle.zw_follow.specs.declared.stream.StreamEnd.TheVariants as stream
 use Rattle.zw_follow.proofs.Ending.{proper_memory, proper_no_line}
-use Rattle.zw_follow.proofs.Growing.{heads_join, passed, publishes_join, publishes_nothing, told_join}
+use Rattle.zw_follow.proofs.Growing.{heads_join, passed, publishes_join, publishes_nothing, told_join, with_none}
 
 -- ---- one dial
 
@@ -69,7 +69,7 @@ dials_none tells host (stream.Over why barren) net net' list told n (inl (cause,
   stops = refl;
   asks = refl;
   names = refl;
-  is = inl (cause, failed, (refl, refl));
+  is = inl (cause, (failed, (refl, refl)));
   left = [];
   publishes = publishes_nothing list;
   told_is = refl;
@@ -165,15 +165,41 @@ dials_push tells text at net now told [] d dials starts asks names is = (starts 
 dials_push tells text at net now told (first ∷ ds) d dials starts asks names is =
     (dials.0, dials.1, dials.2, dials.3, dials_push tells text (host_after text at) first.after now (told_after told first.said first.entries) ds d dials.4 starts (asks ∙ told_join told first.said (said_of ds) first.entries (entries_of ds)) names is)
 
-counts_push : {In Out : Type 0} (tells : Telling In Out) (n m : ℕ) (ds : List Dial) (d : Dial) (barren : Bool) → CountsTo tells n ds m → m < 10 → IsOverDial tells d.host d barren → CountsTo tells n (ds ++ d ∷ []) (barren_after barren m)
-counts_push tells n m [] d barren h small over = (subst (λ (k : ℕ). k < 10) h small, barren, over, ap (barren_after barren) h)
-counts_push tells n m (first ∷ ds) d barren h small over = (h.0, h.1, h.2, counts_push tells (barren_after h.1 n) m ds d barren h.3 small over)
+counts_push : {In Out : Type 0} (tells : Telling In Out) (n m k : ℕ) (before list after : Published) (ds : List Dial) (d : Dial) (barren : Bool) → CountsTo tells n before ds m list → m < 10 → IsOverDial tells d.host d barren
+    → k ≡ barren_after barren m → after ≡ left_after barren (with_entries list d.entries) → CountsTo tells n before (ds ++ d ∷ []) k after
+counts_push tells n m k before list after [] d barren h small over counted left = (
+  subst (λ (i : ℕ). i < 10) h.0 small,
+  barren,
+  over,
+  (counted ∙ ap (barren_after barren) h.0, left ∙ ap (λ (l : Published). left_after barren (with_entries l d.entries)) h.1),
+)
+counts_push tells n m k before list after (first ∷ ds) d barren h small over counted left =
+    (h.0, h.1, h.2, counts_push tells (barren_after h.1 n) m k (left_after h.1 (with_entries before first.entries)) list after ds d barren h.3 small over counted left)
 
 -- a dial was made where fewer than ten in a row had given no line
-few_push : {In Out : Type 0} (tells : Telling In Out) (n m : ℕ) (ds : List Dial) (d : Dial) → CountsTo tells n ds m → m < 10 → AreFewEnough tells n (ds ++ d ∷ [])
-few_push tells n m [] d h small = subst (λ (k : ℕ). k < 10) h small
-few_push tells n m (first ∷ []) d h small = (h.0, h.1, h.2, few_push tells (barren_after h.1 n) m [] d h.3 small)
-few_push tells n m (first ∷ second ∷ ds) d h small = (h.0, h.1, h.2, few_push tells (barren_after h.1 n) m (second ∷ ds) d h.3 small)
+few_push : {In Out : Type 0} (tells : Telling In Out) (n m : ℕ) (before list : Published) (ds : List Dial) (d : Dial) → CountsTo tells n before ds m list → m < 10 → AreFewEnough tells n (ds ++ d ∷ [])
+few_push tells n m before list [] d h small = subst (λ (k : ℕ). k < 10) h.0 small
+few_push tells n m before list (first ∷ []) d h small =
+    (h.0, h.1, h.2, few_push tells (barren_after h.1 n) m (left_after h.1 (with_entries before first.entries)) list [] d h.3 small)
+few_push tells n m before list (first ∷ second ∷ ds) d h small =
+    (h.0, h.1, h.2, few_push tells (barren_after h.1 n) m (left_after h.1 (with_entries before first.entries)) list (second ∷ ds) d h.3 small)
+
+-- what was published does not depend on what is forgotten
+publishes_at : (heads : List Kv) (entries : List Entry) (left : List Kv) (before after : Published) (z : ℤ) → Publishes heads entries left before after
+    → Publishes heads entries left (record before { forgotten = z }) (record after { forgotten = z })
+publishes_at heads entries left before after z h = record { taken = h.taken; split = h.split; gives = h.gives; grown = ap (λ (l : Published). record l { forgotten = z }) h.grown }
+
+left_at : (barren : Bool) (list : Published) (z : ℤ) → record (left_after barren list) { forgotten = z } ≡ record list { forgotten = z }
+left_at true list z = refl
+left_at false list z = refl
+
+-- a list that forgets is open, and has its place
+placed_by : (barren : Bool) (list : Published) (place : Place) → IsPlaced list place → IsPlaced (left_after barren list) place
+placed_by true list place placed = record { is_open = placed.is_open; placed = placed.placed; least = placed.least; most = placed.most; revision_least = placed.revision_least; revision_most = placed.revision_most }
+placed_by false list place placed = placed
+
+pub placed_left : (barren : Bool) (list list' : Published) (place : Place) → list' ≡ left_after barren list → IsPlaced list place → IsPlaced list' place
+placed_left barren list list' place is placed = subst (λ (l : Published). IsPlaced l place) (sym is) (placed_by barren list place placed)
 
 barren_push : {In Out : Type 0} (tells : Telling In Out) (ds : List Dial) (d : Dial) → AreBarren tells ds → IsOverDial tells d.host d true → AreBarren tells (ds ++ d ∷ [])
 barren_push tells [] d h over = (over, tt)
@@ -194,10 +220,22 @@ followed_push : {In Out : Type 0} (tells : Telling In Out) (text host : List ℕ
 followed_push tells text host at end net now net' told told' told'' before list after barren n n' b small is_host o = record {
   dials = subst (AreDials tells text 0 net told (b.dials ++ o.dial ∷ [])) o.stops
       (dials_push tells text 0 net now told b.dials o.dial (b.followed).dials o.starts (o.asks ∙ b.asks) (o.names ∙ is_host ∙ ap (host_at text) b.next) o.is);
-  few = few_push tells 0 barren b.dials o.dial b.counts small;
-  publishes = subst (λ (es : List Entry). Publishes (heads_of (said_of (b.dials ++ o.dial ∷ []))) es o.left before after) (sym (entries_push b.dials o.dial))
-      (subst (λ (heads : List Kv). Publishes heads (entries_of b.dials ++ (o.dial).entries) o.left before after) (sym (ap heads_of (said_push b.dials o.dial) ∙ heads_join (said_of b.dials) (o.dial).said))
-      (publishes_join (heads_of (said_of b.dials)) (heads_of (o.dial).said) (entries_of b.dials) (o.dial).entries o.left before list after (b.followed).publishes o.publishes));
+  few = few_push tells 0 barren before list b.dials o.dial b.counts small;
+  publishes = subst (λ (es : List Entry). Publishes (heads_of (said_of (b.dials ++ o.dial ∷ []))) es o.left before (record after { forgotten = before.forgotten })) (sym (entries_push b.dials o.dial))
+      (subst (λ (heads : List Kv). Publishes heads (entries_of b.dials ++ (o.dial).entries) o.left before (record after { forgotten = before.forgotten }))
+      (sym (ap heads_of (said_push b.dials o.dial) ∙ heads_join (said_of b.dials) (o.dial).said))
+      (publishes_join (heads_of (said_of b.dials)) (heads_of (o.dial).said) (entries_of b.dials) (o.dial).entries o.left before (record list { forgotten = before.forgotten }) (record after { forgotten = before.forgotten }) (b.followed).publishes
+      (publishes_at (heads_of (o.dial).said) (o.dial).entries o.left list after before.forgotten o.publishes)));
+  forgets = record {
+    over = b.dials;
+    last = o.dial ∷ [];
+    split = refl;
+    one = omega arith;
+    barren = barren;
+    list = list;
+    counts = b.counts;
+    grown = (o.publishes).grown ∙ ap (with_entries list) (sym (append-nil (o.dial).entries));
+  };
 }
 
 -- ---- all dials
@@ -205,29 +243,44 @@ followed_push tells text host at end net now net' told told' told'' before list 
 pub between_starts : {In Out : Type 0} (tells : Telling In Out) (text : List ℕ) (net : NetTold) (told : ℤ) (list : Published) → IsBetween tells text net net told list list told 0 0
 between_starts tells text net told list = record {
   dials = [];
-  followed = record { dials = refl; few = tt; publishes = publishes_nothing list };
-  counts = refl;
+  followed = record {
+    dials = refl;
+    few = tt;
+    publishes = publishes_nothing list;
+    forgets = record { over = []; last = []; split = refl; one = omega arith; barren = 0; list = list; counts = (refl, refl); grown = sym (with_none list) };
+  };
+  counts = (refl, refl);
   next = refl;
   asks = refl;
   none = record { earlier = []; last = []; split = refl; count = refl; barren = tt };
 }
 
-pub between_goes : {In Out : Type 0} (tells : Telling In Out) (text host : List ℕ) (at at' : ℕ) (why : Fault) (is_barren : Bool) (net now net' : NetTold) (told told' told'' : ℤ) (before list after : Published) (barren barren' n n' : ℕ)
+pub between_goes : {In Out : Type 0} (tells : Telling In Out) (text host : List ℕ) (at at' : ℕ) (why : Fault) (is_barren : Bool) (net now net' : NetTold) (told told' told'' : ℤ) (before list after after' : Published) (barren barren' n n' : ℕ)
     → IsBetween tells text net now told before list told' barren at → barren < 10 → host ≡ host_at text at → DialsOnce tells host (stream.Over why is_barren) now net' list after told' told'' n n'
-    → barren' ≡ barren_after is_barren barren → at' ≡ host_after text at → IsBetween tells text net net' told before after told'' barren' at'
-between_goes tells text host at at' why is_barren net now net' told told' told'' before list after barren barren' n n' b small is_host o counted turned = record {
-  dials = b.dials ++ o.dial ∷ [];
-  followed = subst (λ (left : List Kv). Followed tells text net net' told (b.dials ++ o.dial ∷ []) left before after) (o.comes).0
-      (followed_push tells text host at (stream.Over why is_barren) net now net' told told' told'' before list after barren n n' b small is_host o);
-  counts = subst (λ (k : ℕ). CountsTo tells 0 (b.dials ++ o.dial ∷ []) k) (sym counted) (counts_push tells 0 barren b.dials o.dial is_barren b.counts small (o.comes).2);
-  next = turned ∙ ap (host_after text) b.next ∙ sym (at_push text 0 b.dials o.dial);
-  asks = o.told_is
-      ∙ ap (λ (z : ℤ). told_after z (o.dial).said (o.dial).entries) b.asks
-      ∙ sym (told_join told (said_of b.dials) (o.dial).said (entries_of b.dials) (o.dial).entries)
-      ∙ ap (λ (said : List Said). told_after told said (entries_of b.dials ++ (o.dial).entries)) (sym (said_push b.dials o.dial))
-      ∙ ap (told_after told (said_of (b.dials ++ o.dial ∷ []))) (sym (entries_push b.dials o.dial));
-  none = subst (λ (k : ℕ). EndBarren tells k (b.dials ++ o.dial ∷ [])) (sym counted) (end_barren tells barren b.dials o.dial is_barren b.none (o.comes).2);
-}
+    → barren' ≡ barren_after is_barren barren → at' ≡ host_after text at → after' ≡ left_after is_barren after → IsBetween tells text net net' told before after' told'' barren' at'
+between_goes tells text host at at' why is_barren net now net' told told' told'' before list after after' barren barren' n n' b small is_host o counted turned forgot =
+    let f = followed_push tells text host at (stream.Over why is_barren) net now net' told told' told'' before list after barren n n' b small is_host o in
+    let counts : CountsTo tells 0 before (b.dials ++ o.dial ∷ []) barren' after' =
+    counts_push tells 0 barren barren' before list after' b.dials o.dial is_barren b.counts small (o.comes).2 counted (forgot ∙ ap (left_after is_barren) (o.publishes).grown) in
+    let same : record after' { forgotten = before.forgotten } ≡ record after { forgotten = before.forgotten } = ap (λ (l : Published). record l { forgotten = before.forgotten }) forgot ∙ left_at is_barren after before.forgotten in
+    record {
+      dials = b.dials ++ o.dial ∷ [];
+      followed = record {
+        dials = f.dials;
+        few = f.few;
+        publishes = subst (λ (left : List Kv). Publishes (heads_of (said_of (b.dials ++ o.dial ∷ []))) (entries_of (b.dials ++ o.dial ∷ [])) left before (record after' { forgotten = before.forgotten })) (o.comes).0
+            (subst (λ (l : Published). Publishes (heads_of (said_of (b.dials ++ o.dial ∷ []))) (entries_of (b.dials ++ o.dial ∷ [])) o.left before l) (sym same) f.publishes);
+        forgets = record { over = b.dials ++ o.dial ∷ []; last = []; split = sym (append-nil (b.dials ++ o.dial ∷ [])); one = omega arith; barren = barren'; list = after'; counts = counts; grown = sym (with_none after') };
+      };
+      counts = counts;
+      next = turned ∙ ap (host_after text) b.next ∙ sym (at_push text 0 b.dials o.dial);
+      asks = o.told_is
+          ∙ ap (λ (z : ℤ). told_after z (o.dial).said (o.dial).entries) b.asks
+          ∙ sym (told_join told (said_of b.dials) (o.dial).said (entries_of b.dials) (o.dial).entries)
+          ∙ ap (λ (said : List Said). told_after told said (entries_of b.dials ++ (o.dial).entries)) (sym (said_push b.dials o.dial))
+          ∙ ap (told_after told (said_of (b.dials ++ o.dial ∷ []))) (sym (entries_push b.dials o.dial));
+      none = subst (λ (k : ℕ). EndBarren tells k (b.dials ++ o.dial ∷ [])) (sym counted) (end_barren tells barren b.dials o.dial is_barren b.none (o.comes).2);
+    }
 
 -- the word to stop was set, between two dials
 pub stops_between : {In Out : Type 0} (tells : Telling In Out) (text : List ℕ) (at : ℕ) (net now : NetTold) (told told' : ℤ) (before list : Published) (barren n n' : ℕ) → IsBetween tells text net now told before list told' barren at → list.end ≡ None → n' ≡ one_more n

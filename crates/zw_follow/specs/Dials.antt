@@ -1,5 +1,5 @@
 -- What a worker that follows the head comes to, over all the streams that it dials.
-use Rattle.std.specs.Prelude.{◌≡◌, ◌⊎◌, ℕ, ◌+◌, ◌<◌, ℤ, pos, ◌+ℤ◌, Bool, true, false, List, [], ◌∷◌, ◌++◌, length, codes, slice_get, Option, Some, None, unwrap_or, Result, Ok, Err}
+use Rattle.std.specs.Prelude.{◌≡◌, ◌⊎◌, ℕ, ◌+◌, ◌<◌, ◌≤◌, ℤ, pos, ◌+ℤ◌, Bool, true, false, List, [], ◌∷◌, ◌++◌, length, codes, slice_get, Option, Some, None, unwrap_or, Result, Ok, Err}
 use Rattle.ev_addresses.specs.Lists.{addresses_in, local, next_of}
 use Rattle.ev_types.specs.declared.answer.Kv.{Kv}
 use Rattle.ev_types.specs.declared.route.Route.TheVariants as route
@@ -12,7 +12,7 @@ use Rattle.ev_http.specs.declared.fault.HttpFault.TheVariants as http
 use Rattle.ev_http.specs.declared.lines.Lines.{Lines}
 use Rattle.zn_layout.specs.declared.entry.Entry.{Entry}
 use Rattle.zw_hub.specs.Ends.{IsProper}
-use Rattle.zw_hub.specs.Lists.{with_end}
+use Rattle.zw_hub.specs.Lists.{forgetting, with_end}
 use Rattle.zw_hub.specs.declared.feed.FeedEnd.{FeedEnd}
 use Rattle.zw_hub.specs.declared.feed.FeedEnd.TheVariants as ends
 use Rattle.zw_hub.specs.declared.published.Published.{Published}
@@ -21,7 +21,7 @@ use Rattle.zx_net.specs.declared.net.NetFault.{NetFault}
 use Rattle.zx_net.specs.declared.net.NetFault.TheVariants as refused
 use Rattle.ev_words.specs.declared.fault.Fault.TheVariants as fault
 use Rattle.zx_outside.specs.Counts.{InputCounts, OutputCounts, one_more}
-use Rattle.zw_follow.specs.Publishing.{Explains, Publishes, Said, heads_of, told_after}
+use Rattle.zw_follow.specs.Publishing.{Explains, Publishes, Said, heads_of, told_after, with_entries}
 use Rattle.zw_follow.specs.Streams.{IsHeeded, IsOver, IsReadTo, IsWaitedFor, spelled}
 use Rattle.zw_follow.specs.declared.stream.StreamEnd.{StreamEnd}
 use Rattle.zw_follow.specs.declared.stream.StreamEnd.TheVariants as stream
@@ -154,6 +154,12 @@ abbrev pub barren_after : Bool → ℕ → ℕ
 barren_after true n = n + 1
 barren_after false n = 0
 
+-- The list once a dial is over. If that gave no line, readers are told nothing that was published before, since etcd may have been restored from
+-- a backup meanwhile, and may show a time before those updates.
+abbrev pub left_after : Bool → Published → Published
+left_after true list = forgetting list
+left_after false list = list
+
 -- Only a dial that is over is followed by another, and none follows on ten in a row that gave no line. So many in a row gave none before
 -- these.
 abbrev pub AreFewEnough : {In Out : Type 0} → Telling In Out → ℕ → List Dial → Type 0
@@ -174,14 +180,33 @@ pub record EndBarren {In Out : Type 0} (tells : Telling In Out) (n : ℕ) (ds : 
   pub count : length last ≡ n
   pub barren : AreBarren tells last
 
+-- All of these dials are over, each was made where fewer than ten in a row had given no line, and so many in a row gave none before them, and
+-- with them; and what their entries, and what was forgotten after each of them, made of the list.
+abbrev pub CountsTo : {In Out : Type 0} → Telling In Out → ℕ → Published → List Dial → ℕ → Published → Type 0
+CountsTo tells n list [] n' list' = (n' ≡ n) × (list' ≡ list)
+CountsTo tells n list (d ∷ ds) n' list' = (n < 10) × (barren : Bool) × IsOverDial tells d.host d barren
+    × CountsTo tells (barren_after barren n) (left_after barren (with_entries list d.entries)) ds n' list'
+
 -- ---- the whole
 
+-- By these dials the list became this one: nothing was forgotten but after a dial that is over, which the last one may not be.
+pub record Forgets {In Out : Type 0} (tells : Telling In Out) (ds : List Dial) (before after : Published) : Type 0 where
+  pub over : List Dial
+  pub last : List Dial
+  pub split : ds ≡ over ++ last
+  pub one : length last ≤ 1
+  pub barren : ℕ
+  pub list : Published
+  pub counts : CountsTo tells 0 before over barren list
+  pub grown : after ≡ with_entries list (entries_of last)
+
 -- These dials were made, one after the other, and the list grew by the entries of the lines that they gave, each once and in order; these
--- heads are left.
+-- heads are left. And this is forgotten of it.
 pub record Followed {In Out : Type 0} (tells : Telling In Out) (text : List ℕ) (net net' : NetTold) (told : ℤ) (ds : List Dial) (left : List Kv) (before after : Published) : Type 0 where
   pub dials : AreDials tells text 0 net told ds net'
   pub few : AreFewEnough tells 0 ds
-  pub publishes : Publishes (heads_of (said_of ds)) (entries_of ds) left before after
+  pub publishes : Publishes (heads_of (said_of ds)) (entries_of ds) left before (record after { forgotten = before.forgotten })
+  pub forgets : Forgets tells ds before after
 
 -- why the updates cannot be followed any further: the last ten dials in a row gave no line; or the last line of the last dial shows it
 abbrev pub GivesUp : {In Out : Type 0} → Telling In Out → FeedEnd → Published → List Dial → List Kv → Type 0
@@ -233,17 +258,11 @@ pub record DialsOnce {In Out : Type 0} (tells : Telling In Out) (host : List ℕ
   pub told_is : told' ≡ told_after told dial.said dial.entries
   pub comes : Comes tells dial.host end dial left after n n'
 
--- All of them are over, each was made where fewer than ten in a row had given no line, and so many in a row gave none before these, and
--- with these.
-abbrev pub CountsTo : {In Out : Type 0} → Telling In Out → ℕ → List Dial → ℕ → Type 0
-CountsTo tells n [] n' = n' ≡ n
-CountsTo tells n (d ∷ ds) n' = (n < 10) × (barren : Bool) × IsOverDial tells d.host d barren × CountsTo tells (barren_after barren n) ds n'
-
 -- some dials were made, and are over, and the address with this number is next
 pub record IsBetween {In Out : Type 0} (tells : Telling In Out) (text : List ℕ) (net now : NetTold) (told : ℤ) (before list : Published) (told' : ℤ) (barren at : ℕ) : Type 0 where
   pub dials : List Dial
   pub followed : Followed tells text net now told dials [] before list
-  pub counts : CountsTo tells 0 dials barren
+  pub counts : CountsTo tells 0 before dials barren list
   pub next : at ≡ at_after text 0 dials
   pub asks : told' ≡ told_after told (said_of dials) (entries_of dials)
   pub none : EndBarren tells barren dials

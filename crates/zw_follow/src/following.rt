@@ -2,8 +2,8 @@
 
 ghost use Rattle.std.specs.Prelude.{◌≡◌, ◌<◌, ◌≤◌, None, IfOk, IsTrue, OnErr, OnOk, false};
 ghost use Rattle.zw_hub.specs.Ends.{IsProper};
-ghost use Rattle.zw_hub.specs.Lists.{with_end};
-ghost use Rattle.zw_follow.specs.Dials.{DialsOnce, Follows, Stops, barren_after, telling};
+ghost use Rattle.zw_hub.specs.Lists.{forgetting, with_end};
+ghost use Rattle.zw_follow.specs.Dials.{DialsOnce, Follows, Stops, barren_after, left_after, telling};
 ghost use Rattle.zw_follow.specs.Publishing.{IsPlaced};
 ghost use Rattle.zw_follow.specs.Streams.{GoesOn};
 
@@ -26,6 +26,9 @@ const MAX_BARREN: u32 = 10;
 /// (etcd API reference, "Watch"). `endpoint` names JSON gateways: the first five addresses in it that are not empty, with commas between
 /// them, each `HOST:PORT`; `localhost` where there is none. They are dialled in turn, one more for each stream that is over. Both numbers
 /// are from 0 to 2^62 - 1; `number` is that of the hub's last entry, and the hub is open.
+///
+/// After a dial that gave no line, the hub forgets what was published so far. Etcd may have been restored from a backup meanwhile, and may then
+/// show clients a time before those updates, whose watches must not be told of them.
 ///
 /// `None`: the word to stop was found set, and the hub is open. Otherwise the hub is closed for the end that is given:
 ///
@@ -157,6 +160,22 @@ fn barren_after(is_barren: bool, barren: u32) -> u32
     if is_barren { barren + 1 } else { 0 }
 }
 
+/// Forgets what was published so far, if a dial gave no line. Where memory is refused it tries again.
+fn forget_after<R: Wait, H: Wait + Drop>(rt: &R, hub: &mut Hub<H>, is_barren: bool)
+    requires { hub.old.list.end ≡ None }
+    ensures { hub.new.list ≡ left_after is_barren hub.old.list }
+{
+    if !is_barren {
+        return;
+    }
+    'tries: for _ in rt.forever() {
+        if let Ok(()) = hub.forget() {
+            return;
+        }
+    }
+    unreachable!()
+}
+
 /// Follows one stream after the other, at one endpoint after the other.
 fn follow_streams<R: Wait + Eprint, H: Wait + Drop, N: Net, Q: StopWord, B: Rings>(
     rt: &R,
@@ -190,6 +209,7 @@ fn follow_streams<R: Wait + Eprint, H: Wait + Drop, N: Net, Q: StopWord, B: Ring
                 tell(rt, "watch of", address, fault);
                 barren = barren_after(is_barren, barren);
                 at = next_of(endpoint, at);
+                forget_after(rt, hub, is_barren);
             }
         }
         if stop.is_set() {

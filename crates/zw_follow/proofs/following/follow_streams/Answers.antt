@@ -1,6 +1,6 @@
 use Rattle.std.proofs.Common.{ℕ, ◌≤◌, arith, rules, sym, subst, refl, ◌∙◌}
 use Rattle.zw_follow.specs.Dials.{telling}
-use Rattle.zw_follow.proofs.Dialling.{barren_small, between_goes, between_starts, closes, no_line, stops_between, stops_within, ten_barren}
+use Rattle.zw_follow.proofs.Dialling.{barren_small, between_goes, between_starts, closes, no_line, placed_left, stops_between, stops_within, ten_barren}
 use Rattle.zw_follow.proofs.Ending.{set_now, unset_now}
 use Rattle.zw_follow.proofs.following.follow_streams.Goals as goal
 
@@ -23,7 +23,7 @@ pub barren_after-barren-requires : goal.barren_after-barren-requires
 barren_after-barren-requires g c = c.is_enough.ensures.no c.if-is_enough.false
 
 pub returns-then-is_set : goal.returns-then-is_set
-returns-then-is_set g c = stops_between (telling g.N.In.Source.given g.N.In.Source.left g.N.In.Source.counts g.N.In.Source.ended g.N.In.Source.name g.N.Out.Sink.taken g.N.Out.Sink.counts g.N.Out.Sink.name) _ _ _ _ _ _ _ _ _ _ _ (between_goes (telling g.N.In.Source.given g.N.In.Source.left g.N.In.Source.counts g.N.In.Source.ended g.N.In.Source.name g.N.Out.Sink.taken g.N.Out.Sink.counts g.N.Out.Sink.name) _ _ _ _ c.in-Over.fault c.in-Over.is_barren _ _ _ _ _ _ _ _ _ _ _ _ _ c.streams.invariant.5 (c.is_enough.ensures.no c.if-is_enough.false) c.address_at-address.ensures.is c.in-Over.ensures.dials c.barren_after-barren.ensures c.next_of-at.ensures) (c.in-Over.ensures.goes_on).is_open
+returns-then-is_set g c = stops_between (telling g.N.In.Source.given g.N.In.Source.left g.N.In.Source.counts g.N.In.Source.ended g.N.In.Source.name g.N.Out.Sink.taken g.N.Out.Sink.counts g.N.Out.Sink.name) _ _ _ _ _ _ _ _ _ _ _ (between_goes (telling g.N.In.Source.given g.N.In.Source.left g.N.In.Source.counts g.N.In.Source.ended g.N.In.Source.name g.N.Out.Sink.taken g.N.Out.Sink.counts g.N.Out.Sink.name) _ _ _ _ c.in-Over.fault c.in-Over.is_barren _ _ _ _ _ _ _ _ _ _ _ _ _ _ c.streams.invariant.5 (c.is_enough.ensures.no c.if-is_enough.false) c.address_at-address.ensures.is c.in-Over.ensures.dials c.barren_after-barren.ensures c.next_of-at.ensures c.forget_after.ensures) (placed_left _ _ _ _ c.forget_after.ensures c.in-Over.ensures.goes_on).is_open
     (set_now c.is_set.result _ _ _ c.is_set.ensures c.if-is_set.true (((c.in-Over.ensures.dials).comes).1 ∙ c.streams.invariant.3))
 
 pub streams-preserved : goal.streams-preserved
@@ -32,6 +32,9 @@ streams-preserved g c = (
   tt,
   subst (λ (n : ℕ). n ≤ 10) (sym c.barren_after-barren.ensures) (barren_small c.in-Over.is_barren _ (c.is_enough.ensures.no c.if-is_enough.false)),
   unset_now c.is_set.result _ _ _ c.is_set.ensures c.if-is_set.false (((c.in-Over.ensures.dials).comes).1 ∙ c.streams.invariant.3),
-  c.in-Over.ensures.goes_on,
-  between_goes (telling g.N.In.Source.given g.N.In.Source.left g.N.In.Source.counts g.N.In.Source.ended g.N.In.Source.name g.N.Out.Sink.taken g.N.Out.Sink.counts g.N.Out.Sink.name) _ _ _ _ c.in-Over.fault c.in-Over.is_barren _ _ _ _ _ _ _ _ _ _ _ _ _ c.streams.invariant.5 (c.is_enough.ensures.no c.if-is_enough.false) c.address_at-address.ensures.is c.in-Over.ensures.dials c.barren_after-barren.ensures c.next_of-at.ensures,
+  placed_left _ _ _ _ c.forget_after.ensures c.in-Over.ensures.goes_on,
+  between_goes (telling g.N.In.Source.given g.N.In.Source.left g.N.In.Source.counts g.N.In.Source.ended g.N.In.Source.name g.N.Out.Sink.taken g.N.Out.Sink.counts g.N.Out.Sink.name) _ _ _ _ c.in-Over.fault c.in-Over.is_barren _ _ _ _ _ _ _ _ _ _ _ _ _ _ c.streams.invariant.5 (c.is_enough.ensures.no c.if-is_enough.false) c.address_at-address.ensures.is c.in-Over.ensures.dials c.barren_after-barren.ensures c.next_of-at.ensures c.forget_after.ensures,
 )
+
+pub forget_after-requires : goal.forget_after-requires
+forget_after-requires g c = (c.in-Over.ensures.goes_on).is_open
