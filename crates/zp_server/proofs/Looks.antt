@@ -1,13 +1,14 @@
 -- Looks at the hub, one after the other.
-use Rattle.std.proofs.Common.{◌≡◌, ℕ, ◌+◌, ℤ, List, [], ◌∷◌, ◌++◌, refl, sym, ◌∙◌, inl, inr, subst, arith}
+use Rattle.std.proofs.Common.{◌≡◌, ℕ, ◌+◌, ℤ, List, [], ◌∷◌, ◌++◌, refl, sym, ◌∙◌, inl, inr, ⊎_elim, subst, arith}
 use Rattle.std.specs.Prelude.{Contains, Result, Ok, Err, OnOk}
-use Rattle.std.proofs.lemmas.List.Elements.{Contains-append_right}
+use Rattle.std.proofs.lemmas.List.Elements.{Contains-append_left, Contains-append_right}
 use Rattle.zw_hub.specs.Feeds.{IsFed, IsOneRead, if_closed}
 use Rattle.zw_hub.specs.Readers.{ReaderState}
 use Rattle.zw_hub.specs.declared.feed.Fed.{Fed}
+use Rattle.zw_hub.specs.declared.feed.FeedEnd.{FeedEnd}
 use Rattle.zw_hub.specs.declared.feed.Fed.TheVariants as fed
 use Rattle.zk_service.specs.declared.cause.Cause.{Cause}
-use Rattle.zp_server.specs.Looking.{Closes, Finds, IsFound, FindsOpen, FindsOpenFor, FindsOpenTwice, Looks}
+use Rattle.zp_server.specs.Looking.{Closes, Finds, IsFound, IsFoundClosed, FindsOpen, FindsOpenFor, FindsOpenTwice, Looks}
 use Rattle.zp_server.specs.Telling.{Output, OutputSays}
 use Rattle.zp_server.specs.declared.ends.Stop.{Stop}
 use Rattle.zp_server.specs.declared.ends.Stop.TheVariants as stop
@@ -60,3 +61,15 @@ nothing_found (Err (stop.Feed end)) text o o' own free says = absurd says
 nothing_found (Err stop.Net) text o o' own free says = tt
 nothing_found (Err stop.Write) text o o' own free says = tt
 nothing_found (Err stop.Memory) text o o' own free says = tt
+
+-- a reader that is there stays there
+pub found_still : (end : FeedEnd) (own own' : ReaderState) (free free' : List ReaderState) → own' ≡ own → ((r : ReaderState) → Contains free r → Contains free' r) → IsFoundClosed end own free → IsFoundClosed end own' free'
+found_still end own own' free free' same kept found = record {
+  reader = found.reader;
+  ours = ⊎_elim (λ (mine : found.reader ≡ own). inl (mine ∙ sym same)) (λ (theirs : Contains free found.reader). inr (kept found.reader theirs)) found.ours;
+  closed = found.closed;
+}
+
+-- a reader that is handed back is one more
+pub kept_more : (free free' : List ReaderState) (more : ReaderState) → free' ≡ free ++ more ∷ [] → (r : ReaderState) → Contains free r → Contains free' r
+kept_more free free' more is r there = subst (λ (rs : List ReaderState). Contains rs r) (sym is) (Contains-append_left free (more ∷ []) r there)

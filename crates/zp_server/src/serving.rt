@@ -6,6 +6,7 @@ ghost use Rattle.ev_call.specs.Addresses.{IsAddress};
 ghost use Rattle.zp_server.specs.Beginning.{IsPlace};
 ghost use Rattle.zp_server.specs.Ends.{Clients, ServeEnds, ServeFinishes, ServesFrom};
 ghost use Rattle.zp_server.specs.Logs.{LogStops};
+ghost use Rattle.zp_server.specs.Looking.{Finds, IsFound};
 ghost use Rattle.zp_server.specs.Telling.{Seen, Starts};
 ghost use Rattle.zx_net.specs.Nets.{NetCounts};
 
@@ -128,10 +129,11 @@ fn waited_for<
     out: &mut O,
     book: &mut B,
 ) -> Stop
-    ensures { (size : ℕ) (net : NetCounts) (limit : ℕ) (first : Seen) → LogStops size (Err stop) limit desk.old.busy.items first
+    ensures stops { (size : ℕ) (net : NetCounts) (limit : ℕ) (first : Seen) → LogStops size (Err stop) limit desk.old.busy.items first
         (record { net = net; out = record { taken = O.taken out.old; counts = O.counts out.old }; book = B.told book.old })
         → LogStops size (Err result) limit [] first
         (record { net = net; out = record { taken = O.taken out.new; counts = O.counts out.new }; book = B.told book.new }) }
+    ensures found { IsFound stop desk.old.own desk.old.free.items → IsFound result desk.new.own desk.new.free.items }
 {
     match stop {
         Stop::Feed(end) => await_rest(rt, alloc, house, end, desk, out, book),
@@ -172,7 +174,8 @@ where
     requires address { IsAddress endpoint.now }
     requires fresh { (N.counts net.old).accepted ≡ 0 }
     requires idle { desk.old.busy.items ≡ [] }
-    ensures { LogStops (length (addresses_in endpoint.now)) result limit []
+    ensures found { Finds result desk.new.own desk.new.free.items }
+    ensures stops { LogStops (length (addresses_in endpoint.now)) result limit []
         (record { net = N.counts net.old; out = record { taken = O.taken out.old; counts = O.counts out.old }; book = B.told book.old })
         (record { net = N.counts net.new; out = record { taken = O.taken out.new; counts = O.counts out.new }; book = B.told book.new }) }
 {
@@ -218,7 +221,9 @@ where
     requires address { IsAddress endpoint.now }
     requires fresh { (N.counts net.old).accepted ≡ 0 }
     requires idle { desk.old.busy.items ≡ [] }
-    ensures { Clients (length (addresses_in endpoint.now)) result listen.now limit
+    // Where the updates could not be followed, one of the server's readers found the list closed by that end.
+    ensures found { Finds result desk.new.own desk.new.free.items }
+    ensures clients { Clients (length (addresses_in endpoint.now)) result listen.now limit
         (record { net = N.counts net.old; out = record { taken = O.taken out.old; counts = O.counts out.old }; book = B.told book.old })
         (record { net = N.counts net.new; out = record { taken = O.taken out.new; counts = O.counts out.new }; book = B.told book.new }) }
 {
@@ -323,9 +328,7 @@ where
             return Err(refused);
         }
     }
-    match start_reapers(
-        *rt, alloc, queues, net, endpoint, at, random, stop, spawner,
-    ) {
+    match start_reapers(*rt, alloc, queues, net, endpoint, at, random, stop, spawner) {
         Ok(()) => Ok(()),
         Err(refused) => {
             tell_unstarted(rt, "reaper at", endpoint, &refused);
@@ -474,8 +477,8 @@ where
         Err(_refused) => return ServeEnd::Memory,
     };
     let stopped = serve_from(
-        rt, alloc, place, at, &stop, net, listen, endpoint, limit, spawner, clock, random, gate, out,
-        book,
+        rt, alloc, place, at, &stop, net, listen, endpoint, limit, spawner, clock, random, gate,
+        out, book,
     );
     stop.set();
     finish(alloc, stopped, out)

@@ -1,11 +1,12 @@
 //! Takes back what workers hand back.
 
-ghost use Rattle.std.specs.Prelude.{◌≡◌, ℕ, [], OnOk};
+ghost use Rattle.std.specs.Prelude.{◌≡◌, ℕ, [], OnOk, Contains};
 ghost use Rattle.std.specs.Arc.{arc_value};
 ghost use Rattle.zw_hub.specs.Ends.{MayBeTold};
 ghost use Rattle.zx_net.specs.Nets.{NetCounts};
 ghost use Rattle.zp_server.specs.Logs.{LogGoes, LogHalts, Rests};
-ghost use Rattle.zp_server.specs.Looking.{Finds};
+ghost use Rattle.zw_hub.specs.Readers.{ReaderState};
+ghost use Rattle.zp_server.specs.Looking.{Finds, IsFound, IsFoundClosed};
 
 use crate::back::Returned;
 use crate::book::Book;
@@ -33,6 +34,7 @@ pub fn take_back<I: Source + Drop, K: Sink + Drop, O: Sink, B: Book<I, K>>(
         (record { net = net; out = record { taken = O.taken out.old; counts = O.counts out.old }; book = B.told book.old })
         (record { net = net; out = record { taken = O.taken out.new; counts = O.counts out.new }; book = B.told book.new }) }
     ensures own { desk.new.own ≡ desk.old.own }
+    ensures kept { (r : ReaderState) → Contains desk.old.free.items r → Contains desk.new.free.items r }
     ensures found { Finds result desk.new.own desk.new.free.items }
 {
     let Returned { served, reader } = returned;
@@ -102,9 +104,12 @@ fn take_on<I: Source + Drop, K: Sink + Drop, O: Sink, B: Book<I, K>>(
     out: &mut O,
     book: &mut B,
 ) -> Result<(), Stop>
-    ensures { (size : ℕ) (net : NetCounts) → Rests size result desk.old.busy.items desk.new.busy.items
+    ensures rests { (size : ℕ) (net : NetCounts) → Rests size result desk.old.busy.items desk.new.busy.items
         (record { net = net; out = record { taken = O.taken out.old; counts = O.counts out.old }; book = B.told book.old })
         (record { net = net; out = record { taken = O.taken out.new; counts = O.counts out.new }; book = B.told book.new }) }
+    ensures own { desk.new.own ≡ desk.old.own }
+    ensures kept { (r : ReaderState) → Contains desk.old.free.items r → Contains desk.new.free.items r }
+    ensures found { Finds result desk.new.own desk.new.free.items }
 {
     match take_back(alloc, returned, desk, out, book) {
         Ok(()) => Ok(()),
@@ -115,7 +120,7 @@ fn take_on<I: Source + Drop, K: Sink + Drop, O: Sink, B: Book<I, K>>(
     }
 }
 
-/// Waits until every worker has handed back, since the hub is closed for this end.
+/// Waits until every worker has handed back, since the hub is closed for this end, as one of the server's readers found.
 pub fn await_rest<
     W: Wait,
     I: Source + Wakes + Drop,
@@ -132,9 +137,10 @@ pub fn await_rest<
     out: &mut O,
     book: &mut B,
 ) -> Stop
-    ensures { (size : ℕ) (net : NetCounts) → MayBeTold (arc_value end) → LogHalts size result 0 [] desk.old.busy.items []
+    ensures halts { (size : ℕ) (net : NetCounts) → MayBeTold (arc_value end) → LogHalts size result 0 [] desk.old.busy.items []
         (record { net = net; out = record { taken = O.taken out.old; counts = O.counts out.old }; book = B.told book.old })
         (record { net = net; out = record { taken = O.taken out.new; counts = O.counts out.new }; book = B.told book.new }) }
+    ensures found { IsFoundClosed (arc_value end) desk.old.own desk.old.free.items → IsFound result desk.new.own desk.new.free.items }
 {
     'takes: for _ in rt.forever() {
         if desk.is_idle() {
@@ -172,6 +178,7 @@ fn await_first<
         (record { net = net; out = record { taken = O.taken out.old; counts = O.counts out.old }; book = B.told book.old })
         (record { net = net; out = record { taken = O.taken out.new; counts = O.counts out.new }; book = B.told book.new }) }
     ensures idle { OnOk result (desk.new.busy.items ≡ []) }
+    ensures found { Finds result desk.new.own desk.new.free.items }
 {
     'takes: for _ in rt.forever() {
         if desk.is_idle() {
@@ -206,9 +213,10 @@ pub fn await_all<
     out: &mut O,
     book: &mut B,
 ) -> Result<(), Stop>
-    ensures { (size : ℕ) (net : NetCounts) → LogGoes size result 0 [] desk.old.busy.items []
+    ensures goes { (size : ℕ) (net : NetCounts) → LogGoes size result 0 [] desk.old.busy.items []
         (record { net = net; out = record { taken = O.taken out.old; counts = O.counts out.old }; book = B.told book.old })
         (record { net = net; out = record { taken = O.taken out.new; counts = O.counts out.new }; book = B.told book.new }) }
+    ensures found { Finds result desk.new.own desk.new.free.items }
 {
     match await_first(rt, alloc, house, desk, out, book) {
         Ok(()) => Ok(()),

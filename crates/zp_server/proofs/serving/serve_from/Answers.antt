@@ -15,4 +15,4 @@ pub returns-in-Err-start_workers : goal.returns-in-Err-start_workers
 returns-in-Err-start_workers g c = refused _ c.in-Err-start_workers.refused _ _ _ _ _ _ _ refl c.in-Err-start_workers.ensures refl refl refl
 
 pub returns : goal.returns
-returns g c = inr c.serve_clients-stopped.ensures
+returns g c = inr c.serve_clients-stopped.ensures.clients

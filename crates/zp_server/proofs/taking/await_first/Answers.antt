@@ -7,7 +7,7 @@ pub takes-init : goal.takes-init
 takes-init g c = (tt, tt, λ size net. logs_none _ false _ _)
 
 pub returns-then-is_idle : goal.returns-then-is_idle
-returns-then-is_idle g c = record { goes = c.takes.invariant.2; idle = c.is_idle.ensures c.if-is_idle.true }
+returns-then-is_idle g c = record { goes = c.takes.invariant.2; idle = c.is_idle.ensures c.if-is_idle.true; found = tt }
 
 pub returns-in-Err-clause-goes : goal.returns-in-Err-clause-goes
 returns-in-Err-clause-goes g c = λ size net. starves_later _ 0 _ _ [] _ _ (c.takes.invariant.2 size net)

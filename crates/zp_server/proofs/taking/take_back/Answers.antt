@@ -1,6 +1,6 @@
 use Rattle.std.proofs.Common.{[], Err}
 use Rattle.zp_server.proofs.Halting.{not_open, taken_closed, unbooked_closed, unclosed, unkept_closed}
-use Rattle.zp_server.proofs.Looks.{found_by_returned, nothing_found}
+use Rattle.zp_server.proofs.Looks.{found_by_returned, kept_more, nothing_found}
 use Rattle.zp_server.proofs.taking.take_back.Goals as goal
 
 pub returns-then-not-strike-clause-goes : goal.returns-then-not-strike-clause-goes
@@ -23,3 +23,6 @@ returns-in-Err-clause-found g c = nothing_found (Err c.in-Err.stop) _ _ _ _ _ c.
 
 pub returns-in-Ok-push-clause-found : goal.returns-in-Ok-push-clause-found
 returns-in-Ok-push-clause-found g c = found_by_returned c.closing_of-closing.result _ _ _ _ _ _ c.closing_of-closing.ensures c.in-Ok-push.ensures.items
+
+pub returns-in-Ok-push-clause-kept : goal.returns-in-Ok-push-clause-kept
+returns-in-Ok-push-clause-kept g c = kept_more _ _ _ c.in-Ok-push.ensures.items
