@@ -34,6 +34,13 @@ net_words net.Denied = codes "this program may not listen there"
 net_words net.NoRoom = codes "no descriptor is left"
 net_words net.Failed = codes "it cannot be listened on"
 
+unfoldable pub dial_words : NetFault → List ℕ
+dial_words net.InUse = codes "it cannot be dialled"
+dial_words net.NoAddress = codes "there is no such host: an endpoint is HOST:PORT"
+dial_words net.Denied = codes "this program may not dial it"
+dial_words net.NoRoom = codes "no descriptor is left"
+dial_words net.Failed = codes "nobody answers there: is etcd up, and is this its port for clients?"
+
 abbrev pub gap_words : ℤ → ℤ → List ℕ
 gap_words expected found = codes "update " ++ (signed_decimal expected ++ (codes " is missing, " ++ (signed_decimal found ++ codes " came")))
 
@@ -41,7 +48,8 @@ abbrev pub behind_words : ℤ → List ℕ
 behind_words rev = codes "it is at revision " ++ (signed_decimal rev ++ codes ", behind what was told already: perhaps a restored backup")
 
 unfoldable pub words : Fault → List ℕ
-words fault.First = codes "no answer"
+words fault.First = codes "it gave no answer: is this the port for clients of an etcd 3.4 or newer, and has its cluster a leader?"
+words (fault.Undialled why) = dial_words why
 words fault.Dial = codes "nobody answers"
 words (fault.Http why) = http_words why
 words (fault.Json why) = json_words why

@@ -2,7 +2,7 @@
 
 ghost use Rattle.std.specs.Prelude.{◌≡◌, Some};
 ghost use Rattle.std.specs.Fmt.{DisplaysOnOk};
-ghost use Rattle.ev_words.specs.Words.{behind_words, gap_words, http_words, json_words, net_words, words};
+ghost use Rattle.ev_words.specs.Words.{behind_words, dial_words, gap_words, http_words, json_words, net_words, words};
 
 use ev_http::HttpFault;
 use ev_json::JsonFault;
@@ -13,8 +13,10 @@ use zx_net::NetFault;
 /// A fault of etcd, of the way to it, or of the start.
 #[derive(Clone, Copy)]
 pub enum Fault {
-    /// The first ask had no answer.
+    /// The endpoint can be dialled, and gave no answer to the first ask.
     First,
+    /// The endpoint could not be dialled for the first ask.
+    Undialled(NetFault),
     /// Nobody answers at the address.
     Dial,
     /// A message could not be sent or read.
@@ -78,6 +80,19 @@ fn net_words(fault: NetFault) -> &'static str
     }
 }
 
+#[tactic(auto, unfolding(crate::specs::Words::dial_words))]
+fn dial_words(fault: NetFault) -> &'static str
+    ensures { result.now ≡ dial_words fault }
+{
+    match fault {
+        NetFault::InUse => "it cannot be dialled",
+        NetFault::NoAddress => "there is no such host: an endpoint is HOST:PORT",
+        NetFault::Denied => "this program may not dial it",
+        NetFault::NoRoom => "no descriptor is left",
+        NetFault::Failed => "nobody answers there: is etcd up, and is this its port for clients?",
+    }
+}
+
 #[tactic(auto, unfolding(crate::specs::Words::json_words))]
 fn json_words(fault: JsonFault) -> &'static str
     ensures { result.now ≡ json_words fault }
@@ -112,7 +127,10 @@ impl Display for Fault {
     #[tactic(auto, unfolding(crate::specs::Words::words))]
     fn fmt<W: Write>(&self, f: &mut Formatter<W>) -> fmt::Result {
         match self {
-            Fault::First => f.write_str("no answer"),
+            Fault::First => f.write_str(
+                "it gave no answer: is this the port for clients of an etcd 3.4 or newer, and has its cluster a leader?",
+            ),
+            Fault::Undialled(fault) => f.write_str(dial_words(*fault)),
             Fault::Dial => f.write_str("nobody answers"),
             Fault::Http(fault) => write_http(*fault, f),
             Fault::Json(fault) => f.write_str(json_words(*fault)),

@@ -50,6 +50,7 @@ mod bells;
 mod book;
 mod desk;
 mod ends;
+mod explaining;
 mod fresh;
 mod gate;
 mod house;

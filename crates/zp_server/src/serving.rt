@@ -16,12 +16,12 @@ use crate::bells::Bells;
 use crate::book::Book;
 use crate::desk::Desk;
 use crate::ends::{ServeEnd, Stop};
+use crate::explaining::{explain, tell_schemes};
 use crate::gate::Gate;
 use crate::house::House;
 use crate::lines::{NET_FAULT, feed, listening, write_all};
 use crate::starting::{Home, Opened, begin_at, start_reapers, start_watch};
 use crate::taking::{await_all, await_rest};
-use ev_addresses::{address_at, count_of};
 use ev_call::Cluster;
 use ev_words::{Fault, tell};
 use std::alloc::Global;
@@ -78,21 +78,11 @@ fn finish<O: Sink>(alloc: Global, stopped: Result<(), Stop>, out: &mut O) -> Ser
     }
 }
 
-/// What an operator is told where the first ask came to nothing.
-fn first_fault(stop: &Stop) -> Fault {
+/// Tells the operator why the first ask came to nothing.
+fn tell_first<R: Eprint, N: Net + Drop>(rt: &R, net: &N, endpoint: &str, stop: &Stop) {
     match stop {
-        Stop::Memory => Fault::Memory,
-        Stop::Net | Stop::Write | Stop::Feed(_) => Fault::First,
-    }
-}
-
-/// Tells the operator of addresses with a scheme, which cannot be dialled.
-fn tell_schemes<R: Eprint>(rt: &R, endpoint: &str) {
-    'addresses: for index in 0..count_of(endpoint) {
-        let address = address_at(endpoint, index);
-        if address.contains("://") {
-            tell(rt, "endpoint", address, Fault::Scheme);
-        }
+        Stop::Memory => tell(rt, "first ask of", endpoint, Fault::Memory),
+        Stop::Net | Stop::Write | Stop::Feed(_) => explain(rt, net.another(), endpoint),
     }
 }
 
@@ -462,14 +452,14 @@ where
         (record { net = N.counts net.old; out = record { taken = O.taken out.old; counts = O.counts out.old }; book = B.told book.old })
         (record { net = N.counts net.new; out = record { taken = O.taken out.new; counts = O.counts out.new }; book = B.told book.new }) }
 {
-    tell_schemes(rt, endpoint);
     let place = match begin(alloc, cluster, clock.now(), endpoint) {
         Ok(place) => place,
         Err(stop) => {
-            tell(rt, "first ask of", endpoint, first_fault(&stop));
+            tell_first(rt, &*net, endpoint, &stop);
             return finish(alloc, Err(stop), out);
         }
     };
+    tell_schemes(rt, endpoint);
     // The look of `begin` may have gone on to an endpoint that answers.
     let at = cluster.at() as usize;
     let stop = match SharedStop::new(alloc) {

@@ -64,6 +64,7 @@ damage_linked false h = absurd (cc)
 for_told : {A : Type 0} (result : Result A Fault) (size : ℕ) (counts counts' : NetCounts) → ((failed : ℕ) × (failed < size) × (counts' ≡ undialled_times failed counts)) → (result ≡ Err told.Dial → ⊥) → DialsFor result size counts counts'
 for_told (Ok x) size counts counts' h other = h
 for_told (Err told.First) size counts counts' h other = h
+for_told (Err (told.Undialled why)) size counts counts' h other = h
 for_told (Err told.Dial) size counts counts' h other = absurd (other refl)
 for_told (Err (told.Http fault)) size counts counts' h other = h
 for_told (Err (told.Json fault)) size counts counts' h other = h
@@ -88,6 +89,7 @@ dials_told None mine result size counts counts' h other = for_told result size c
 
 for_unlinked : (A B : Type 0) (fault : Fault) (size : ℕ) (counts counts' : NetCounts) → DialsFor {A = A} (Err fault) size counts counts' → DialsFor {A = B} (Err fault) size counts counts'
 for_unlinked A B told.First size counts counts' h = h
+for_unlinked A B (told.Undialled why) size counts counts' h = h
 for_unlinked A B told.Dial size counts counts' h = h
 for_unlinked A B (told.Http fault) size counts counts' h = h
 for_unlinked A B (told.Json fault) size counts counts' h = h
@@ -119,6 +121,7 @@ times-both (suc n) m counts = ap undialled (times-both n m counts) ∙ (let all 
 for-dials : (result : Result (Unit {0}) Fault) (size : ℕ) (counts counts' : NetCounts) → DialsFor result size counts counts' → OnlyDials counts counts'
 for-dials (Ok x) size counts counts' h = record { failed = h.0; counted = h.2 }
 for-dials (Err told.First) size counts counts' h = record { failed = h.0; counted = h.2 }
+for-dials (Err (told.Undialled why)) size counts counts' h = record { failed = h.0; counted = h.2 }
 for-dials (Err told.Dial) size counts counts' h = record { failed = size; counted = h }
 for-dials (Err (told.Http fault)) size counts counts' h = record { failed = h.0; counted = h.2 }
 for-dials (Err (told.Json fault)) size counts counts' h = record { failed = h.0; counted = h.2 }

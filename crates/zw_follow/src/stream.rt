@@ -235,6 +235,7 @@ fn broken(fault: Fault, taken: Taken) -> StreamEnd
             is_barren: is_nothing(taken),
         },
         Fault::First
+        | Fault::Undialled(_)
         | Fault::Dial
         | Fault::Ended
         | Fault::Compacted(_)
