@@ -45,6 +45,8 @@
 //! or its name is not known; this program may not (EACCES, EPERM); or no descriptor or memory is left (EMFILE, ENFILE, ENOBUFS, ENOMEM).
 //! Where an address was given as a name and several were found, the fault is that of the last one tried.
 //!
+//! [`connect`], [`ends_of`] and [`prepare`] are parts of a dial and of an accept, and [`Patience`] is a peer's: they can be tried alone.
+//!
 //! # What is proved
 //!
 //! Every function is safe, counts are exact, an end is for good, and names are as `zx_net` has them. No contract says
@@ -61,13 +63,12 @@ mod pauses;
 mod sink;
 mod source;
 mod spawner;
-#[cfg(test)]
-mod tests;
 mod waits;
 
 pub use bell::SocketBell;
 pub use clock::StdClock;
-pub use net::{StdDoor, StdNet};
+pub use net::{StdDoor, StdNet, connect, ends_of, prepare};
+pub use patience::Patience;
 pub use sink::SocketSink;
 pub use source::SocketSource;
 pub use spawner::ThreadSpawner;

@@ -1,6 +1,3 @@
-use crate::net::{connect, ends_of, prepare};
-use crate::patience::Patience;
-use crate::{SocketSink, SocketSource, StdClock, StdNet, ThreadSpawner};
 use libc::net as c;
 use std::io::Write;
 use std::net::{TcpListener, TcpStream};
@@ -12,6 +9,9 @@ use std::time::{Clock as SystemClock, Duration, Instant};
 use std::{fs, io, thread};
 use zx_net::{Bell, Clock, InlineSpawner, MemNet, Net, NetFault, Spawner, Wakes};
 use zx_outside::{Got, Sink, Source, Took};
+use zx_sockets::{
+    Patience, SocketSink, SocketSource, StdClock, StdNet, ThreadSpawner, connect, ends_of, prepare,
+};
 use zx_words::{HangsUp, LetsGo};
 
 /// How many turns a test waits at most for what has to come.
