@@ -9,7 +9,7 @@ const LEAST_PAUSE: u64 = 2000;
 const PAUSES: u64 = 4000;
 
 /// The pause before a turn where there is work, in milliseconds.
-const BUSY_PAUSE: u64 = 50;
+const BUSY_PAUSE: u64 = 10;
 
 /// The next word is the one before it by this, and the number below more (Knuth's MMIX generator): no two words of 2^64 are the same.
 const FACTOR: u64 = 6_364_136_223_846_793_005;
