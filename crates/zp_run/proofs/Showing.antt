@@ -15,12 +15,17 @@ use Rattle.zp_step.specs.declared.action.Action.TheVariants as action
 use Rattle.zp_step.specs.declared.input.Input.{Input}
 use Rattle.zp_step.proofs.Ending.{notices-only, only_sends}
 use Rattle.zp_run.specs.Causes.{IsEndReply, Shows}
-use Rattle.zp_run.specs.Heard.{Heard, EndsFor, HoldsHeard, MayEndFor, Rests}
+use Rattle.zp_run.specs.Heard.{Heard, EndsFor, HoldsHeard, MayEndFor}
 use Rattle.zp_run.specs.Runs.{closed_for}
 use Rattle.zn_view.specs.declared.plan.Who.{Who}
 
+-- what waits and what the stage holds came
+pub record Held (k : Heard) (c : Core) : Type 0 where
+  pub waiting : All (Contains k.frames) c.waiting
+  pub stage : HoldsHeard k c.who c.stage
+
 pub record Done (k : Heard) (c0 : Core) (x : Input) (c' : Core) (out : List Action) : Type 0 where
-  pub rests : Rests k c'
+  pub rests : Held k c'
   pub shows : (why : Cause) → closed_for out ≡ Some why → Shows k c0 x c'.who out why
   pub unended : c'.stage ≡ Ready → only_sends out ≡ true
 
@@ -56,7 +61,7 @@ module _ (k : Heard) (c0 : Core) (x : Input) (who : Who) (first later : List Act
   shows-more (cause.BadLength place length) h = h
   shows-more (cause.NoHeader place) h = h
   shows-more cause.AuthRefused h = record { frame = h.frame; came = h.came; told = h.told; plain = h.plain; refused = h.refused; zxid = h.zxid; sent = Contains-append_right first later _ h.sent }
-  shows-more cause.Unknown h = record { request = h.request; heard = h.heard; view = h.view; gathered = h.gathered; none = h.none; sent = Contains-append_right first later _ h.sent }
+  shows-more cause.Unknown h = record { connect = h.connect; connecting = h.connecting; resumes = h.resumes; view = h.view; gathered = h.gathered; looked = h.looked; none = h.none; sent = Contains-append_right first later _ h.sent }
   shows-more (cause.ZxidAhead client head) h = h
   shows-more (cause.Taken revision) h = h
   shows-more cause.LinkFault h = h
@@ -82,7 +87,7 @@ closed-done k c0 x c c' why out w h i = done-is k c0 x (closed_by c why) c' out 
   unended = λ r. absurd (cc);
 })
 
-pub asks-done : (k : Heard) (c0 : Core) (x : Input) (d c' : Core) (q : Ask) (out : List Action) → Rests k d → (d.stage ≡ Ready → ⊥) → Is (d, action.Ask q ∷ []) c' out → Done k c0 x c' out
+pub asks-done : (k : Heard) (c0 : Core) (x : Input) (d c' : Core) (q : Ask) (out : List Action) → Held k d → (d.stage ≡ Ready → ⊥) → Is (d, action.Ask q ∷ []) c' out → Done k c0 x c' out
 asks-done k c0 x d c' q out h unready i = done-is k c0 x (d, action.Ask q ∷ []) c' out i (record {
   rests = h;
   shows = λ why e. absurd (none_some e);

@@ -4,38 +4,42 @@ use Rattle.std.specs.Prelude.{◌⊎◌, Option, Some, None, All, Contains, Matc
 use Rattle.std.specs.Arc.{arc_value}
 use Rattle.std.specs.Ordering.{int_eq}
 use Rattle.std.proofs.lemmas.List.Elements.{All-append, All-cons, All-head, All-nil, All-tail, Contains-append_right}
+use Rattle.ev_types.specs.Store.{chosen}
 use Rattle.ev_types.specs.declared.answer.ActAns.{ActAns}
 use Rattle.ev_types.specs.declared.answer.Answer.{Answer}
 use Rattle.ev_types.specs.declared.answer.Answer.TheVariants as answer
 use Rattle.ev_types.specs.declared.answer.Kv.{Kv}
 use Rattle.ev_types.specs.declared.ask.Ask.{Ask}
+use Rattle.ev_types.specs.declared.ask.Ask.TheVariants as ask
+use Rattle.ev_types.specs.declared.ask.TxnReq.{TxnReq}
 use Rattle.zk_jute.specs.Connects.{read_connect}
-use Rattle.zk_jute.specs.Packets.{reply_packet}
+use Rattle.zk_jute.specs.Packets.{connect_packet, reply_packet}
 use Rattle.zk_jute.specs.Requests.{Frame, NoHeader, Unreadable, Unknown, Asks, read_request}
 use Rattle.zk_model.specs.Watches.{fire_all, no_watches}
 use Rattle.zk_model.specs.declared.connect.ConnectRequest.{ConnectRequest}
 use Rattle.zk_model.specs.declared.request.Request.{Request}
 use Rattle.zk_model.specs.declared.request.Request.TheVariants as req
 use Rattle.zk_service.proofs.PlainReplies.{plain-closes, plain-none}
-use Rattle.zk_service.specs.Answers.{Told, only, plain_reply, xid_of, has_header, is_auth_refusal}
+use Rattle.zk_service.specs.Answers.{Told, only, plain_reply, xid_of, refusal, has_header, is_auth_refusal}
 use Rattle.zk_service.specs.declared.cause.Cause.TheVariants as cause
+use Rattle.zn_layout.specs.Keys.{HeadKey, key_bytes}
 use Rattle.zn_layout.specs.declared.entry.Entry.{Entry}
 use Rattle.zn_layout.specs.declared.record.LeaseRec.{LeaseRec}
 use Rattle.zn_view.specs.Adding.{at_revision}
-use Rattle.zn_view.specs.Asks.{with_parts}
+use Rattle.zn_view.specs.Asks.{plan_txn, ranges_of, reading, transaction, with_parts}
 use Rattle.zn_view.specs.Deciding.{IsTested, IsTestedBy, is_by_tree}
 use Rattle.zn_view.specs.Keeping.{update_path}
-use Rattle.zn_view.specs.Lookups.{found_at, sees}
-use Rattle.zn_view.specs.Seen.{View, empty_view, found_of, head_of, head_zxid}
+use Rattle.zn_view.specs.Lookups.{HasSeen, found_at, sees}
+use Rattle.zn_view.specs.Seen.{View, empty_view, head_of, head_zxid, found_of, seen}
 use Rattle.zn_view.specs.declared.plan.Decision.{Decision}
 use Rattle.zn_view.specs.declared.plan.Decision.TheVariants.{Answered, Planned, Expired, Moved}
 use Rattle.zn_view.specs.declared.plan.Plan.{Plan}
 use Rattle.zn_view.specs.declared.plan.Who.{Who}
 use Rattle.zn_view.specs.declared.want.Want.{Want}
 use Rattle.zs_session.specs.Alive.{is_alive_due}
-use Rattle.zs_session.specs.Answering.{OfTxn, viewed}
-use Rattle.zs_session.specs.Connecting.{ConnectAnswers, Attached, Created, ConnectEnds, IsConnectFault, IsFaultOfConnect, Kept, ConnectLookedAgain, ConnectLooksFirst, ConnectMoves, Resumes, SawNoneOfMine, Waits, asked_by_connect as connect_asked, asked_in_phase, is_taken}
-use Rattle.zs_session.specs.Sessions.{attach_wants, first_wants, life_key, session_wants}
+use Rattle.zs_session.specs.Answering.{ArePartsOf, IsAnswerTo, IsAwaited, OfTxn, viewed}
+use Rattle.zs_session.specs.Connecting.{ConnectAnswers, Attached, Created, ConnectEnds, IsConnectFault, IsFaultOfConnect, Kept, ConnectLookedAgain, ConnectLooksFirst, ConnectMoves, Resumes, SawNoneOfMine, Waits, asked_by_connect as connect_asked, asked_in_phase, is_taken, timeout_in}
+use Rattle.zs_session.specs.Sessions.{attach_txn, attach_wants, first_wants, life_key, new_session_txn, session_wants}
 use Rattle.zs_session.specs.declared.connect.Connect.{Connect}
 use Rattle.zs_session.specs.declared.connect.ConnectStep.{ConnectStep}
 use Rattle.zs_session.specs.declared.connect.ConnectStep.TheVariants as steps
@@ -56,24 +60,27 @@ use Rattle.zp_step.specs.Keepalives.{Checked, KeptAlive, Looked, StillMine, Take
 use Rattle.zp_step.specs.Kept.{keeps}
 use Rattle.zp_step.specs.Plans.{Committed, ReadOn, end_after, finishes}
 use Rattle.zp_step.specs.Replies.{Is, close_after, closed_by, stage_after, waits}
-use Rattle.zp_step.specs.Stages.{Core, Pending, Stage, Unconnected, Connecting, Ready, KeepingAlive, Checking, Reading, Committing, Waiting, Shut, counted_up, is_shut, new_core}
-use Rattle.zp_step.specs.Steps.{Answers, Comes, Goes, Handles, Steps, StepsOpen, with_frame_counted, queued, rests, takes}
+use Rattle.zp_step.specs.Ending.{asked_by}
+use Rattle.zp_step.specs.Stages.{Core, Pending, Stage, Unconnected, Connecting, Ready, KeepingAlive, Checking, Reading, Committing, Waiting, Shut, asked_of, counted_up, is_shut, new_core}
+use Rattle.zp_step.specs.Steps.{Answers, Comes, Goes, Handles, IsFit, MayTake, Steps, StepsOpen, with_frame_counted, queued, rests, takes}
 use Rattle.zp_step.specs.Taking.{TakesFrame, TakesReadable, end_of_plain, plainly}
 use Rattle.zp_step.specs.declared.action.Action.{Action}
 use Rattle.zp_step.specs.declared.action.Action.TheVariants as action
 use Rattle.zp_step.specs.declared.input.Input.{Input}
 use Rattle.zp_step.specs.declared.input.Input.TheVariants as input
-use Rattle.zp_run.proofs.Hearing.{hears-more, rests-more}
-use Rattle.zp_run.proofs.Showing.{Done, asks-done, closed-done, done-after, done-is, waits-done}
-use Rattle.zp_run.specs.Causes.{IsConnectHeard, IsTakenAt, Shows}
-use Rattle.zp_run.specs.Heard.{Heard, HoldsHeard, IsFrameAsking, IsGathered, MayEndFor, Rests, hears, nothing, nothing_heard, round}
+use Rattle.zp_run.proofs.Asking.{asks-left}
+use Rattle.zp_run.proofs.Hearing.{asked-more, hears-asked, hears-more, holds-more}
+use Rattle.zp_run.proofs.Looking.{AsksFor, absent, first-head, first-life, looked-up, read-parts}
+use Rattle.zp_run.proofs.Showing.{Done, Held, asks-done, closed-done, done-after, done-is, waits-done}
+use Rattle.zp_run.specs.Causes.{IsAhead, IsConnecting, IsTakenAt, LacksHeader, Shows}
+use Rattle.zp_run.specs.Heard.{Heard, HoldsHeard, IsConnectHeard, IsFrameAsking, IsGathered, IsResume, MayEndFor, Rests, ResumesFrom, heard_after, hears, nothing, nothing_heard, round, then_asked, with_answer}
 use Rattle.zp_run.specs.Laws.{StepRests}
 use Rattle.zp_run.specs.Runs.{closed_for}
 use Rattle.zx_base.proofs.Booleans.{either}
 
 -- ---- the session's record, where the decision is by it
 
-tested-gone : (who : Who) (o : Option (Option Kv)) → IsTestedBy who Expired o → found_of o ≡ None
+tested-gone : (who : Who) (o : Option (Option Kv)) → IsTestedBy who Expired o → o ≡ Some None
 tested-gone who None h = absurd h
 tested-gone who (Some None) h = refl
 tested-gone who (Some (Some kv)) h = absurd (either (int_eq kv.mod_revision who.mine) (is_by_tree Expired ≡ true) (Expired ≡ Moved kv.mod_revision) ⊥ h (λ e. cc) (λ e. cc))
@@ -95,6 +102,20 @@ tested-moved who found (Some (Some kv)) h = go (int_eq kv.mod_revision who.mine)
     go : (b : Bool) → int_eq kv.mod_revision who.mine ≡ b → MatchBool b (is_by_tree (Moved found) ≡ true) (Moved found ≡ Moved kv.mod_revision) → IsTestedMoved who found (Some (Some kv))
     go true e g = absurd (cc)
     go false e g = let same = moved-is found kv.mod_revision g in record { kv = kv; there = refl; put = sym same; other = ap (λ z. int_eq z who.mine) same ∙ e }
+
+-- this answer was heard to what was asked, and fits it; it is the input
+record IsToldSo (k : Heard) (x : Input) (q : Ask) (a : Answer) : Type 0 where
+  pub heard : Contains k.answers (q, a)
+  pub fit : IsAnswerTo q a
+  pub came : x ≡ input.Answer a
+
+-- a resume is refused by this view
+record IsRefusedBy (k : Heard) (c0 : Core) (c : Connect) (v : View) : Type 0 where
+  pub connecting : IsConnecting k c0 c
+  pub resumes : IsResume c.request
+  pub gathered : IsGathered k.answers v
+  pub looked : (int_lt c.request.session (pos 1) ≡ true) ⊎ HasSeen v (life_key c.request.session)
+  pub none : SawNoneOfMine c.request v
 
 module _ (k : Heard) (c0 : Core) (x : Input) where
   abbrev Waits-heard : Core → Type 0
@@ -188,30 +209,45 @@ module _ (k : Heard) (c0 : Core) (x : Input) where
       closed-done k c0 x c c' (cause.Damaged e.key e.value) out w (record { revision = revision; succeeded = succeeded; parts = parts; came = came; wants = ws; damaged = e.found }) e.is
   records-done c c' ws revision succeeded parts out Next w came f (inr h) = f h.1
 
-  gathers : (old : View) (ws : List Want) (revision : ℤ) (succeeded : Bool) (parts : List ActAns) (a : Answer) → Contains k.answers a → a ≡ answer.Txn revision succeeded parts → IsGathered k.answers old → IsGathered k.answers (with_parts (at_revision old revision) ws parts)
-  gathers old ws revision succeeded parts a h e g = round old ws revision succeeded parts g (subst (Contains k.answers) e h) refl
+  abbrev Told-so : Ask → Answer → Type 0
+  Told-so q a = IsToldSo k x q a
 
-  module _ (a : Answer) (heard : Contains k.answers a) (came : x ≡ input.Answer a) where
-    view-of : (ws : List Want) (revision : ℤ) (succeeded : Bool) (parts : List ActAns) → a ≡ answer.Txn revision succeeded parts → IsGathered k.answers (viewed revision ws parts)
-    view-of ws revision succeeded parts e = gathers empty_view ws revision succeeded parts a heard e (nothing refl)
+  abbrev reading_txn : ℤ → List Want → TxnReq
+  reading_txn at ws = record { guards = []; success = ranges_of at ws; failure = [] }
 
-    comes-as : (revision : ℤ) (succeeded : Bool) (parts : List ActAns) → a ≡ answer.Txn revision succeeded parts → x ≡ input.Answer (answer.Txn revision succeeded parts)
-    comes-as revision succeeded parts e = came ∙ ap input.Answer e
+  -- what was read at once, and after a view
+  gathers : (old : View) (ws : List Want) (z : ℤ) (b : Bool) (parts : List ActAns) → Told-so (reading old.revision ws) (answer.Txn z b parts) → IsGathered k.answers old → IsGathered k.answers (with_parts (at_revision old z) ws parts)
+  gathers old ws z b parts t g = round old (reading_txn old.revision ws) ws z b parts g t.heard (ap (λ (y : Bool). chosen y (reading_txn old.revision ws)) (t.fit).succeeds) refl
 
-    -- a transaction's answer, with the equation
-    by-txn : (P : ℤ → Bool → List ActAns → Type 0) (R : Type 0) → OfTxn a P → ((z : ℤ) (b : Bool) (parts : List ActAns) → a ≡ answer.Txn z b parts → P z b parts → R) → R
+  view-of : (ws : List Want) (z : ℤ) (b : Bool) (parts : List ActAns) → Told-so (reading (pos 0) ws) (answer.Txn z b parts) → IsGathered k.answers (viewed z ws parts)
+  view-of ws z b parts t = gathers empty_view ws z b parts t (nothing refl)
+
+  -- what a guard that failed read
+  again-of : (t : TxnReq) (ws : List Want) (z : ℤ) (parts : List ActAns) → t.failure ≡ ranges_of (pos 0) ws → Told-so (ask.Txn t) (answer.Txn z false parts) → IsGathered k.answers (viewed z ws parts)
+  again-of t ws z parts fails h = round empty_view t ws z false parts (nothing refl) h.heard fails refl
+
+  -- each key that was looked up is seen
+  sees-first : (at : ℤ) (ws : List Want) (z : ℤ) (b : Bool) (parts : List ActAns) (key : Bytes) → AsksFor key ws → Told-so (reading at ws) (answer.Txn z b parts) → seen (viewed z ws parts) key ≡ None → ⊥
+  sees-first at ws z b parts key h t = looked-up key ws at parts (at_revision empty_view z) h (read-parts at ws z b parts t.fit)
+
+  sees-again : (t : TxnReq) (ws : List Want) (z : ℤ) (parts : List ActAns) (key : Bytes) → t.failure ≡ ranges_of (pos 0) ws → AsksFor key ws → Told-so (ask.Txn t) (answer.Txn z false parts) → seen (viewed z ws parts) key ≡ None → ⊥
+  sees-again t ws z parts key fails h s = looked-up key ws (pos 0) parts (at_revision empty_view z) h (subst (λ acts. ArePartsOf acts parts) fails (s.fit).each)
+
+  module _ (q : Ask) (a : Answer) (told : Told-so q a) where
+    -- a transaction's answer
+    by-txn : (P : ℤ → Bool → List ActAns → Type 0) (R : Type 0) → OfTxn a P → ((z : ℤ) (b : Bool) (parts : List ActAns) → Told-so q (answer.Txn z b parts) → P z b parts → R) → R
     by-txn P R h f = go a refl h
       where
         go : (y : Answer) → a ≡ y → OfTxn y P → R
-        go (answer.Txn z b parts) e g = f z b parts e g
+        go (answer.Txn z b parts) e g = f z b parts (subst (Told-so q) e told) g
         go (answer.Range z found) e g = absurd g
         go (answer.Granted z id ttl) e g = absurd g
         go (answer.Alive z id ttl) e g = absurd g
 
-    still-done : (c c' : Core) (bytes : List ℕ) (v : View) (now : ℕ) (out : List Action) (o : Option Kv) → found_at v (life_key c.who.session) ≡ o → Waits-heard c → Contains k.frames bytes → IsGathered k.answers v → StillMine c bytes v now c' out o → Done k c0 x c' out
-    still-done c c' bytes v now out None e w f g h =
-        waits-done k c0 x c c' (expired v (xid_of (read_request bytes))) out w (refl, record { view = v; gathered = g; at = refl; gone = e }) h
-    still-done c c' bytes v now out (Some kv) e w f g h = go (int_eq kv.mod_revision c.who.mine) refl h
+    still-done : (c c' : Core) (bytes : List ℕ) (v : View) (now : ℕ) (out : List Action) (o : Option Kv) → HasSeen v (life_key c.who.session) → found_at v (life_key c.who.session) ≡ o → Waits-heard c → Contains k.frames bytes → IsGathered k.answers v → StillMine c bytes v now c' out o → Done k c0 x c' out
+    still-done c c' bytes v now out None known e w f g h =
+        waits-done k c0 x c c' (expired v (xid_of (read_request bytes))) out w (refl, record { view = v; gathered = g; at = refl; gone = absent (sees v (life_key c.who.session)) known e }) h
+    still-done c c' bytes v now out (Some kv) known e w f g h = go (int_eq kv.mod_revision c.who.mine) refl h
       where
         m : Pending
         m = moved c.who v kv.mod_revision (xid_of (read_request bytes))
@@ -220,23 +256,11 @@ module _ (k : Heard) (c0 : Core) (x : Input) where
         go true same i = takes-done c c' bytes now out w f i
         go false other i = waits-done k c0 x c c' m out w (refl, record { view = v; gathered = g; own = refl; kv = kv; there = e; put = refl; other = other }) i
 
-    checked-done : (c c' : Core) (bytes : List ℕ) (now : ℕ) (out : List Action) → Waits-heard c → Contains k.frames bytes → Checked c bytes now c' out a → Done k c0 x c' out
-    checked-done c c' bytes now out w f h = by-txn _ (Done k c0 x c' out) h (λ z b parts e i.
-        let v = viewed z (attach_wants c.who.session) parts in
-        records-done c c' (attach_wants c.who.session) z b parts out (Looked c bytes now c' out v) w (comes-as z b parts e)
-        (still-done c c' bytes v now out (found_at v (life_key c.who.session)) refl w f (view-of (attach_wants c.who.session) z b parts e)) i)
-
     alive-done : (c c' : Core) (bytes : List ℕ) (now : ℕ) (out : List Action) → Waits-heard c → Contains k.frames bytes → KeptAlive c bytes now c' out a → Done k c0 x c' out
     alive-done c c' bytes now out w f h = of_alive a _ (Done k c0 x c' out) h (λ ttl i.
         either (int_eq ttl (pos 0)) (Is (checks c bytes) c' out) (TakesFrame c bytes now c' out) (Done k c0 x c' out) i
         (asks-done k c0 x (record c { stage = Checking bytes }) c' _ out (record { waiting = w; stage = f }) (λ e. cc))
         (takes-done c c' bytes now out w f))
-
-    read-done : (c c' : Core) (xid : ℤ) (r : Request) (v : View) (ws : List Want) (now : ℕ) (out : List Action) → Waits-heard c → IsFrameAsking k xid r → IsForTree r → IsGathered k.answers v → ReadOn c xid r v ws now c' out a → Done k c0 x c' out
-    read-done c c' xid r v ws now out w f t g h = by-txn _ (Done k c0 x c' out) h (λ z b parts e i.
-        let y = with_parts (at_revision v z) ws parts in
-        records-done c c' ws z b parts out (Looks c xid r y now c' out) w (comes-as z b parts e)
-        (looks-done c c' xid r y now out w f t (gathers v ws z b parts a heard e g)) i)
 
     finished-may : (c : Core) (xid z : ℤ) (r : Request) (p : Plan) (parts : List ActAns) → IsFrameAsking k xid r → MayEndFor k c.who (finishes xid r p z parts) (end_after r)
     finished-may c xid z req.Close p parts f = f
@@ -246,23 +270,41 @@ module _ (k : Heard) (c0 : Core) (x : Input) where
     finished-may c xid z (req.Multi ps) p parts f = tt
     finished-may c xid z _ p parts f = tt
 
-    committed-done : (c c' : Core) (xid : ℤ) (r : Request) (v : View) (p : Plan) (now : ℕ) (out : List Action) (z : ℤ) (b : Bool) (parts : List ActAns) → Waits-heard c → IsFrameAsking k xid r → IsForTree r → a ≡ answer.Txn z b parts → Committed c xid r v p now c' out z b parts → Done k c0 x c' out
-    committed-done c c' xid r v p now out z true parts w f t e h =
-        let b = leaves-beside c h.kept (update_path r) v p z parts h.leaves in
-        waits-done k c0 x h.kept c' (finishes xid r p z parts) out (subst Waits-heard (sym b.1) w) (finished-may h.kept xid z r p parts f) h.is
-    committed-done c c' xid r v p now out z false parts w f t e h =
-        let y = viewed z p.again parts in
-        records-done c c' p.again z false parts out (Looks c xid r y now c' out) w (comes-as z false parts e)
-        (looks-done c c' xid r y now out w f t (view-of p.again z false parts e)) h
+  checked-done : (a : Answer) (c c' : Core) (bytes : List ℕ) (now : ℕ) (out : List Action) → Told-so (reading (pos 0) (attach_wants c.who.session)) a → Waits-heard c → Contains k.frames bytes → Checked c bytes now c' out a → Done k c0 x c' out
+  checked-done a c c' bytes now out told w f h =
+      let ws = attach_wants c.who.session in
+      by-txn (reading (pos 0) ws) a told _ (Done k c0 x c' out) h (λ z b parts s i.
+      let v = viewed z ws parts in
+      records-done c c' ws z b parts out (Looked c bytes now c' out v) w s.came
+      (still-done (reading (pos 0) ws) a told c c' bytes v now out (found_at v (life_key c.who.session)) (sees-first (pos 0) ws z b parts (key_bytes (life_key c.who.session)) (inl refl) s) refl w f (view-of ws z b parts s)) i)
+
+  read-done : (a : Answer) (c c' : Core) (xid : ℤ) (r : Request) (v : View) (ws : List Want) (now : ℕ) (out : List Action) → Told-so (reading v.revision ws) a → Waits-heard c → IsFrameAsking k xid r → IsForTree r → IsGathered k.answers v → ReadOn c xid r v ws now c' out a → Done k c0 x c' out
+  read-done a c c' xid r v ws now out told w f t g h = by-txn (reading v.revision ws) a told _ (Done k c0 x c' out) h (λ z b parts s i.
+      let y = with_parts (at_revision v z) ws parts in
+      records-done c c' ws z b parts out (Looks c xid r y now c' out) w s.came
+      (looks-done c c' xid r y now out w f t (gathers v ws z b parts s g)) i)
+
+  committed-done : (c c' : Core) (xid : ℤ) (r : Request) (v : View) (p : Plan) (now : ℕ) (out : List Action) (z : ℤ) (b : Bool) (parts : List ActAns) → Told-so (transaction p) (answer.Txn z b parts) → Waits-heard c → IsFrameAsking k xid r → IsForTree r → Committed c xid r v p now c' out z b parts → Done k c0 x c' out
+  committed-done c c' xid r v p now out z true parts s w f t h =
+      let b = leaves-beside c h.kept (update_path r) v p z parts h.leaves in
+      waits-done k c0 x h.kept c' (finishes xid r p z parts) out (subst Waits-heard (sym b.1) w) (finished-may (transaction p) (answer.Txn z true parts) s h.kept xid z r p parts f) h.is
+  committed-done c c' xid r v p now out z false parts s w f t h =
+      let y = viewed z p.again parts in
+      records-done c c' p.again z false parts out (Looks c xid r y now c' out) w s.came
+      (looks-done c c' xid r y now out w f t (again-of (plan_txn p) p.again z parts refl s)) h
 
   -- ---- connecting: what each step rests on
 
   abbrev ConnectShows : Connect → ConnectStep → Type 0
   ConnectShows c (steps.Ask q) = Unit {0}
   ConnectShows c (steps.Attached response who timeout number zxid) = Unit {0}
-  ConnectShows c (steps.Ahead client head) = (client ≡ c.request.last_zxid) × (v : View) × IsGathered k.answers v × (head ≡ head_zxid (head_of v)) × (int_lt head client ≡ true)
-  ConnectShows c steps.Unknown = (v : View) × IsGathered k.answers v × SawNoneOfMine c.request v
-  ConnectShows c (steps.Taken revision) = IsTakenAt x revision
+  ConnectShows c (steps.Ahead client head) = IsAhead k c0 client head
+  ConnectShows c steps.Unknown = (v : View) × IsRefusedBy k c0 c v
+  ConnectShows c (steps.Taken revision) = IsTakenAt k c0 x revision
+
+  -- what a step shows, and what the next phase knows
+  abbrev Leads-to : Connect → Phase → ConnectStep → Type 0
+  Leads-to c phase step = ConnectShows c step × ResumesFrom c.request phase
 
   module _ (c : Connect) (phase : Phase) (step : ConnectStep) where
     asks-show : (q : Ask) (s : ConnectStep) → connect_asked s ≡ Some q → ConnectShows c s
@@ -272,54 +314,64 @@ module _ (k : Heard) (c0 : Core) (x : Input) where
     asks-show q steps.Unknown e = absurd (none_some e)
     asks-show q (steps.Taken revision) e = absurd (none_some e)
 
-    waits-show : (next : Phase) (q : Ask) → asked_in_phase c next ≡ Some q → Waits c next phase step → ConnectShows c step
-    waits-show next q e w = asks-show q step (w.1 ∙ e)
+    waits-show : (next : Phase) (q : Ask) → asked_in_phase c next ≡ Some q → ResumesFrom c.request next → Waits c next phase step → Leads-to c phase step
+    waits-show next q e r w = (asks-show q step (w.1 ∙ e), subst (ResumesFrom c.request) (sym w.0) r)
 
-    ends-show : (end : ConnectStep) → ConnectShows c end → ConnectEnds end phase step → ConnectShows c step
-    ends-show end h e = subst (ConnectShows c) (sym e.1) h
+    ends-show : (end : ConnectStep) → ConnectShows c end → ConnectEnds end phase step → Leads-to c phase step
+    ends-show end h e = (subst (ConnectShows c) (sym e.1) h, subst (ResumesFrom c.request) (sym e.0) tt)
 
-    resumes-show : (v : View) (next : ℤ → LeaseRec → Phase) → IsGathered k.answers v → ((seen : ℤ) (life : LeaseRec) → (q : Ask) × (asked_in_phase c (next seen life) ≡ Some q)) → Resumes c v next phase step → ConnectShows c step
-    resumes-show v next g asks (inl h) = ends-show steps.Unknown (v, g, h.0) h.1
-    resumes-show v next g asks (inr (seen, life, mine, w)) = let q = asks seen life in waits-show (next seen life) q.0 q.1 w
+    module _ (at : IsConnecting k c0 c) where
+      resumes-show : (v : View) (next : ℤ → LeaseRec → Phase) → IsResume c.request → IsGathered k.answers v → (int_lt c.request.session (pos 1) ≡ true) ⊎ HasSeen v (life_key c.request.session)
+          → ((seen : ℤ) (life : LeaseRec) → ((q : Ask) × (asked_in_phase c (next seen life) ≡ Some q)) × ResumesFrom c.request (next seen life)) → Resumes c v next phase step → Leads-to c phase step
+      resumes-show v next r g looked asks (inl h) = ends-show steps.Unknown (v, record { connecting = at; resumes = r; gathered = g; looked = looked; none = h.0 }) h.1
+      resumes-show v next r g looked asks (inr (seen, life, mine, w)) = let q = asks seen life in waits-show (next seen life) (q.0).0 (q.0).1 q.1 w
 
-    looks-first-show : (v : View) → IsGathered k.answers v → ConnectLooksFirst c v phase step → ConnectShows c step
-    looks-first-show v g h = go (int_lt (head_zxid (head_of v)) c.request.last_zxid) refl h
-      where
-        go : (b : Bool) → int_lt (head_zxid (head_of v)) c.request.last_zxid ≡ b → MatchBool b (ConnectEnds (steps.Ahead c.request.last_zxid (head_zxid (head_of v))) phase step) (MatchBool (int_eq c.request.session (pos 0)) (Waits c Granting phase step) (Resumes c v Keeping phase step)) → ConnectShows c step
-        go true e i = ends-show (steps.Ahead c.request.last_zxid (head_zxid (head_of v))) (refl, v, g, refl, e) i
-        go false e i =
-            either (int_eq c.request.session (pos 0)) (Waits c Granting phase step) (Resumes c v Keeping phase step) (ConnectShows c step) i
-            (waits-show Granting _ refl)
-            (resumes-show v Keeping g (λ seen life. (_, refl)))
-
-    module _ (a : Answer) (heard : Contains k.answers a) (came : x ≡ input.Answer a) where
-      created-show : (z : ℤ) (b : Bool) (parts : List ActAns) → a ≡ answer.Txn z b parts → Created c z b parts phase step → ConnectShows c step
-      created-show z true parts e h = ends-show _ tt h
-      created-show z false parts e h = go (is_taken c.fresh.id (viewed z (session_wants c.fresh.id) parts)) refl h.1
+      looks-first-show : (v : View) → IsGathered k.answers v → HasSeen v HeadKey → (int_lt c.request.session (pos 1) ≡ true) ⊎ HasSeen v (life_key c.request.session) → ConnectLooksFirst c v phase step → Leads-to c phase step
+      looks-first-show v g seen looked h = go (int_lt (head_zxid (head_of v)) c.request.last_zxid) refl h
         where
-          go : (b : Bool) → is_taken c.fresh.id (viewed z (session_wants c.fresh.id) parts) ≡ b → MatchBool b (ConnectEnds (steps.Taken z) phase step) (Waits c Creating phase step) → ConnectShows c step
-          go true there i = ends-show (steps.Taken z) (record { id = c.fresh.id; succeeded = false; parts = parts; came = comes-as a heard came z false parts e; there = there }) i
-          go false there i = waits-show Creating _ refl i
+          resumed : (b : Bool) → int_eq c.request.session (pos 0) ≡ b → MatchBool b (Waits c Granting phase step) (Resumes c v Keeping phase step) → Leads-to c phase step
+          resumed true e i = waits-show Granting _ refl tt i
+          resumed false e i = resumes-show v Keeping e g looked (λ seen life. ((_, refl), e)) i
 
-      kept-show : (seen : ℤ) (life : LeaseRec) (ttl : ℤ) → Kept c seen life ttl phase step → ConnectShows c step
-      kept-show seen life ttl h = either (int_eq ttl (pos 0)) (Waits c LookingAgain phase step) (Waits c (Attaching seen life) phase step) (ConnectShows c step) h (waits-show LookingAgain _ refl) (waits-show (Attaching seen life) _ refl)
+          go : (b : Bool) → int_lt (head_zxid (head_of v)) c.request.last_zxid ≡ b → MatchBool b (ConnectEnds (steps.Ahead c.request.last_zxid (head_zxid (head_of v))) phase step) (MatchBool (int_eq c.request.session (pos 0)) (Waits c Granting phase step) (Resumes c v Keeping phase step)) → Leads-to c phase step
+          go true e i = ends-show (steps.Ahead c.request.last_zxid (head_zxid (head_of v))) (record { connect = c; connecting = at; own = refl; view = v; gathered = g; looked = seen; shown = refl; above = e }) i
+          go false e i = resumed (int_eq c.request.session (pos 0)) refl i
 
-      again-show : (z : ℤ) (b : Bool) (parts : List ActAns) → a ≡ answer.Txn z b parts → ConnectLookedAgain c z parts phase step → ConnectShows c step
-      again-show z b parts e h = resumes-show (viewed z (attach_wants c.request.session) parts) Attaching (view-of a heard came (attach_wants c.request.session) z b parts e) (λ seen life. (_, refl)) h.1
+      created-show : (z : ℤ) (b : Bool) (parts : List ActAns) → c.phase ≡ Creating → x ≡ input.Answer (answer.Txn z b parts) → Created c z b parts phase step → Leads-to c phase step
+      created-show z true parts p came h = ends-show _ tt h
+      created-show z false parts p came h = go (is_taken c.fresh.id (viewed z (session_wants c.fresh.id) parts)) refl h.1
+        where
+          go : (b : Bool) → is_taken c.fresh.id (viewed z (session_wants c.fresh.id) parts) ≡ b → MatchBool b (ConnectEnds (steps.Taken z) phase step) (Waits c Creating phase step) → Leads-to c phase step
+          go true there i = ends-show (steps.Taken z) (record { connect = c; connecting = at; creates = p; parts = parts; came = came; there = there }) i
+          go false there i = waits-show Creating _ refl tt i
 
-      attached-show : (life : LeaseRec) (z : ℤ) (b : Bool) (parts : List ActAns) → a ≡ answer.Txn z b parts → Attached c life z b parts phase step → ConnectShows c step
-      attached-show life z true parts e h = ends-show _ tt h
-      attached-show life z false parts e h = again-show z false parts e h
+      kept-show : (seen : ℤ) (life : LeaseRec) (ttl : ℤ) → IsResume c.request → Kept c seen life ttl phase step → Leads-to c phase step
+      kept-show seen life ttl r h = either (int_eq ttl (pos 0)) (Waits c LookingAgain phase step) (Waits c (Attaching seen life) phase step) (Leads-to c phase step) h (waits-show LookingAgain _ refl r) (waits-show (Attaching seen life) _ refl r)
 
-      answered-show : (p : Phase) → ConnectAnswers c p a phase step → ConnectShows c step
-      answered-show Unasked h = absurd h
-      answered-show Looking h = by-txn a heard came _ (ConnectShows c step) h (λ z b parts e f. looks-first-show (viewed z (first_wants c.request) parts) (view-of a heard came (first_wants c.request) z b parts e) f.1)
-      answered-show Granting h = waits-show Creating _ refl h
-      answered-show Creating h = by-txn a heard came _ (ConnectShows c step) h (λ z b parts e f. created-show z b parts e f)
-      answered-show (Keeping seen life) h = of_alive a _ (ConnectShows c step) h (λ ttl f. kept-show seen life ttl f)
-      answered-show LookingAgain h = by-txn a heard came _ (ConnectShows c step) h (λ z b parts e f. again-show z b parts e f)
-      answered-show (Attaching seen life) h = by-txn a heard came _ (ConnectShows c step) h (λ z b parts e f. attached-show life z b parts e f)
-      answered-show Over h = absurd h
+      again-show : (z : ℤ) (parts : List ActAns) → IsResume c.request → IsGathered k.answers (viewed z (attach_wants c.request.session) parts) → HasSeen (viewed z (attach_wants c.request.session) parts) (life_key c.request.session) → ConnectLookedAgain c z parts phase step → Leads-to c phase step
+      again-show z parts r g seen h = resumes-show (viewed z (attach_wants c.request.session) parts) Attaching r g (inr seen) (λ seen life. ((_, refl), r)) h.1
+
+      attached-show : (seen : ℤ) (life : LeaseRec) (z : ℤ) (b : Bool) (parts : List ActAns) → IsResume c.request → Told-so (ask.Txn (attach_txn c.request.session seen life)) (answer.Txn z b parts) → Attached c life z b parts phase step → Leads-to c phase step
+      attached-show seen life z true parts r s h = ends-show _ tt h
+      attached-show seen life z false parts r s h =
+          let id = c.request.session in
+          let t = attach_txn id seen life in
+          again-show z parts r (again-of t (attach_wants id) z parts refl s) (sees-again t (attach_wants id) z parts (key_bytes (life_key id)) refl (inl refl) s) h
+
+      answered-show : (a : Answer) (p : Phase) → c.phase ≡ p → ((q : Ask) → asked_in_phase c p ≡ Some q → Told-so q a) → ResumesFrom c.request p → ConnectAnswers c p a phase step → Leads-to c phase step
+      answered-show a Unasked e told r h = absurd h
+      answered-show a Looking e told r h = by-txn (reading (pos 0) (first_wants c.request)) a (told (reading (pos 0) (first_wants c.request)) refl) _ (Leads-to c phase step) h (λ z b parts s f.
+          let ws = first_wants c.request in
+          looks-first-show (viewed z ws parts) (view-of ws z b parts s) (sees-first (pos 0) ws z b parts (key_bytes HeadKey) (first-head c.request) s)
+          (first-life (HasSeen (viewed z ws parts) (life_key c.request.session)) c.request (int_lt c.request.session (pos 1)) refl (λ least. sees-first (pos 0) ws z b parts (key_bytes (life_key c.request.session)) least s)) f.1)
+      answered-show a Granting e told r h = waits-show Creating _ refl tt h
+      answered-show a Creating e told r h = by-txn (ask.Txn (new_session_txn c.fresh (timeout_in c))) a (told (ask.Txn (new_session_txn c.fresh (timeout_in c))) refl) _ (Leads-to c phase step) h (λ z b parts s f. created-show z b parts e s.came f)
+      answered-show a (Keeping seen life) e told r h = of_alive a _ (Leads-to c phase step) h (λ ttl f. kept-show seen life ttl r f)
+      answered-show a LookingAgain e told r h = by-txn (reading (pos 0) (attach_wants c.request.session)) a (told (reading (pos 0) (attach_wants c.request.session)) refl) _ (Leads-to c phase step) h (λ z b parts s f.
+          let ws = attach_wants c.request.session in
+          again-show z parts r (view-of ws z b parts s) (sees-first (pos 0) ws z b parts (key_bytes (life_key c.request.session)) (inl refl) s) f)
+      answered-show a (Attaching seen life) e told r h = by-txn (ask.Txn (attach_txn c.request.session seen life)) a (told (ask.Txn (attach_txn c.request.session seen life)) refl) _ (Leads-to c phase step) h (λ z b parts s f. attached-show seen life z b parts r s f)
+      answered-show a Over e told r h = absurd h
 
   -- a value that is no record, where it was looked for in an answer
   module _ (c : Connect) (a : Answer) (came : x ≡ input.Answer a) (key value : Bytes) where
@@ -362,59 +414,60 @@ module _ (k : Heard) (c0 : Core) (x : Input) where
         go (Attaching seen life) (answer.Alive z id ttl) e f = absurd f
         go Over (answer.Alive z id ttl) e f = absurd f
 
-  connected-done : (c c' : Core) (now : ℕ) (new : Connect) (out : List Action) (step : ConnectStep) → Waits-heard c → IsConnectHeard k new.request → ConnectShows new step → Is (connected c now new step) c' out → Done k c0 x c' out
-  connected-done c c' now new out (steps.Ask q) w f h i = asks-done k c0 x (connected c now new (steps.Ask q)).0 c' q out (record { waiting = w; stage = (f.frame, f.came, f.reads) }) (λ e. cc) i
-  connected-done c c' now new out (steps.Attached response who timeout number zxid) w f h i = done-is k c0 x (connected c now new (steps.Attached response who timeout number zxid)) c' out i (record {
+  connected-done : (c c' : Core) (now : ℕ) (old new : Connect) (out : List Action) (step : ConnectStep) → old.request ≡ new.request → Waits-heard c → IsConnectHeard k new.request → ConnectShows old step → ResumesFrom new.request new.phase → Is (connected c now new step) c' out → Done k c0 x c' out
+  connected-done c c' now old new out (steps.Ask q) same w f h r i = asks-done k c0 x (connected c now new (steps.Ask q)).0 c' q out (record { waiting = w; stage = (f, r) }) (λ e. cc) i
+  connected-done c c' now old new out (steps.Attached response who timeout number zxid) same w f h r i = done-is k c0 x (connected c now new (steps.Attached response who timeout number zxid)) c' out i (record {
     rests = record { waiting = w; stage = tt };
     shows = λ why e. absurd (none_some e);
     unended = λ r. refl;
   })
-  connected-done c c' now new out (steps.Ahead client head) w f (own, v, g, shown, above) i =
-      closed-done k c0 x c c' (cause.ZxidAhead client head) out w (record { request = new.request; heard = f; own = own; view = v; gathered = g; shown = shown; above = above }) i
-  connected-done c c' now new out steps.Unknown w f (v, g, none) i = done-is k c0 x (connected c now new steps.Unknown) c' out i (record {
+  connected-done c c' now old new out (steps.Ahead client head) same w f h r i = closed-done k c0 x c c' (cause.ZxidAhead client head) out w h i
+  connected-done c c' now old new out steps.Unknown same w f (v, h) r i = done-is k c0 x (connected c now new steps.Unknown) c' out i (record {
     rests = record { waiting = w; stage = tt };
     shows = λ why e. subst (λ z. Shows k c0 x c.who (connected c now new steps.Unknown).1 z) (some_is e)
-        (record { request = new.request; heard = f; view = v; gathered = g; none = none; sent = (0, omega (arith), refl) });
+        (record { connect = old; connecting = h.connecting; resumes = h.resumes; view = v; gathered = h.gathered; looked = h.looked; none = h.none; sent = (0, omega (arith), ap (λ (q : ConnectRequest). action.Send (connect_packet (refusal q))) (sym same)) });
     unended = λ r. absurd (cc);
   })
-  connected-done c c' now new out (steps.Taken revision) w f h i = closed-done k c0 x c c' (cause.Taken revision) out w h i
+  connected-done c c' now old new out (steps.Taken revision) same w f h r i = closed-done k c0 x c c' (cause.Taken revision) out w h i
 
   abbrev FaultShown : Bytes → Bytes → Type 0
   FaultShown key value = Shows k c0 x (record { session = pos 0; mine = pos 0 }) [] (cause.Damaged key value)
 
   connects-done : (c c' : Core) (connect : Connect) (o : Option Answer) (now : ℕ) (out : List Action) → Waits-heard c → IsConnectHeard k connect.request
       → ((key value : Bytes) → IsConnectFault connect o (faults.Damaged key value) → FaultShown key value)
-      → ((phase : Phase) (step : ConnectStep) → ConnectMoves connect o phase step → ConnectShows connect step)
+      → ((phase : Phase) (step : ConnectStep) → ConnectMoves connect o phase step → Leads-to connect phase step)
       → Connects c connect o now c' out → Done k c0 x c' out
   connects-done c c' connect o now out w f damaged moved (inl e) = closed-done k c0 x c c' (cause.Damaged e.key e.value) out w (damaged e.key e.value e.found) e.is
   connects-done c c' connect o now out w f damaged moved (inr s) =
       let new : Connect = record { request = connect.request; fresh = connect.fresh; phase = (s.new).phase } in
-      connected-done c c' now new out s.step w f (moved (s.new).phase s.step (s.steps).moves) (subst (λ (n : Connect). Is (connected c now n s.step) c' out) (s.steps).same s.is)
+      let m = moved (s.new).phase s.step (s.steps).moves in
+      connected-done c c' now connect new out s.step refl w f m.0 m.1 (subst (λ (n : Connect). Is (connected c now n s.step) c' out) (s.steps).same s.is)
 
-  opens-done : (c c' : Core) (bytes : List ℕ) (fresh : Fresh) (now : ℕ) (out : List Action) (o : Option ConnectRequest) → Waits-heard c → x ≡ input.Frame bytes → Contains k.frames bytes → read_connect bytes ≡ o → Opens c c0.taken fresh now c' out o → Done k c0 x c' out
-  opens-done c c' bytes fresh now out None w came f e h = closed-done k c0 x c c' (cause.NoHeader c0.taken) out w (record { bytes = bytes; came = came; at = refl; either = inl e }) h
-  opens-done c c' bytes fresh now out (Some r) w came f e h =
+  opens-done : (c c' : Core) (bytes : List ℕ) (fresh : Fresh) (now : ℕ) (out : List Action) (o : Option ConnectRequest) → c0.stage ≡ Unconnected fresh → Waits-heard c → x ≡ input.Frame bytes → Contains k.frames bytes → read_connect bytes ≡ o → Opens c c0.taken fresh now c' out o → Done k c0 x c' out
+  opens-done c c' bytes fresh now out None st w came f e h =
+      closed-done k c0 x c c' (cause.NoHeader c0.taken) out w (record { bytes = bytes; came = came; at = refl; lacks = subst (λ (s : Stage). LacksHeader s bytes) (sym st) e }) h
+  opens-done c c' bytes fresh now out (Some r) st w came f e h =
       connects-done c c' (begun r fresh) None now out w (record { frame = bytes; came = f; reads = e })
       (λ key value g. absurd g)
-      (λ phase step m. waits-show (begun r fresh) phase step Looking _ refl m) h
+      (λ phase step m. waits-show (begun r fresh) phase step Looking _ refl tt m) h
 
-  answers-done : (c c' : Core) (a : Answer) (now : ℕ) (out : List Action) (st : Stage) → Contains k.answers a → x ≡ input.Answer a → Waits-heard c → HoldsHeard k c.who st → Answers c a now c' out st → Done k c0 x c' out
-  answers-done c c' a now out (Unconnected fresh) heard came w s h = absurd h
-  answers-done c c' a now out (Connecting connect) heard came w s h =
-      connects-done c c' connect (Some a) now out w (record { frame = s.0; came = s.1; reads = s.2 })
+  answers-done : (c c' : Core) (a : Answer) (now : ℕ) (out : List Action) (st : Stage) → c0.stage ≡ st → x ≡ input.Answer a → ((q : Ask) → asked_of c.who st ≡ Some q → Told-so q a) → Waits-heard c → HoldsHeard k c.who st → Answers c a now c' out st → Done k c0 x c' out
+  answers-done c c' a now out (Unconnected fresh) st came told w s h = absurd h
+  answers-done c c' a now out (Connecting connect) st came told w s h =
+      connects-done c c' connect (Some a) now out w s.0
       (λ key value g. fault-shown connect a came key value connect.phase g)
-      (λ phase step m. answered-show connect phase step a heard came connect.phase m) h
-  answers-done c c' a now out (KeepingAlive bytes) heard came w s h = alive-done a heard came c c' bytes now out w s h
-  answers-done c c' a now out (Checking bytes) heard came w s h = checked-done a heard came c c' bytes now out w s h
-  answers-done c c' a now out (Reading xid r v ws) heard came w s h = read-done a heard came c c' xid r v ws now out w s.0 s.1 s.2 h
-  answers-done c c' a now out (Committing xid r v p time) heard came w s h = by-txn a heard came _ (Done k c0 x c' out) h (λ z b parts e f. committed-done a heard came c c' xid r v p now out z b parts w s.0 s.1 e f)
-  answers-done c c' a now out Ready heard came w s h = absurd h
-  answers-done c c' a now out (Waiting p) heard came w s h = absurd h
-  answers-done c c' a now out Shut heard came w s h = absurd h
+      (λ phase step m. answered-show connect phase step (record { stage = st; heard = s.0 }) a connect.phase refl told s.1 m) h
+  answers-done c c' a now out (KeepingAlive bytes) st came told w s h = alive-done (ask.Alive c.who.session) a (told (ask.Alive c.who.session) refl) c c' bytes now out w s h
+  answers-done c c' a now out (Checking bytes) st came told w s h = checked-done a c c' bytes now out (told (reading (pos 0) (attach_wants c.who.session)) refl) w s h
+  answers-done c c' a now out (Reading xid r v ws) st came told w s h = read-done a c c' xid r v ws now out (told (reading v.revision ws) refl) w s.0 s.1 s.2 h
+  answers-done c c' a now out (Committing xid r v p time) st came told w s h = by-txn (transaction p) a (told (transaction p) refl) _ (Done k c0 x c' out) h (λ z b parts y f. committed-done c c' xid r v p now out z b parts y w s.0 s.1 f)
+  answers-done c c' a now out Ready st came told w s h = absurd h
+  answers-done c c' a now out (Waiting p) st came told w s h = absurd h
+  answers-done c c' a now out Shut st came told w s h = absurd h
 
   -- ---- any input
 
-  same-stage-done : (d c' : Core) (first out : List Action) → Rests k d → only_sends first ≡ true → Is (d, first) c' out → Done k c0 x c' out
+  same-stage-done : (d c' : Core) (first out : List Action) → Held k d → only_sends first ≡ true → Is (d, first) c' out → Done k c0 x c' out
   same-stage-done d c' first out h only i = done-is k c0 x (d, first) c' out i (record {
     rests = h;
     shows = λ why e. absurd (none_some (sym (closes-none first only) ∙ e));
@@ -427,25 +480,25 @@ module _ (k : Heard) (c0 : Core) (x : Input) where
       closes-none (action.Ask a ∷ more) g = absurd (cc)
       closes-none (action.Close why ∷ more) g = absurd (cc)
 
-  queued-done : (c c' : Core) (bytes : List ℕ) (out : List Action) → c.taken ≡ c0.taken → Rests k c → Contains k.frames bytes → x ≡ input.Frame bytes → MatchBool (has_header (read_request bytes)) (Is (queued c bytes, []) c' out) (Is (closed_by c (cause.NoHeader c.taken)) c' out) → Done k c0 x c' out
-  queued-done c c' bytes out at s f came h = go (has_header (read_request bytes)) refl h
+  queued-done : (c c' : Core) (bytes : List ℕ) (out : List Action) → c.taken ≡ c0.taken → ((has_header (read_request bytes) ≡ false) → LacksHeader c0.stage bytes) → Held k c → Contains k.frames bytes → x ≡ input.Frame bytes → MatchBool (has_header (read_request bytes)) (Is (queued c bytes, []) c' out) (Is (closed_by c (cause.NoHeader c.taken)) c' out) → Done k c0 x c' out
+  queued-done c c' bytes out at lacks s f came h = go (has_header (read_request bytes)) refl h
     where
       go : (b : Bool) → has_header (read_request bytes) ≡ b → MatchBool b (Is (queued c bytes, []) c' out) (Is (closed_by c (cause.NoHeader c.taken)) c' out) → Done k c0 x c' out
       go true e i = same-stage-done (queued c bytes) c' [] out (record { waiting = All-append (Contains k.frames) c.waiting (bytes ∷ []) s.waiting (All-cons (Contains k.frames) bytes [] f (All-nil (Contains k.frames))); stage = s.stage }) refl i
-      go false e i = closed-done k c0 x c c' (cause.NoHeader c.taken) out s.waiting (record { bytes = bytes; came = came; at = at; either = inr e }) i
+      go false e i = closed-done k c0 x c c' (cause.NoHeader c.taken) out s.waiting (record { bytes = bytes; came = came; at = at; lacks = lacks e }) i
 
-  comes-done : (c' : Core) (bytes : List ℕ) (now : ℕ) (out : List Action) (st : Stage) → Rests k c0 → Contains k.frames bytes → x ≡ input.Frame bytes → Comes c0 bytes now c' out st → Done k c0 x c' out
-  comes-done c' bytes now out (Unconnected fresh) s f came h = opens-done (with_frame_counted c0 bytes) c' bytes fresh now out (read_connect bytes) s.waiting came f refl h
-  comes-done c' bytes now out (Connecting connect) s f came h = queued-done c0 c' bytes out refl s f came h
-  comes-done c' bytes now out Ready s f came h = queued-done c0 c' bytes out refl s f came h
-  comes-done c' bytes now out (KeepingAlive g) s f came h = queued-done c0 c' bytes out refl s f came h
-  comes-done c' bytes now out (Checking g) s f came h = queued-done c0 c' bytes out refl s f came h
-  comes-done c' bytes now out (Reading xid r v ws) s f came h = queued-done c0 c' bytes out refl s f came h
-  comes-done c' bytes now out (Committing xid r v p m) s f came h = queued-done c0 c' bytes out refl s f came h
-  comes-done c' bytes now out (Waiting p) s f came h = queued-done c0 c' bytes out refl s f came h
-  comes-done c' bytes now out Shut s f came h = queued-done c0 c' bytes out refl s f came h
+  comes-done : (c' : Core) (bytes : List ℕ) (now : ℕ) (out : List Action) (st : Stage) → c0.stage ≡ st → Held k c0 → Contains k.frames bytes → x ≡ input.Frame bytes → Comes c0 bytes now c' out st → Done k c0 x c' out
+  comes-done c' bytes now out (Unconnected fresh) st s f came h = opens-done (with_frame_counted c0 bytes) c' bytes fresh now out (read_connect bytes) st s.waiting came f refl h
+  comes-done c' bytes now out (Connecting connect) st s f came h = queued-done c0 c' bytes out refl (λ e. subst (λ (y : Stage). LacksHeader y bytes) (sym st) e) s f came h
+  comes-done c' bytes now out Ready st s f came h = queued-done c0 c' bytes out refl (λ e. subst (λ (y : Stage). LacksHeader y bytes) (sym st) e) s f came h
+  comes-done c' bytes now out (KeepingAlive g) st s f came h = queued-done c0 c' bytes out refl (λ e. subst (λ (y : Stage). LacksHeader y bytes) (sym st) e) s f came h
+  comes-done c' bytes now out (Checking g) st s f came h = queued-done c0 c' bytes out refl (λ e. subst (λ (y : Stage). LacksHeader y bytes) (sym st) e) s f came h
+  comes-done c' bytes now out (Reading xid r v ws) st s f came h = queued-done c0 c' bytes out refl (λ e. subst (λ (y : Stage). LacksHeader y bytes) (sym st) e) s f came h
+  comes-done c' bytes now out (Committing xid r v p m) st s f came h = queued-done c0 c' bytes out refl (λ e. subst (λ (y : Stage). LacksHeader y bytes) (sym st) e) s f came h
+  comes-done c' bytes now out (Waiting p) st s f came h = queued-done c0 c' bytes out refl (λ e. subst (λ (y : Stage). LacksHeader y bytes) (sym st) e) s f came h
+  comes-done c' bytes now out Shut st s f came h = queued-done c0 c' bytes out refl (λ e. subst (λ (y : Stage). LacksHeader y bytes) (sym st) e) s f came h
 
-  module _ (c' : Core) (e : Entry) (out : List Action) (s : Rests k c0) where
+  module _ (c' : Core) (e : Entry) (out : List Action) (s : Held k c0) where
     as-it-was : HoldsHeard k c0.who (entered c0 e).0.stage → Is (entered c0 e) c' out → Done k c0 x c' out
     as-it-was h i = same-stage-done (entered c0 e).0 c' (entered c0 e).1 out (record { waiting = s.waiting; stage = h }) (notices-only (fire_all c0.watches e.triggers).1) i
 
@@ -465,24 +518,43 @@ module _ (k : Heard) (c0 : Core) (x : Input) where
 last-of : {X : Type 0} (xs : List X) (y : X) → Contains (xs ++ y ∷ []) y
 last-of xs y = Contains-append_right xs (y ∷ []) y (0, omega (arith), refl)
 
-handled-done : (k : Heard) (c c' : Core) (x : Input) (now : ℕ) (out : List Action) → Rests (hears k x) c → Handles c x now c' out → Done (hears k x) c x c' out
-handled-done k c c' (input.Frame bytes) now out s h = comes-done (hears k (input.Frame bytes)) c (input.Frame bytes) c' bytes now out c.stage s (last-of k.frames bytes) refl h
-handled-done k c c' (input.Answer a) now out s h = answers-done (hears k (input.Answer a)) c (input.Answer a) c c' a now out c.stage (last-of k.answers a) refl s.waiting s.stage h
-handled-done k c c' (input.Entry e) now out s h = entry-done k c (input.Entry e) c' (arc_value e) out s c.stage s.stage h
-handled-done k c c' input.Failed now out s h = closed-done k c input.Failed c c' cause.LinkFault out s.waiting refl h
-handled-done k c c' (input.BadLength place length) now out s h = closed-done k c (input.BadLength place length) c c' (cause.BadLength place length) out s.waiting refl h
-handled-done k c c' (input.Lagged cursor floor) now out s h = closed-done k c (input.Lagged cursor floor) c c' (cause.Lagged cursor floor) out s.waiting refl h
-handled-done k c c' input.FeedClosed now out s h = closed-done k c input.FeedClosed c c' cause.FeedClosed out s.waiting refl h
-handled-done k c c' (input.ClientEnd place) now out s h = closed-done k c (input.ClientEnd place) c c' (cause.ClientEnd place) out s.waiting refl h
+answer-there : (o : Option Ask) (a : Answer) (answers : List (Ask × Answer)) (q : Ask) → o ≡ Some q → Contains (with_answer o a answers) (q, a)
+answer-there o a answers q e = subst (λ (y : Option Ask). Contains (with_answer y a answers) (q, a)) (sym e) (last-of answers (q, a))
 
-pub steps-show : (k : Heard) (c c' : Core) (x : Input) (now : ℕ) (out : List Action) → is_shut c.stage ≡ false → Rests k c → Steps c x now c' out → StepRests k c c' x out
-steps-show k c c' x now out opened r h = go (steps-open c c' x now out opened h)
+fit-to : (o : Option Ask) (a : Answer) (q : Ask) → IsAwaited o (Some a) → o ≡ Some q → IsAnswerTo q a
+fit-to o a q h e = subst (λ (y : Option Ask). IsAwaited y (Some a)) e h
+
+handled-done : (k : Heard) (c c' : Core) (x : Input) (now : ℕ) (out : List Action) → IsFit c x → ((q : Ask) → asked_of c.who c.stage ≡ Some q → k.asked ≡ Some q) → Held (hears k x) c → Handles c x now c' out → Done (hears k x) c x c' out
+handled-done k c c' (input.Frame bytes) now out fit asked s h = comes-done (hears k (input.Frame bytes)) c (input.Frame bytes) c' bytes now out c.stage refl s (last-of k.frames bytes) refl h
+handled-done k c c' (input.Answer a) now out fit asked s h = answers-done (hears k (input.Answer a)) c (input.Answer a) c c' a now out c.stage refl refl
+    (λ q e. record { heard = answer-there k.asked a k.answers q (asked q e); fit = fit-to (asked_of c.who c.stage) a q fit e; came = refl }) s.waiting s.stage h
+handled-done k c c' (input.Entry e) now out fit asked s h = entry-done k c (input.Entry e) c' (arc_value e) out s c.stage s.stage h
+handled-done k c c' input.Failed now out fit asked s h = closed-done k c input.Failed c c' cause.LinkFault out s.waiting refl h
+handled-done k c c' (input.BadLength place length) now out fit asked s h = closed-done k c (input.BadLength place length) c c' (cause.BadLength place length) out s.waiting refl h
+handled-done k c c' (input.Lagged cursor floor) now out fit asked s h = closed-done k c (input.Lagged cursor floor) c c' (cause.Lagged cursor floor) out s.waiting refl h
+handled-done k c c' input.FeedClosed now out fit asked s h = closed-done k c input.FeedClosed c c' cause.FeedClosed out s.waiting refl h
+handled-done k c c' (input.ClientEnd place) now out fit asked s h = closed-done k c (input.ClientEnd place) c c' (cause.ClientEnd place) out s.waiting refl h
+
+asked-then : (k : Heard) (x : Input) (c : Core) (out : List Action) (q : Ask) → ((r : Ask) → asked_of c.who c.stage ≡ Some r → k.asked ≡ Some r)
+    → (asked_by out ≡ Some q) ⊎ ((asked_by out ≡ None) × (asked_of c.who c.stage ≡ Some q)) → (heard_after k x out).asked ≡ Some q
+asked-then k x c out q asked (inl own) = ap (λ (o : Option Ask). (then_asked (hears k x) o).asked) own
+asked-then k x c out q asked (inr (none, before)) = ap (λ (o : Option Ask). (then_asked (hears k x) o).asked) none ∙ hears-asked k x ∙ asked q before
+
+pub steps-show : (k : Heard) (c c' : Core) (x : Input) (now : ℕ) (out : List Action) → is_shut c.stage ≡ false → MayTake c x → Rests k c → Steps c x now c' out → StepRests k c c' x out
+steps-show k c c' x now out opened may r h = go (steps-open c c' x now out opened h)
   where
     k' : Heard
     k' = hears k x
 
+    -- what is out then was asked by this step, or before it
+    asked : (q : Ask) → asked_of c'.who c'.stage ≡ Some q → (heard_after k x out).asked ≡ Some q
+    asked q e = asked-then k x c out q r.asked (asks-left c c' x now out opened h q e)
+
     rest : Done k' c x c' out → StepRests k c c' x out
-    rest d = record { rests = d.rests; shows = d.shows }
+    rest d = let m = asked-more k' (asked_by out) in record {
+      rests = record { waiting = λ i y below. m.frames _ ((d.rests).waiting i y below); stage = holds-more k' (heard_after k x out) c'.who c'.stage m (d.rests).stage; asked = asked };
+      shows = d.shows;
+    }
 
     joined : (mid : Core) (first later : List Action) → Done k' c x mid first → ((c' ≡ mid) × (later ≡ [])) ⊎ ((mid.stage ≡ Ready) × Done k' c x c' later) → Done k' c x c' (first ++ later)
     joined mid first later d (inl s) = subst (λ y. Done k' c x y (first ++ later)) (sym s.0) (subst (λ l. Done k' c x mid l) (sym (ap (λ l. first ++ l) s.1 ∙ append-nil first)) d)
@@ -490,8 +562,9 @@ steps-show k c c' x now out opened r h = go (steps-open c c' x now out opened h)
 
     go : StepsOpen c x now c' out → StepRests k c c' x out
     go s =
-        let d = handled-done k c s.mid x now s.first (rests-more k k' c (hears-more k x) r) s.handled in
+        let m = hears-more k x in
+        let d = handled-done k c s.mid x now s.first (may opened) r.asked (record { waiting = λ i y below. m.frames _ (r.waiting i y below); stage = holds-more k k' c.who c.stage m r.stage }) s.handled in
         rest (subst (λ l. Done k' c x c' l) (sym s.joined) (joined s.mid s.first s.later d (goes-done k' c x now s.mid c' s.later (d.rests).waiting s.goes)))
 
 pub new-rests : (fresh : Fresh) → Rests nothing_heard (new_core fresh)
-new-rests fresh = record { waiting = All-nil (Contains []); stage = tt }
+new-rests fresh = record { waiting = All-nil (Contains []); stage = tt; asked = λ q e. absurd (none_some e) }

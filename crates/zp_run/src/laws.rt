@@ -2,10 +2,10 @@
 
 ghost use Rattle.zp_run.specs.Laws.{NewRests, RunsGoOn, StepsCountBytes, StepsShow};
 
-/// A connection has what its stage holds from the frames and the answers that it heard. Where a step closes it, the cause is shown
-/// by them or by the input: by a reply that was sent last and what it rests on, by a value that was found, by a frame that cannot
-/// be read, or by the fault or the end that was handed in. And a run that is one step longer is a run, closed for a cause that
-/// is shown.
+/// A connection has what its stage holds from the frames and the answers that it heard, and each answer is to what it asked last.
+/// Where a step closes it, the cause is shown by them or by the input: by a reply that was sent last and what it rests on, by a
+/// key that was asked for and what was found there, by a frame that cannot be read, or by the fault or the end that was handed in.
+/// And a run that is one step longer is a run, closed for a cause that is shown.
 pub fn causes_are_shown()
     ensures first { NewRests }
     ensures steps { StepsShow }

@@ -16,8 +16,8 @@
 //! - `Causes`: what shows each cause (`Shows`);
 //! - `Laws`: what the laws say, of a step and of a run.
 //!
-//! In `proofs/`: `Hearing` (what was heard stays heard), `Showing` (replies and ends), `Steps` (each kind of step), `Running`
-//! (runs), `Counting` (bytes).
+//! In `proofs/`: `Hearing` (what was heard stays heard), `Looking` (what was asked for is seen), `Asking` (what is out was asked),
+//! `Showing` (replies and ends), `Steps` (each kind of step), `Running` (runs), `Counting` (bytes).
 #![tactic(auto)]
 
 mod copy;
