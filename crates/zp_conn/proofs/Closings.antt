@@ -1,6 +1,6 @@
 -- How a step closes the connection.
 use Rattle.std.proofs.Common.{◌≡◌, ℕ, ℤ, List, [], ◌∷◌, ◌++◌, false, refl, sym, ap, ◌∙◌, subst, inl, append-nil, map, arith}
-use Rattle.std.specs.Prelude.{Option, None, Ok, Contains}
+use Rattle.std.specs.Prelude.{◌⊎◌, ◌<◌, Option, None, Ok, Contains}
 use Rattle.zk_service.specs.declared.cause.Cause.{Cause}
 use Rattle.zk_service.specs.declared.cause.Cause.TheVariants as cause
 use Rattle.zs_session.specs.declared.connect.Fresh.{Fresh}
@@ -165,6 +165,7 @@ closes-last fresh old new core core' i x now o o' n why s p = record {
     heard = inl refl;
   };
   entries = λ e c. s.entries e (subst (λ l. Contains l e) (filter_map-push (λ (t : Step). entry_in t.input) s.steps step) c);
+  looked = subst (λ l. (l ≡ []) ⊎ (0 < (new.feed).reads)) (sym (filter_map-push (λ (t : Step). entry_in t.input) s.steps step)) s.looked;
   written = s.written;
   takes = s.takes;
   says = record { front = ([], append-nil _ ∙ whole); whole = λ e. whole };

@@ -1,6 +1,6 @@
 -- How the loop ends where memory runs out, and at a fault of the sink.
 use Rattle.std.proofs.Common.{◌≡◌, ◌≤◌, ℕ, length, ◌+◌, take, List, [], ◌∷◌, ◌++◌, true, false, refl, sym, ap, ◌∙◌, subst, inl, inr, append-nil, append_assoc, map, arith}
-use Rattle.std.specs.Prelude.{◌⊎◌, Option, Some, None, Ok, Err, Contains}
+use Rattle.std.specs.Prelude.{◌⊎◌, ◌<◌, Option, Some, None, Ok, Err, Contains}
 use mathlib.Core.List.{IsPrefix}
 use Rattle.std.proofs.lemmas.List.{map-append}
 use Rattle.std.proofs.lemmas.List.Elements.{Contains-append_left}
@@ -22,7 +22,7 @@ use Rattle.zp_run.specs.Notes.{In, Noted, NotedInput, Out, noted_input, notes_in
 use Rattle.zp_run.specs.Runs.{Step, answer_in, answers_of, entries_of, entry_in, frame_in, frames_of, said}
 use Rattle.zp_conn.proofs.Answering.{open-answered}
 use Rattle.zp_conn.proofs.Closings.{held-any}
-use Rattle.zp_conn.proofs.Ends.{Last, front-of, same-faults}
+use Rattle.zp_conn.proofs.Ends.{Last, front-of, looked-front, same-faults}
 use Rattle.zp_conn.proofs.Goings.{drives-push, flat_map-push, handed-outcomes, held-more, joined-both, joined-step, note-notes, notes-both, notes-on, said-push, step-row, stepped-outcomes}
 use Rattle.zp_conn.proofs.Turning.{all-heard, filter_map-push, held-front, rose}
 use Rattle.zp_conn.specs.Answered.{AreAnswered}
@@ -86,6 +86,7 @@ cut-last fresh old new core core' i x now o o' n m s p = record {
     heard = inl refl;
   };
   entries = λ y c. s.entries y (subst (λ l. Contains l y) (filter_map-push (λ (t : Step). entry_in t.input) s.steps step) c);
+  looked = subst (λ l. (l ≡ []) ⊎ (0 < (new.feed).reads)) (sym (filter_map-push (λ (t : Step). entry_in t.input) s.steps step)) s.looked;
   written = s.written;
   takes = s.takes;
   says = record {
@@ -151,6 +152,7 @@ refused-last fresh old new core i x o o' n tail s same noted front = record {
     heard = inr refl;
   };
   entries = λ e c. s.entries e (Contains-append_left (entries_of s.steps) _ e c);
+  looked = looked-front (entries_of s.steps) _ (new.feed).reads s.looked;
   written = s.written;
   takes = s.takes;
   says = record { front = ([], append-nil _ ∙ whole); whole = λ e. whole };
@@ -228,6 +230,7 @@ module _ (fresh : Fresh) (old new : Told) (core : Core) (i : InboxState) (o o' :
       heard = inl refl;
     };
     entries = λ y c. s.entries y (Contains-append_left (entries_of s.steps) [] y c);
+    looked = looked-front (entries_of s.steps) [] (new.feed).reads s.looked;
     written = s.written ++ take t.0 o;
     takes = Takes-append s.written (take t.0 o) _ _ _ s.takes t.2;
     says = record { front = subst (λ l. IsPrefix l (joined (said s.steps))) (sym (ap (λ l. (s.written ++ take t.0 o) ++ l) f.1 ∙ append-nil _)) (front-of s.written o (joined (said s.steps)) t.0 ([], append-nil _ ∙ s.says)); whole = λ h. absurd (cc) };

@@ -1,6 +1,6 @@
 -- How the loop ends: what stands then, and what the last write makes of it.
-use Rattle.std.proofs.Common.{◌≡◌, ◌≤◌, ℕ, take, drop, length, ◌+◌, List, [], ◌++◌, false, refl, sym, ap, ◌∙◌, subst, inl, inr, append-nil, append_assoc, map, arith}
-use Rattle.std.specs.Prelude.{◌⊎◌, Option, Some, None, Result, Ok, Err, Contains}
+use Rattle.std.proofs.Common.{◌≡◌, ◌≤◌, ℕ, take, drop, length, ◌+◌, List, [], ◌∷◌, ◌++◌, false, refl, sym, ap, ◌∙◌, subst, inl, inr, append-nil, append_assoc, map, arith}
+use Rattle.std.specs.Prelude.{◌⊎◌, ◌<◌, Option, Some, None, Result, Ok, Err, Contains}
 use mathlib.Core.List.{IsPrefix}
 use Rattle.std.proofs.lemmas.List.{take-append-drop}
 use Rattle.std.proofs.lemmas.List.Elements.{Contains-append_left}
@@ -44,6 +44,7 @@ pub record Last (fresh : Fresh) (old new : Told) (o : List ℕ) (why : Cause) : 
   pub called : (new.link).calls ≡ with_calls (old.link).calls calls
   pub asked : AreCallsOf why steps calls
   pub entries : (e : Entry) → Contains (entries_of steps) e → IsAt (new.feed).list e.number e
+  pub looked : (entries_of steps ≡ []) ⊎ (0 < (new.feed).reads)
   pub written : List ℕ
   pub takes : Takes written (old.sink).taken (new.sink).taken
   pub says : IsWrittenOf why steps (written ++ o)
@@ -52,6 +53,13 @@ pub record Last (fresh : Fresh) (old new : Told) (o : List ℕ) (why : Cause) : 
   pub notes : AreNotesOf why steps events
   pub grown : ((old.sink).counts).faults ≤ ((new.sink).counts).faults
   pub ended : IsEndedFor fresh steps core old new read why
+
+-- ---- what was given by then
+
+pub looked-front : (xs ys : List Entry) (n : ℕ) → (xs ++ ys ≡ []) ⊎ (0 < n) → (xs ≡ []) ⊎ (0 < n)
+looked-front [] ys n h = inl refl
+looked-front (x ∷ xs) ys n (inl e) = absurd (cc)
+looked-front (x ∷ xs) ys n (inr h) = inr h
 
 -- ---- the last write
 
@@ -122,6 +130,7 @@ module _ (fresh : Fresh) (old new : Told) (o : List ℕ) (why : Cause) (k : Sink
     called = h.called;
     asked = h.asked;
     entries = h.entries;
+    looked = h.looked;
     written = h.written ++ o;
     takes = Takes-append h.written o _ _ _ h.takes t;
     says = h.says;
@@ -145,6 +154,7 @@ module _ (fresh : Fresh) (old new : Told) (o : List ℕ) (why : Cause) (k : Sink
     called = h.called;
     asked = subst (λ w. AreCallsOf w h.steps h.calls) is h.asked;
     entries = h.entries;
+    looked = h.looked;
     written = h.written ++ take t.0 o;
     takes = Takes-append h.written (take t.0 o) _ _ _ h.takes t.2;
     says = record { front = front-of h.written o (joined (said h.steps)) t.0 (h.says).front; whole = λ e. absurd (cc) };
@@ -168,6 +178,7 @@ module _ (fresh : Fresh) (old new : Told) (o : List ℕ) (why : Cause) (k : Sink
     called = h.called;
     asked = record { uncalled = (h.asked).uncalled; asks = (h.asked).asks; unheard = (h.asked).unheard; outcomes = (h.asked).outcomes; last = (h.asked).last; whole = λ b. absurd (cc); heard = fully (h.asked).heard };
     entries = h.entries;
+    looked = h.looked;
     written = h.written ++ take t.0 o;
     takes = Takes-append h.written (take t.0 o) _ _ _ h.takes t.2;
     says = record { front = front-of h.written o (joined (said h.steps)) t.0 (h.says).front; whole = λ b. absurd (cc) };
@@ -276,6 +287,7 @@ ended-last fresh old new core i o why s = record {
     heard = unheard-memory why s.unheard s.wanting;
   };
   entries = λ e c. s.entries e (Contains-append_left (entries_of s.steps) [] e c);
+  looked = looked-front (entries_of s.steps) [] (new.feed).reads s.looked;
   written = s.written;
   takes = s.takes;
   says = record { front = ([], append-nil _ ∙ s.says); whole = λ e. s.says };

@@ -176,8 +176,9 @@ pub record Serves (fresh : Fresh) (old new : Told) (why : Cause) : Type 0 where
   pub calls : List Call
   pub called : (new.link).calls ≡ with_calls (old.link).calls calls
   pub asked : AreCallsOf why steps calls
-  -- the entries are the feed's, each in its place
+  -- the entries are the feed's, each in its place; a feed that was never read gave none
   pub entries : (e : Entry) → Contains (entries_of steps) e → IsAt (new.feed).list e.number e
+  pub looked : (entries_of steps ≡ []) ⊎ (0 < (new.feed).reads)
   -- the bytes that were written
   pub written : List ℕ
   pub takes : Takes written (old.sink).taken (new.sink).taken
