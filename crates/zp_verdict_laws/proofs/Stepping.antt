@@ -40,7 +40,7 @@ use Rattle.zs_session.specs.declared.connect.Fresh.{Fresh}
 use Rattle.zx_base.proofs.Options.{none_some, some_is}
 use Rattle.zp_step.proofs.Cases.{of_alive}
 use Rattle.zp_step.proofs.Beside.{PlansBeside, first-or-anew, leaves-beside}
-use Rattle.zp_step.specs.Looking.{IsForTree, IfRecords, Looks, asks_for, change_by, decided, expired, max_ranges, moved, pending}
+use Rattle.zp_step.specs.Looking.{IsForTree, IfRecords, Looks, asks_for, change_by, decided, expired, guessed, max_ranges, moved, pending}
 use Rattle.zp_step.proofs.Shutting.{shut-for-good, steps-open}
 use Rattle.zp_step.specs.Connects.{Connects, Opens, begun, connected}
 use Rattle.zp_step.specs.Entries.{entered, then_reply}
@@ -214,7 +214,8 @@ module _ (now : ℕ) (c' : Core) (out : List Action) where
 
   natural-looks : (c : Core) (xid : ℤ) (r : Request) (v : View) → IsForTree r → IsNaturalCore c → IsNaturalView v → Looks c xid r v now c' out → Naturally c' out
   natural-looks c xid r v tree k h (inl y) = natural-is (asks_for c xid r v (take max_ranges y.lacking)) (record { core = staged c (Reading xid r v (take max_ranges y.lacking)) k (tree, h); acts = tt }) y.is
-  natural-looks c xid r v tree k h (inr y) =
+  natural-looks c xid r v tree k h (inr (inl y)) = natural-is (decided c xid r (guessed v y.key) now (Planned y.plan)) (record { core = staged c (Committing xid r (guessed v y.key) y.plan now) k tree; acts = tt }) y.is
+  natural-looks c xid r v tree k h (inr (inr y)) =
       natural-is (decided (keeps c r v) xid r v now y.decision)
       (natural-decided (keeps c r v) xid r v now y.decision tree (record { stage = k.stage; cursor = k.cursor; mine = k.mine }) h
       (natural-tested c v y.decision h (sees v (LeaseKey (nat_abs c.who.session))) refl (y.tested tree))) y.is
