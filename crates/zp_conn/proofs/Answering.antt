@@ -48,7 +48,7 @@ use Rattle.zp_step.specs.Connects.{Connects, Opens, attached_core, begun, connec
 use Rattle.zp_step.specs.Entries.{entered, then_reply}
 use Rattle.zp_step.specs.Keepalives.{Looked, StillMine, TakesUp, checks, keeps_alive}
 use Rattle.zp_step.specs.Kept.{keeps}
-use Rattle.zp_step.specs.Looking.{IfRecords, Looks, change_by, decided, expired, moved, pending}
+use Rattle.zp_step.specs.Looking.{IfRecords, Looks, change_by, decided, expired, guessed, moved, pending}
 use Rattle.zp_step.specs.Plans.{Committed, finishes}
 use Rattle.zp_step.specs.Replies.{Is, close_after, closed_by, is_due, replied, send_notices, stage_after, waits}
 use Rattle.zp_step.specs.Stages.{Core, Pending, Stage, Unconnected, Connecting, Ready, KeepingAlive, Checking, Reading, Committing, Waiting, Shut, is_shut, seen_by, wanted_in}
@@ -230,7 +230,8 @@ module _ (fs : List (List ℕ)) where
 
     looks-row : (c c' : Core) (xid : ℤ) (r : Request) (v : View) (now : ℕ) (out : List Action) → c.waiting ≡ [] → IsAtWork xid fs ps → Looks c xid r v now c' out → Row fs ps c' out
     looks-row c c' xid r v now out w h (inl y) = asks-row ps (record c { stage = Reading xid r v _ }) c' _ out w refl h y.is
-    looks-row c c' xid r v now out w h (inr y) = decided-row (keeps c r v) c' xid r v now out y.decision w h y.is
+    looks-row c c' xid r v now out w h (inr (inl y)) = decided-row c c' xid r (guessed v y.key) now out (Planned y.plan) w h y.is
+    looks-row c c' xid r v now out w h (inr (inr y)) = decided-row (keeps c r v) c' xid r v now out y.decision w h y.is
 
     records-row : (c c' : Core) (ws : List Want) (parts : List ActAns) (out : List Action) (Next : Type 0) (f : List ℕ) → c.waiting ≡ [] → IsServed (f ∷ []) fs ps → (Next → Row fs ps c' out) → IfRecords c ws parts c' out Next → Row fs ps c' out
     records-row c c' ws parts out Next f w s next (inl e) = closed-row ps c c' (cause.Damaged e.key e.value) out w (one-left (cause.Damaged e.key e.value) f fs ps refl s) e.is
