@@ -1,5 +1,5 @@
 -- What a connection has out is carried out: of its asks that are still to come one is done.
-use Rattle.std.proofs.Common.{◌≡◌, ℕ, zero, suc, ◌+◌, ◌≤◌, List, [], length, refl, sym, ap, ◌∙◌, subst, arith, Bool, true, false, ℤ, pos, inl, inr}
+use Rattle.std.proofs.Common.{◌≡◌, ℕ, zero, suc, ◌≤◌, List, [], length, refl, sym, ap, ◌∙◌, subst, arith, Bool, true, false, ℤ, pos, inl, inr}
 use Rattle.std.specs.Prelude.{Contains, Option, Some, None, ◌&&◌, ◌||◌, MatchBool, if◌then◌else◌, is_some, int_lt, nat_eq}
 use Rattle.std.specs.Ordering.{int_eq}
 use Rattle.std.proofs.lemmas.Bool.{and_from}

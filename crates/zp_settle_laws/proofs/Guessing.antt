@@ -1,11 +1,8 @@
 -- A plan on a guess that is wrong: what is read again is of the present too, and is all that the request reads. For the number of the
 -- node to be made is the parent's creates, and these are what they were.
-use Rattle.std.proofs.Common.{◌≡◌, ℕ, ◌≤◌, ℤ, List, [], ◌∷◌, ◌++◌, length, refl, sym, ap, ◌∙◌, subst, arith, Bool, true, false, inl, inr}
-use Rattle.std.specs.Prelude.{Contains, IsTrue, Option, Some, None, ◌⊎◌, if◌then◌else◌, nat_abs}
-use Rattle.std.specs.FinMap.{get}
-use Rattle.ev_types.specs.Ranges.{Keys}
+use Rattle.std.proofs.Common.{◌≡◌, ℤ, List, [], ◌∷◌, ◌++◌, refl, sym, ap, ◌∙◌, subst, arith, Bool, true, false, inl, inr}
+use Rattle.std.specs.Prelude.{Contains, IsTrue, Option, Some, None, if◌then◌else◌}
 use Rattle.ev_types.specs.Store.{Store, present}
-use Rattle.ev_types.specs.declared.answer.ActAns.{ActAns}
 use Rattle.ev_types.specs.declared.answer.Kv.{Kv}
 use Rattle.zk_model.specs.Paths.{parent, with_one}
 use Rattle.zk_model.specs.Single.{is_sequential, named}
@@ -22,7 +19,7 @@ use Rattle.zn_view.proofs.Placed.{seen_in-placed_other}
 use Rattle.zn_view.proofs.SeenAfter.{wanted-shown}
 use Rattle.zn_view.specs.Adding.{at_revision}
 use Rattle.zn_view.specs.Asks.{again_of, guarded_wants, head_want, picked}
-use Rattle.zn_view.specs.Needs.{AreNeeds, Follows, GuardsReads, IsLacking, IsRead, SawCounts, key_want}
+use Rattle.zn_view.specs.Needs.{AreNeeds, Follows, GuardsReads, IsRead, key_want}
 use Rattle.zn_view.specs.Seen.{View, empty_view, seen, seen_in}
 use Rattle.zn_view.specs.Views.{Agrees, about_parent, own_data, own_nodes, reads}
 use Rattle.zn_view.specs.declared.plan.Plan.{Plan}
@@ -33,7 +30,7 @@ use Rattle.zn_view.specs.declared.want.Want.TheVariants as want
 use Rattle.zs_session.specs.Answering.{viewed}
 use Rattle.zx_base.proofs.Booleans.{true-not_false as true-false}
 use Rattle.zx_base.proofs.MapLaws.{same-true}
-use Rattle.zx_base.proofs.Options.{none_some, some_is}
+use Rattle.zx_base.proofs.Options.{none_some}
 use Rattle.zx_base.specs.Maps.{Bytes, same}
 use Rattle.zp_step.specs.Looking.{MayGuess, guessed, is_node_key, makes_sequence}
 use Rattle.zp_settle_laws.proofs.Coming.{ReadsAll}

@@ -14,7 +14,7 @@ use Rattle.zk_model.specs.declared.request.Part.TheVariants as part
 use Rattle.zk_model.specs.declared.request.Request.{Request}
 use Rattle.zk_model.specs.declared.request.Request.TheVariants as req
 use Rattle.zx_base.proofs.Options.{none_some, some_is}
-use Rattle.zx_base.specs.Maps.{Bytes, same}
+use Rattle.zx_base.specs.Maps.{Bytes}
 use Rattle.zn_layout.proofs.ListRecords.{session_value-injective}
 use Rattle.zn_layout.proofs.Nodes.{counts_value-injective, node_value-injective}
 use Rattle.zn_layout.specs.Keys.{Key, CountsKey, DataKey, SessionKey, key_bytes}

@@ -1,14 +1,13 @@
 -- What an attached connection holds is true of the store: its session has few nodes. And a plan on the present would be carried out.
-use Rattle.std.proofs.Common.{◌≡◌, ℕ, List, [], ◌∷◌, length, refl, sym, ap, ◌∙◌, subst, arith, Bool, true, false, ℤ, pos, inl, inr}
+use Rattle.std.proofs.Common.{◌≡◌, ℕ, List, [], ◌∷◌, refl, sym, ap, ◌∙◌, Bool, true, false, ℤ, pos, inl, inr}
 use Rattle.std.specs.Prelude.{All, Option, ◌≤ℤ◌, if◌then◌else◌, nat_abs}
 use Rattle.std.specs.FinMap.{get}
 use Rattle.std.specs.List.{list_all}
 use Rattle.std.proofs.lemmas.Bool.{and_from}
 use Rattle.std.proofs.lemmas.Bool.Decides.{Decides-int_eq}
-use Rattle.std.proofs.lemmas.Int.{ints}
 use Rattle.std.proofs.lemmas.List.Elements.{All-head, All-tail}
 use Rattle.ev_types.specs.Ranges.{Keys}
-use Rattle.ev_types.specs.Store.{Store, holds, mod_of, present, revision, store_at, succeeds}
+use Rattle.ev_types.specs.Store.{Store, holds, mod_of, present, store_at, succeeds}
 use Rattle.ev_types.specs.declared.ask.Guard.{Guard}
 use Rattle.zk_service.specs.States.{IsSound, State}
 use Rattle.zk_transcript.specs.History.{state_at}
