@@ -21,6 +21,9 @@ use zx_words::{MemRandom, RandWord};
 /// How many idle turns of some 10 milliseconds a client waits at most for what a step is to bring.
 const MAX_TURNS: u32 = 3000;
 
+/// How many of these turns it waits at most for what is to come soon. A wait that no bell ends takes twice as long.
+const SOON_TURNS: u32 = 50;
+
 /// How often somebody tries to connect at most until nobody listens any more.
 const MAX_DIALS: u32 = 9;
 
@@ -56,10 +59,15 @@ fn packets_in(bytes: &[u8]) -> usize {
     count
 }
 
-/// Reads on until so many packets have come.
-fn hear_packets<S: Source>(source: &mut S, heard: &mut Vec<u8>, count: usize) -> Result<()> {
+/// Reads on until so many packets have come, in so many turns at most.
+fn hear_packets<S: Source>(
+    source: &mut S,
+    heard: &mut Vec<u8>,
+    count: usize,
+    turns: u32,
+) -> Result<()> {
     let mut room = [0u8; 256];
-    for _ in 0..MAX_TURNS {
+    for _ in 0..turns {
         if packets_in(heard.as_slice()) >= count {
             return Ok(());
         }
@@ -98,19 +106,23 @@ fn step_on<I: Source, O: Sink>(
     if what == "end" {
         return hear_end(source, heard);
     }
+    let (what, turns) = match what.strip_prefix("soon ") {
+        Some(what) => (what, SOON_TURNS),
+        None => (what, MAX_TURNS),
+    };
     let before = packets_in(heard.as_slice());
     if let Some(more) = what.strip_prefix("+") {
         let Ok(more) = more.parse::<usize>() else {
             bail!("no such step");
         };
-        return hear_packets(source, heard, before.saturating_add(more));
+        return hear_packets(source, heard, before.saturating_add(more), turns);
     }
     let Ok(Some(frames)) = frames_of(alloc, what) else {
         bail!("no such step");
     };
     ask(sink, frames.as_slice())?;
     let replies = what.split(' ').count();
-    hear_packets(source, heard, before.saturating_add(replies))
+    hear_packets(source, heard, before.saturating_add(replies), turns)
 }
 
 /// Has a client take a step.

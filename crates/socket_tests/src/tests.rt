@@ -103,8 +103,8 @@ fn is_woken<S: Source, B: Bell>(
 ) -> Result<bool, Fail> {
     let mut was_woken = false;
     for _ in 0..10u32 {
-        bell.arm();
-        bell.ring();
+        bell.arm(6);
+        bell.ring(2);
         let since = Instant::now(&rt)?;
         if turn(source) != answer {
             return Ok(false);
@@ -251,10 +251,10 @@ fn a_ring_ends_a_wait_that_has_begun(rt: HostRuntime) -> Result<(), Fail> {
     let mut was_woken = false;
     for _ in 0..10u32 {
         let theirs = Arc::try_clone(&bell)?;
-        bell.arm();
+        bell.arm(1 << 63);
         let job = move || {
             thread::sleep(&rt, Duration::from_millis(100));
-            theirs.ring();
+            theirs.ring(1 << 63);
         };
         assert!(rt; spawner.start(job).is_ok());
         was_woken = is_woken_late(rt, &mut far)? || was_woken;
@@ -283,10 +283,29 @@ fn a_ring_makes_the_next_turn_idle(rt: HostRuntime) -> Result<(), Fail> {
     for round in 0..10u32 {
         assert!(rt; to_far.write(b"ping") == Took::Bytes(4));
         if round > 0 {
-            bell.ring();
+            bell.ring(u64::MAX);
         }
         assert!(rt; turn(&mut far) == Got::Nothing);
         assert!(rt; comes(&mut far, b"ping"));
+    }
+    Ok(())
+}
+
+#[test]
+fn a_ring_of_other_bits_wakes_nobody(rt: HostRuntime) -> Result<(), Fail> {
+    let ((_near, _to_far), (mut far, _to_near)) = ends_of_a_stream(rt)?;
+    let Some(bell) = far.bell() else {
+        return Err(Fail::from("bell"));
+    };
+    assert!(rt; turn(&mut far) == Got::Nothing);
+    assert!(rt; turn(&mut far) == Got::Nothing);
+    // The wait lasts its second, also where nothing was asked for.
+    for asked in [6, 0] {
+        bell.arm(asked);
+        bell.ring(9);
+        let since = Instant::now(&rt)?;
+        assert!(rt; turn(&mut far) == Got::Nothing);
+        assert!(rt; since.elapsed(&rt)? >= Duration::from_millis(900));
     }
     Ok(())
 }

@@ -13,6 +13,8 @@ use zx_net::Bell;
 pub struct Belled<F: Feed + Drop, B: Bell + Drop> {
     feed: F,
     bell: Arc<B, Global>,
+    /// The bits of the entries that its reader waits for.
+    bits: u64,
 }
 
 impl<F: Feed + Drop, B: Bell + Drop> Belled<F, B> {
@@ -20,7 +22,11 @@ impl<F: Feed + Drop, B: Bell + Drop> Belled<F, B> {
     pub fn new(feed: F, bell: Arc<B, Global>) -> Belled<F, B>
         ensures { result.feed ≡ feed }
     {
-        Belled { feed, bell }
+        Belled {
+            feed,
+            bell,
+            bits: u64::MAX,
+        }
     }
 
     /// The feed itself.
@@ -43,8 +49,13 @@ impl<F: Feed + Drop, B: Bell + Drop> Feed for Belled<F, B> {
     fn next(&mut self, cursor: i64) -> Fed {
         // A look whether the feed has ended needs no wake: no entry is above the greatest number.
         if cursor < i64::MAX {
-            self.bell.arm();
+            self.bell.arm(self.bits);
         }
         self.feed.next(cursor)
+    }
+
+    fn heed(&mut self, bits: u64) {
+        self.bits = bits;
+        self.feed.heed(bits);
     }
 }

@@ -39,12 +39,13 @@ fn answer<L: Etcd>(link: &mut L, ask: &Ask) -> Next
     }
 }
 
-/// The entry after the cursor.
+/// The entry after the cursor. Where there is none, one of these bits is waited for.
 #[tactic(auto, using(crate::proofs::Allowed::lag_above))]
-fn entry<F: Feed>(feed: &mut F, cursor: i64) -> Next
+fn entry<F: Feed>(feed: &mut F, bits: u64, cursor: i64) -> Next
     ensures fed { IsFedIn cursor result }
     ensures feeds { let told = ⟦<F as TellsFeed>⟧.told in Feeds cursor result (told feed.old) (told feed.new) }
 {
+    feed.heed(bits);
     match feed.next(cursor) {
         Fed::Entry(entry) => Next::Input(Input::Entry(entry)),
         Fed::None => Next::Idle,
@@ -110,11 +111,11 @@ pub(crate) fn take_in<L: Etcd, F: Feed, S: Source>(
                 found => found,
             }
         }
-        Wants::FrameOrEntry { cursor } => match entry(feed, cursor) {
+        Wants::FrameOrEntry { cursor } => match entry(feed, core.bits(), cursor) {
             Next::Idle => looked(inbox.next(source, room)),
             found => found,
         },
-        Wants::Entry { cursor } => match entry(feed, cursor) {
+        Wants::Entry { cursor } => match entry(feed, core.bits(), cursor) {
             Next::Idle => looked(inbox.read_ahead(source, room)),
             found => found,
         },

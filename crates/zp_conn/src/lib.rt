@@ -19,7 +19,8 @@
 //! is asked for before the request. [`serve_connection`] is the same where nobody waits.
 //!
 //! A publisher of entries that would wake the connection rings the bell of its source (`Wakes` of `zx_net`). A [`Belled`] feed arms
-//! that bell before each look for an entry.
+//! that bell before each look for an entry, with the bits that the connection last told it: those of its armed watches, or all while a
+//! reply waits.
 //!
 //! Running out of memory, in the trace too, ends the connection. What was sent by then is still written.
 //!

@@ -2,7 +2,7 @@
 //!
 //! [`Core::step`] takes an [`Input`] with the time at which it comes, and answers with what the connection does then. Its
 //! contract is the definition of a step (`Steps` in `zp_step`): contracts see a [`Core`] as the definition's core, and an input
-//! may be handed in where `MayTake` says so. [`Core::wants`] says what the connection waits for.
+//! may be handed in where `MayTake` says so. [`Core::wants`] says what the connection waits for, and [`Core::bits`] for which entries.
 //!
 //! A driver makes a core by [`Core::new`], with the number and the password that a new session would get, and repeats one turn:
 //!

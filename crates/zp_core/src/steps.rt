@@ -6,6 +6,7 @@ ghost use Rattle.zp_step.specs.Steps.{IsFit, MayTake, Steps, StepsOpen};
 ghost use Rattle.zp_step.specs.Kinds.{kind_in_stage};
 ghost use Rattle.zp_core.specs.Held.{IsHeld};
 ghost use Rattle.zp_core.specs.Meanings.{Leads, core_of, stage_of};
+ghost use Rattle.zw_watch.specs.Bits.{IsHeard};
 
 use crate::client::Client;
 use crate::inputs::{go_on, handle};
@@ -116,6 +117,16 @@ impl Core {
             | Stage::Checking { .. }
             | Stage::Reading(_)
             | Stage::Committing(_) => Wants::Answer,
+        }
+    }
+
+    /// The bits of the entries that it waits for: all while a reply waits, and otherwise those of its watches.
+    pub fn bits(&self) -> u64
+        ensures { IsHeard self.now.watches result }
+    {
+        match &self.stage {
+            Stage::Waiting(_) => u64::MAX,
+            _ => self.client.watches.bits(),
         }
     }
 

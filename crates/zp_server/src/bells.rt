@@ -37,11 +37,27 @@ impl<B: Bell + Drop> Bells<B> {
     }
 }
 
+/// Each connection has a turn once in two to the power of this many entries: it is rung whatever it waits for, so that none is left far behind.
+const TURN: u32 = 5;
+
+/// The turn in which the connection is once this entry was published. Connections have theirs at different entries.
+fn turn_of(connection: u64, entry: i64) -> u64 {
+    entry.cast_unsigned().wrapping_add(connection) >> TURN
+}
+
 impl<B: Bell + Drop> Rings for Bells<B> {
     fn ring<R: Wait>(&self, rt: &R) {
         let all = self.all.lock(rt);
         for one in all.iter() {
-            one.1.ring();
+            one.1.ring(u64::MAX);
+        }
+    }
+
+    fn ring_for<R: Wait>(&self, rt: &R, bits: u64, before: i64, after: i64) {
+        let all = self.all.lock(rt);
+        for one in all.iter() {
+            let is_due = turn_of(one.0, before) != turn_of(one.0, after);
+            one.1.ring(if is_due { u64::MAX } else { bits });
         }
     }
 }

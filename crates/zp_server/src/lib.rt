@@ -22,8 +22,13 @@
 //! # Waking
 //!
 //! A connection waits for its client and for the next entry at once. It reads entries from a feed that arms its client's bell
-//! before each look ([`Belled`](zp_conn::Belled)); the watch worker rings all bells after it has published ([`Bells`]). So no entry
-//! is missed, and an idle connection costs next to nothing.
+//! before each look ([`Belled`](zp_conn::Belled)); the watch worker rings after it has published ([`Bells`]). So no entry is missed, and
+//! an idle connection costs next to nothing.
+//!
+//! A ring is for the connections whose watches an entry may fire, by bits of their paths, and for those whose reply waits. The others
+//! would find nothing, but have to go through the entries before too many more were published, or else they lag: each is rung once in
+//! 32 entries too, and not all at the same one, so that they do not all ask for the processor at once. All are rung once the hub is
+//! closed. A ring that passes over a connection wrongly costs at most the second after which a wait ends by itself.
 //!
 //! # Ends
 //!

@@ -4,7 +4,7 @@
 //! after the other, and publishes their entries ([`zw_feed`] says which these are). Where the stream is over it dials the next address,
 //! and asks for what comes after the revision up to which everything was told: that of the last entry, or of a later line without events,
 //! by which etcd tells of its progress. So each update is published once, in order, over however many streams, and a quiet proxy asks for
-//! nothing that was compacted long ago. [`follow_and_ring`] rings besides, after each line, for those who wait for entries.
+//! nothing that was compacted long ago. [`follow_and_ring`] rings besides, after each line that gave entries, for those who wait for them.
 //!
 //! # The end
 //!

@@ -23,6 +23,7 @@ use std::sync::{Arc, Wait};
 use zn_layout::Entry;
 use zw_feed::{FeedFault, Follower};
 use zw_hub::{FeedEnd, Hub};
+use zw_watch::bits_of;
 use zx_base::Memory;
 use zx_net::{Net, NetFault};
 use zx_outside::Source;
@@ -338,7 +339,16 @@ fn end_of(fault: FeedFault) -> StreamEnd
     }
 }
 
-/// Takes a line of a watch that was asked for after this revision, and publishes its entries.
+/// The bits of these entries.
+fn bits_of_all(entries: &[Entry]) -> u64 {
+    let mut bits = 0;
+    for entry in entries {
+        bits |= bits_of(entry.triggers.as_slice());
+    }
+    bits
+}
+
+/// Takes a line of a watch that was asked for after this revision, publishes its entries, and notes their bits.
 fn take_line<R: Wait + Drop>(
     alloc: Global,
     follower: &mut Follower,
@@ -346,6 +356,7 @@ fn take_line<R: Wait + Drop>(
     asked: i64,
     hub: &mut Hub<R>,
     place: &mut Place,
+    bits: &mut u64,
 ) -> Result<(), StreamEnd>
     requires line { LineFits line.now }
     requires stands { Stands hub.old.list follower.old place.old }
@@ -362,9 +373,17 @@ fn take_line<R: Wait + Drop>(
         Ok(entries) => entries,
         Err(fault) => return Err(end_of(fault)),
     };
+    *bits = bits_of_all(entries.as_slice());
     match publish(alloc, hub, entries, place) {
         Ok(()) => Ok(()),
         Err(_refused) => Err(StreamEnd::Closes(FeedEnd::Memory)),
+    }
+}
+
+/// Rings for the entries with these bits that a line gave, if it gave any.
+fn ring_for<R: Wait, B: Rings>(rt: &R, bells: &B, bits: u64, before: i64, after: i64) {
+    if after != before {
+        bells.ring_for(rt, bits, before, after);
     }
 }
 
@@ -410,11 +429,13 @@ pub(crate) fn read_stream<R: Wait, H: Wait + Drop, S: Source, Q: StopWord, B: Ri
         };
         minutes = 0;
         taken = taken_after(&line, taken);
-        match take_line(alloc, &mut follower, &line, asked, hub, place) {
+        let before = place.number;
+        let mut bits = 0;
+        match take_line(alloc, &mut follower, &line, asked, hub, place, &mut bits) {
             Ok(()) => {}
             Err(end) => return end,
         }
-        bells.ring(rt);
+        ring_for(rt, bells, bits, before, place.number);
     }
     unreachable!()
 }

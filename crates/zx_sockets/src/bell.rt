@@ -6,7 +6,7 @@ use std::alloc::Global;
 use std::net::{Net as SystemNet, TcpStream};
 use std::os::fd::AsRawFd;
 use std::sync::Arc;
-use std::sync::atomic::{AtomicBool, Ordering};
+use std::sync::atomic::{AtomicBool, AtomicU64, Ordering};
 use std::time::Duration;
 use zx_net::Bell;
 
@@ -23,8 +23,9 @@ const LONGEST_WAIT: u64 = 1000;
 #[derive(Drop)]
 pub struct SocketBell {
     waker: Waker,
-    is_armed: AtomicBool,
-    /// It was rung, armed or not, or was just hung; and no idle turn came since.
+    /// The bits of which one is to wake it; none once it was woken.
+    asked: AtomicU64,
+    /// It was rung for its reader, or was just hung; and no idle turn came since.
     is_rung: AtomicBool,
 }
 
@@ -36,13 +37,17 @@ impl SocketBell {
 }
 
 impl Bell for SocketBell {
-    fn arm(&self) {
-        self.is_armed.store(true, Ordering::SeqCst);
+    fn arm(&self, bits: u64) {
+        self.asked.store(bits, Ordering::SeqCst);
     }
 
-    fn ring(&self) {
+    fn ring(&self, bits: u64) {
+        let asked = self.asked.load(Ordering::SeqCst);
+        if bits & asked == 0 && bits != u64::MAX && asked != u64::MAX {
+            return;
+        }
         self.is_rung.store(true, Ordering::SeqCst);
-        if self.is_armed.swap(false, Ordering::SeqCst) {
+        if self.asked.swap(0, Ordering::SeqCst) != 0 {
             let _ = self.waker.wake();
         }
     }
@@ -77,7 +82,7 @@ impl Ear {
         // Who hangs a bell may have missed the rings before.
         let bell = SocketBell {
             waker,
-            is_armed: AtomicBool::new(false),
+            asked: AtomicU64::new(0),
             is_rung: AtomicBool::new(true),
         };
         let bell = Arc::new(alloc, bell).ok()?;

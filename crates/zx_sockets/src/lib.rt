@@ -26,10 +26,11 @@
 //! A reader that waits for its peer and for another thread at once asks its source for a bell
 //! ([`Wakes::bell`](zx_net::Wakes::bell)). From then on a read waits for a byte or the bell, up to a second, and costs
 //! no turns in between. The reader arms the bell before it looks at what the other thread gives, and the other thread
-//! rings after it gave: so a ring between the look and the wait ends the wait, and none is lost. A bell costs the
+//! rings after it gave: so a ring between the look and the wait ends the wait, and none is lost. A ring that has none of the bits
+//! which the reader asked for costs one look at them. A bell costs the
 //! source two descriptors more: the source's own goes as the source is ended, and the bell's as the last who rings it lets go of it.
 //!
-//! A reader that looks in its idle turns alone gets one after each ring, armed or not, whatever its peer sends: the next
+//! A reader that looks in its idle turns alone gets one after each ring of all bits, armed or not, whatever its peer sends: the next
 //! read that would ask the system for bytes is idle. So is the first one after the bell was hung. Where there is no bell,
 //! 100 reads in a row that gave bytes are followed by an idle turn.
 //!
