@@ -13,7 +13,7 @@ use Rattle.zs_session.specs.Alive.{is_alive_due}
 use Rattle.zp_step.specs.declared.action.Action.{Action}
 use Rattle.zp_step.specs.Keepalives.{TakesUp, keeps_alive}
 use Rattle.zp_step.specs.Kept.{keeps}
-use Rattle.zp_step.specs.Looking.{Looks, asks_for, change_by, decided, expired, max_ranges, moved, pending}
+use Rattle.zp_step.specs.Looking.{Looks, asks_for, change_by, decided, expired, guessed, max_ranges, moved, pending}
 use Rattle.zp_step.specs.Replies.{Is, is_due, replied}
 use Rattle.zp_step.specs.Stages.{Core, Pending, Stage, Ready, Waiting, is_shut}
 use Rattle.zp_step.specs.Steps.{Goes, rests, takes}
@@ -53,7 +53,8 @@ decided-waits c xid r v now (Moved found) = let p = moved c.who v found xid in s
 
 looks-waits : (c c' : Core) (xid : ℤ) (r : Request) (v : View) (now : ℕ) (out : List Action) → Looks c xid r v now c' out → c'.waiting ≡ c.waiting
 looks-waits c c' xid r v now out (inl y) = is-waits (asks_for c xid r v (take max_ranges y.lacking)) c c' out refl y.is
-looks-waits c c' xid r v now out (inr y) = is-waits (decided (keeps c r v) xid r v now y.decision) c c' out (decided-waits (keeps c r v) xid r v now y.decision) y.is
+looks-waits c c' xid r v now out (inr (inl y)) = is-waits (decided c xid r (guessed v y.key) now (Planned y.plan)) c c' out refl y.is
+looks-waits c c' xid r v now out (inr (inr y)) = is-waits (decided (keeps c r v) xid r v now y.decision) c c' out (decided-waits (keeps c r v) xid r v now y.decision) y.is
 
 readable-waits : (c c' : Core) (now : ℕ) (out : List Action) (x : Frame) (o : Option Told) → TakesReadable c now c' out x o → c'.waiting ≡ c.waiting
 readable-waits c c' now out x (Some t) h = is-waits (plainly c (xid_of x) t) c c' out refl h

@@ -47,7 +47,7 @@ use Rattle.zn_view.specs.Keeping.{update_path}
 use Rattle.zp_step.specs.Kept.{keeps}
 use Rattle.zp_step.proofs.Beside.{PlansBeside, first-or-anew, leaves-beside}
 use Rattle.zp_step.specs.Keepalives.{Checked, KeptAlive, Looked, StillMine, TakesUp, checks, keeps_alive}
-use Rattle.zp_step.specs.Looking.{IfRecords, Looks, asks_for, change_by, decided, expired, max_ranges, moved, pending}
+use Rattle.zp_step.specs.Looking.{IfRecords, Looks, asks_for, change_by, decided, expired, guessed, max_ranges, moved, pending}
 use Rattle.zp_step.specs.Plans.{CommitAnswered, ReadOn, finishes}
 use Rattle.zp_step.specs.Replies.{Is, closed_by, is_due, replied, stage_after, waits}
 use Rattle.zp_step.specs.Stages.{Core, Pending, Stage, Unconnected, Connecting, Ready, KeepingAlive, Checking, Reading, Committing, Waiting, Shut, asked_of, counted_up, is_shut, seen_by}
@@ -108,7 +108,8 @@ module _ (c : Core) (real : IsReal c.who.session) (frames : All IsFrame c.waitin
   module _ (now : ℕ) (c' : Core) (out : List Action) where
     pub looks-held : (xid : ℤ) (r : Request) (v : View) → IsRequest r → IsCountNumber v.revision → Looks c xid r v now c' out → IsHeld c'
     looks-held xid r v q count (inl a) = is-held (asks_for c xid r v (take max_ranges a.lacking)) c' out a.is (record { frames = frames; stage = (real, q, count) })
-    looks-held xid r v q count (inr d) = is-held (decided (keeps c r v) xid r v now d.decision) c' out d.is (decided-held (keeps c r v) real frames xid r v now d.decision q)
+    looks-held xid r v q count (inr (inl g)) = is-held (decided c xid r (guessed v g.key) now (Planned g.plan)) c' out g.is (record { frames = frames; stage = (real, q) })
+    looks-held xid r v q count (inr (inr d)) = is-held (decided (keeps c r v) xid r v now d.decision) c' out d.is (decided-held (keeps c r v) real frames xid r v now d.decision q)
 
     readable-held : (x : Frame) (o : Option Told) → ((xid : ℤ) (r : Request) → x ≡ Asks xid r → IsRequest r) → TakesReadable c now c' out x o → IsHeld c'
     readable-held x (Some t) known h =

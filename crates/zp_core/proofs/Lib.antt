@@ -12,6 +12,7 @@ pub mod Coming
 pub mod Answered
 pub mod Lives
 pub mod Passing
+pub mod Guessing
 pub mod Tasks
 pub mod StillLacking
 pub mod Fronts

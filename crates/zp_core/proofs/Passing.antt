@@ -14,10 +14,10 @@ use Rattle.zn_view.specs.declared.plan.Who.{Who}
 use Rattle.zn_view.specs.declared.want.Want.{Want}
 use Rattle.zp_step.specs.declared.action.Action.{Action}
 use Rattle.zp_step.specs.Kept.{used_first}
-use Rattle.zp_step.specs.Looking.{IsBacked, Looks, decided}
+use Rattle.zp_step.specs.Looking.{IsBacked, Looks, PassesOver, decided}
 use Rattle.zp_step.specs.Replies.{Is}
 use Rattle.zp_step.specs.Stages.{Core}
-use Rattle.zp_step.specs.Taking.{LooksOn, PassesOver}
+use Rattle.zp_step.specs.Taking.{LooksOn}
 use Rattle.zp_core.specs.OnKept.{IsPlanOn}
 
 abbrev pub IsOther : Decision → Type 0

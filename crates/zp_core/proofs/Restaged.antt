@@ -41,8 +41,10 @@ module _ (c : Core) (s : Stage) (c' : Core) (out : List Action) where
   damaged-at ws parts d = record { key = d.key; value = d.value; found = d.found; is = d.is }
 
   pub looks-at : (xid : ℤ) (r : Request) (v : View) (now : ℕ) → Looks (record c { stage = s }) xid r v now c' out → Looks c xid r v now c' out
-  looks-at xid r v now (inl a) = inl (record { lacking = a.lacking; needs = a.needs; some = a.some; is = a.is })
-  looks-at xid r v now (inr d) = inr (record { decision = d.decision; whole = d.whole; tested = d.tested; right = d.right; backed = d.backed; is = d.is })
+  looks-at xid r v now (inl a) = inl (record { lacking = a.lacking; needs = a.needs; some = a.some; unguessed = a.unguessed; is = a.is })
+  looks-at xid r v now (inr (inl g)) =
+      inr (inl (record { key = g.key; needs = g.needs; may = g.may; plan = g.plan; whole = g.whole; tested = g.tested; right = g.right; backed = g.backed; taken = g.taken; is = g.is }))
+  looks-at xid r v now (inr (inr d)) = inr (inr (record { decision = d.decision; whole = d.whole; tested = d.tested; right = d.right; backed = d.backed; is = d.is }))
 
   first-at : (xid : ℤ) (r : Request) (now : ℕ) (o : Option Bytes) → LooksFirst (record c { stage = s }) xid r now c' out o → LooksFirst c xid r now c' out o
   first-at xid r now None h = looks-at xid r empty_view now h

@@ -8,8 +8,7 @@ use Rattle.zn_view.specs.Views.{IsDecision}
 use Rattle.zn_view.specs.declared.plan.Decision.TheVariants.{Planned}
 use Rattle.zn_view.specs.declared.plan.Plan.{Plan}
 use Rattle.zn_view.specs.declared.plan.Who.{Who}
-use Rattle.zp_step.specs.Looking.{IsBacked}
-use Rattle.zp_step.specs.Taking.{PassesOver}
+use Rattle.zp_step.specs.Looking.{IsBacked, PassesOver}
 
 -- nothing is lacking in the view, and this plan is the decision on it
 pub record IsPlanOn (r : Request) (who : Who) (now : ℕ) (v : View) (p : Plan) : Type 0 where

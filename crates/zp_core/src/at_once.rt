@@ -15,14 +15,14 @@ ghost use Rattle.zp_core.specs.OnKept.{PlansOn};
 
 use crate::asks::{ask_plan, needs};
 use crate::client::Client;
-use crate::decisions::decide;
+use crate::decisions::plan_decided;
 use crate::keeping::update_path;
 use crate::looks::look;
 use crate::moves::Move;
 use crate::stage::Task;
 use std::alloc::Global;
 use zk_model::Request;
-use zn_view::{Decision, Plan, View, Who};
+use zn_view::{Plan, View, Who};
 use zp_kept::PathKey;
 use zx_base::{Memory, Seq};
 
@@ -43,10 +43,7 @@ fn plan_on(
     if lacking.len() > 0 {
         return Ok(None);
     }
-    match decide(alloc, request, who, now, view)? {
-        Decision::Planned(plan) => Ok(Some(plan)),
-        Decision::Answered { .. } | Decision::Expired | Decision::Moved { .. } => Ok(None),
-    }
+    plan_decided(alloc, request, who, now, view)
 }
 
 /// Asks for a plan that was made on a kept view: the view was used last.

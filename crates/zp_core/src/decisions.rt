@@ -1,13 +1,15 @@
 //! What is decided on a view that lacks nothing.
 
-ghost use Rattle.std.specs.Prelude.{◌≡◌, ◌≤ℤ◌, [], pos, IfOk, ◌<◌, ◌^◌};
+ghost use Rattle.std.specs.Prelude.{◌≡◌, ◌≤ℤ◌, [], pos, IfOk, IfSome, ◌<◌, ◌^◌};
 ghost use Rattle.zn_view.specs.Needs.{AreNeeds};
 ghost use Rattle.zn_view.specs.Views.{IsDecision};
-ghost use Rattle.zn_view.specs.Deciding.{IsTested};
+ghost use Rattle.zn_updates.specs.Deciding.{IsTakenIfCreate};
+ghost use Rattle.zn_view.specs.Deciding.{IfPlanned, IsTested};
 ghost use Rattle.zp_step.specs.Looking.{IsBacked, change_by, decided, expired, moved, pending};
 ghost use Rattle.zp_step.specs.Replies.{Is};
 ghost use Rattle.zp_core.specs.Held.{IsRequest};
 ghost use Rattle.zp_core.specs.Meanings.{Leads, change_of, pending_of, ready};
+ghost use Rattle.zp_core.specs.OnKept.{PlansOn};
 
 use crate::asks::ask_plan;
 use crate::client::Client;
@@ -21,7 +23,7 @@ use zk_service::Cause;
 use zn_multi::decide_multi;
 use zn_ops::decide as decide_single;
 use zn_reads::seen_paths;
-use zn_view::{Arm, Decision, View, Who};
+use zn_view::{Arm, Decision, Plan, View, Who};
 use zs_close::plan_close;
 use zx_base::{Memory, Seq};
 
@@ -40,11 +42,33 @@ pub(crate) fn decide(
     ensures tested { IfOk result (IsTested request.now who view.now) }
     ensures right { IfOk result (IsDecision request.now who view.now) }
     ensures backed { IfOk result (IsBacked request.now who now view.now) }
+    ensures created { IfOk result (IfPlanned (IsTakenIfCreate request.now)) }
 {
     match request {
         Request::Close => plan_close(alloc, who, view),
         Request::Multi { parts } => decide_multi(alloc, parts.as_slice(), who, now, view),
         _ => decide_single(alloc, request, who, now, view),
+    }
+}
+
+/// The plan that is decided on a view that lacks nothing: `None` where the decision is no plan.
+pub(crate) fn plan_decided(
+    alloc: Global,
+    request: &Request,
+    who: Who,
+    now: u64,
+    view: &View,
+) -> Result<Option<Plan>, Memory>
+    requires request { IsRequest request.now }
+    requires real { pos 1 ≤ℤ who.session }
+    requires time { now < 2 ^ 62 }
+    requires whole { AreNeeds request.now who view.now [] }
+    ensures plan { IfOk result (PlansOn request.now who now view.now) }
+    ensures created { IfOk result (λ o. IfSome o (IsTakenIfCreate request.now)) }
+{
+    match decide(alloc, request, who, now, view)? {
+        Decision::Planned(plan) => Ok(Some(plan)),
+        Decision::Answered { .. } | Decision::Expired | Decision::Moved { .. } => Ok(None),
     }
 }
 

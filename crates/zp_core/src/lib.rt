@@ -20,13 +20,16 @@
 //! an int counts as out of memory, since no client has memory for it.
 //!
 //! In `specs/`, in reading order: `Meanings` (what the code keeps, as the definition's data), `Held` (what is true of every
-//! core), `Going` (how a step goes on with the frames that wait), `OnKept` (a plan on a kept view), `Left` (requests whose reads no
-//! answer changes). In `proofs/`, `HeldAfter` shows that a step leaves `Held` true, `Restaged` that most of a step does not look at
+//! core), `Going` (how a step goes on with the frames that wait), `OnKept` (a plan on a kept view), `Guessing` (a plan on a guess),
+//! `Left` (requests whose reads no answer changes). In `proofs/`, `HeldAfter` shows that a step leaves `Held` true, `Restaged` that most of a step does not look at
 //! the stage, and `StillLacking` that of a setWatches what was left to ask is what is lacking after an answer.
 //!
 //! Views of up to 16 paths that were used are kept (`zp_kept`). An update on such a path is planned on the kept view at once, and
 //! takes one ask where that view is current; where it is not, a guard of the transaction fails and shows what is. Each answer and
 //! each refusal is by a view that was read after its frame was taken up.
+//!
+//! A sequence node's create that lacks the record of its node alone is planned as if that were absent (`guesses`), which spares a
+//! round. The view is copied for that once, since it must stay as it is where the guess gives no plan.
 //!
 //! What a request lacks is worked out once for each of its rounds, but once for all rounds of a setWatches, whose reads no answer
 //! changes: the keys after those that are out are kept with them (`round`). So a setWatches takes time in proportion to the number
@@ -45,6 +48,7 @@ mod copies;
 mod decisions;
 mod entries;
 mod frames;
+mod guesses;
 mod inputs;
 mod keepalives;
 mod keeping;

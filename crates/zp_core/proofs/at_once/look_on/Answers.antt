@@ -7,9 +7,9 @@ use Rattle.zx_base.specs.Maps.{same}
 use Rattle.zn_view.specs.Seen.{View}
 use Rattle.zn_view.specs.declared.plan.Decision.TheVariants.{Planned}
 use Rattle.zp_step.specs.Kept.{used_first}
-use Rattle.zp_step.specs.Looking.{Looks, decided}
+use Rattle.zp_step.specs.Looking.{Looks, PassesOver, decided}
 use Rattle.zp_step.specs.Replies.{Is}
-use Rattle.zp_step.specs.Taking.{LooksOn, PassesOver}
+use Rattle.zp_step.specs.Taking.{LooksOn}
 use Rattle.zp_core.specs.Meanings.{Leads, core_of, ready, stage_of}
 use Rattle.zp_core.specs.OnKept.{IsPlanOn, PlansOn}
 use Rattle.zp_core.specs.declared.stage.Task.{Task}

@@ -26,5 +26,5 @@ returns c =
     let backed = at-task (λ r v. IsBacked r who c.args.now v d) c.deref-3.result.now c.deref-4.result.now t c.deref-3.ensures c.deref-4.ensures c.in_ok-decision.ensures.backed in
     let after = c.in_ok-keep_view.ensures ∙ (λ i. keeps core (c.deref.ensures i).request (c.deref-2.ensures i).view) in
     IfOk-weaker c.carry.result (Leads (Is (decided kept t.xid t.request t.view c.args.now d)) c.carry.new.client) (Leads (Looks core t.xid t.request t.view c.args.now) c.carry.new.client)
-    (λ m i. inr (record { decision = d; whole = lacks-none t.request who t.view c.args.lacking.items (omega (arith, long)) c.requires.needs; tested = tested; right = right; backed = backed; is = i }))
+    (λ m i. inr (inr (record { decision = d; whole = lacks-none t.request who t.view c.args.lacking.items (omega (arith, long)) c.requires.needs; tested = tested; right = right; backed = backed; is = i })))
     (subst (λ (k : Core). IfOk c.carry.result (Leads (Is (decided k t.xid t.request t.view c.args.now d)) c.carry.new.client)) after c.carry.ensures)

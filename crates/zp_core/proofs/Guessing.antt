@@ -1,0 +1,141 @@
+-- Which key is guessed absent, and that a view with the guess lacks nothing, where that key was all that the view lacked.
+use Rattle.std.proofs.Common.{◌≡◌, ◌≢◌, ℕ, ℤ, zero, suc, ◌<◌, refl, sym, ap, ◌∙◌, subst, arith, inl, inr, Bool, true, false, List, [], ◌∷◌, ◌&&◌, not, length, take, ◌⊎◌, ⊎_elim}
+use Rattle.std.specs.Prelude.{AllPairs, Contains, Option, Some, None}
+use Rattle.ev_types.specs.declared.answer.Kv.{Kv}
+use Rattle.zk_model.specs.declared.request.Request.{Request}
+use Rattle.zk_model.specs.declared.request.Request.TheVariants as req
+use Rattle.zk_model.specs.Watches.{no_watches}
+use Rattle.zk_service.specs.Answers.{plain_request}
+use Rattle.zx_base.specs.Maps.{Bytes, same}
+use Rattle.zx_base.proofs.MapLaws.{same-true}
+use Rattle.zx_base.proofs.Options.{none_some, some_is}
+use Rattle.zn_layout.specs.declared.record.CountRec.{CountRec}
+use Rattle.zn_layout.specs.Keys.{CountsKey, Key, key_bytes}
+use Rattle.zn_view.specs.Adding.{is_new}
+use Rattle.zn_view.specs.Deciding.{IsTaken}
+use Rattle.zn_view.specs.declared.plan.Decision.TheVariants.{Planned}
+use Rattle.zn_view.specs.declared.plan.Plan.{Plan}
+use Rattle.zn_view.specs.declared.plan.Who.{Who}
+use Rattle.zn_view.specs.declared.snapshot.SeenKey.{SeenKey}
+use Rattle.zn_view.specs.declared.want.Want.{Want}
+use Rattle.zn_view.specs.declared.want.Want.TheVariants as want
+use Rattle.zn_view.specs.Needs.{AreNeeds, Follows, IsLacking, IsRead, SawCounts, SawValue, key_want}
+use Rattle.zn_view.specs.Seen.{View, seen}
+use Rattle.zn_view.proofs.Elements.{contains-cases, empty-contains}
+use Rattle.zn_view.proofs.Placed.{seen_in-placed_other, seen_in-placed_same}
+use Rattle.zn_updates.specs.Deciding.{IsTakenIfCreate}
+use Rattle.zp_step.specs.declared.action.Action.{Action}
+use Rattle.zp_step.specs.Looking.{Looks, MayGuess, asks_for, decided, guessed, is_node_key, makes_sequence, max_ranges, PassesOver}
+use Rattle.zp_step.specs.Replies.{Is}
+use Rattle.zp_step.specs.Stages.{Core}
+use Rattle.zp_core.specs.Guessing.{GuessesAt, GuessesOn, may_guess}
+use Rattle.zp_core.specs.declared.guesses.Guess.{Guess}
+
+-- ---- whether a key is guessed
+
+pub may-guess : (r : Request) (v : View) (key : Bytes) → may_guess r v key ≡ true → MayGuess r v key
+may-guess r v key h = go (makes_sequence r) (is_new v) (is_node_key key) refl refl refl h
+  where
+    go : (a b c : Bool) → makes_sequence r ≡ a → is_new v ≡ b → is_node_key key ≡ c → (a && not b) && c ≡ true → MayGuess r v key
+    go true false true made begun node e = record { sequence = made; begun = begun; record_of_node = node }
+    go true true c made begun node e = absurd (cc)
+    go true false false made begun node e = absurd (cc)
+    go false b c made begun node e = absurd (cc)
+
+-- ---- what such a view saw
+
+module _ (v : View) (key : Bytes) where
+  abbrev absent : SeenKey
+  absent = record { key = key; found = None }
+
+  guessed-seen : seen (guessed v key) key ≡ Some None
+  guessed-seen = seen_in-placed_same absent v.keys
+
+  -- what it found was found before
+  found-before : (k : Bytes) (kv : Kv) → seen (guessed v key) k ≡ Some (Some kv) → seen v k ≡ Some (Some kv)
+  found-before k kv e = go (same key k) refl
+    where
+      go : (b : Bool) → same key k ≡ b → seen v k ≡ Some (Some kv)
+      go true t = absurd (none_some (some_is (sym guessed-seen ∙ ap (λ (q : Bytes). seen (guessed v key) q) (same-true key k t) ∙ e)))
+      go false t = sym (seen_in-placed_other absent v.keys k t) ∙ e
+
+  -- a key that it lacks was lacking before
+  lacking-before : (k : Bytes) → seen (guessed v key) k ≡ None → seen v k ≡ None
+  lacking-before k e = go (same key k) refl
+    where
+      go : (b : Bool) → same key k ≡ b → seen v k ≡ None
+      go true t = absurd (none_some (sym e ∙ ap (λ (q : Bytes). seen (guessed v key) q) (sym (same-true key k t)) ∙ guessed-seen))
+      go false t = sym (seen_in-placed_other absent v.keys k t) ∙ e
+
+  saw-before : (q : Bytes) (r : CountRec) → SawCounts (guessed v key) q r → SawCounts v q r
+  saw-before q r saw = let found = saw.1 in (saw.0, (found.0, found-before (key_bytes (CountsKey q)) found.0 found.1, found.2))
+
+  -- ---- what a create reads
+
+  follows-before : (r : Request) (id : ℤ) (w : Want) → makes_sequence r ≡ true → Follows r id (guessed v key) w → Follows r id v w
+  follows-before (req.Create p d a f) id w made (t, q, up, r, saw, is) = (t, q, up, r, saw-before q r saw, is)
+  follows-before (req.Create2 p d a f) id w made (t, q, up, r, saw, is) = (t, q, up, r, saw-before q r saw, is)
+  follows-before _ id w made h = absurd (cc)
+
+  read-before : (r : Request) (who : Who) (w : Want) → makes_sequence r ≡ true → IsRead r who (guessed v key) w → IsRead r who v w
+  read-before r who w made (inl e) = inl e
+  read-before r who w made (inr (inl e)) = inr (inl e)
+  read-before r who w made (inr (inr (inl e))) = inr (inr (inl e))
+  read-before r who w made (inr (inr (inr f))) = inr (inr (inr (follows-before r who.session w made f)))
+
+  -- a create lists no children
+  no-children : (r : Request) (who : Who) (u : View) (p : Bytes) → makes_sequence r ≡ true → IsRead r who u (want.Children p) → ⊥
+  no-children r who u p made (inl e) = absurd (cc)
+  no-children r who u p made (inr (inl e)) = absurd (cc)
+  no-children r who u p made (inr (inr (inl (k, has, e)))) = absurd (cc)
+  no-children (req.Create path d a f) who u p made (inr (inr (inr (t, q, up, counts, saw, e)))) = absurd (cc)
+  no-children (req.Create2 path d a f) who u p made (inr (inr (inr (t, q, up, counts, saw, e)))) = absurd (cc)
+  no-children _ who u p made (inr (inr (inr f))) = absurd (cc)
+
+  none-lacking : (r : Request) (who : Who) → makes_sequence r ≡ true → AreNeeds r who v (want.Key key ∷ []) → plain_request no_watches r ≡ None → (w : Want) → IsRead r who (guessed v key) w → IsLacking (guessed v key) w → ⊥
+  none-lacking r who made needs plain (want.Key k) read lacks = ⊎_elim
+      (λ e. let seen = guessed-seen in absurd (cc))
+      (λ h. empty-contains [] (want.Key k) refl h)
+      (contains-cases (want.Key key) [] (want.Key k) (needs.all plain (want.Key k) (read-before r who (want.Key k) made read) (lacking-before k lacks)))
+  none-lacking r who made needs plain (want.Children p) read lacks = no-children r who (guessed v key) p made read
+
+  pub guess-whole : (r : Request) (who : Who) → makes_sequence r ≡ true → AreNeeds r who v (want.Key key ∷ []) → AreNeeds r who (guessed v key) []
+  guess-whole r who made needs = record {
+    only = λ w c. absurd (empty-contains [] w refl c);
+    enough = λ none plain w read lacks. none-lacking r who made needs plain w read lacks;
+    all = λ plain w read lacks. absurd (none-lacking r who made needs plain w read lacks);
+    once = λ i j d less within. absurd (omega (arith, within));
+    none = λ t plain. refl;
+  }
+
+-- an etcd takes the plan of such a create
+pub taken-made : (r : Request) (p : Plan) → makes_sequence r ≡ true → IsTakenIfCreate r p → IsTaken p
+taken-made (req.Create path d a f) p made h = h
+taken-made (req.Create2 path d a f) p made h = h
+taken-made _ p made h = absurd (cc)
+
+-- a plan on the one key that is lacking, or none
+pub guesses-on : (r : Request) (who : Who) (now : ℕ) (v : View) (key : Bytes) (ws : List Want) (o : Option Guess) → ws ≡ want.Key key ∷ [] → MayGuess r v key → GuessesAt r who now v key o → GuessesOn r who now v ws o
+guesses-on r who now v key ws (Some g) only may h = (key, only, may, h)
+guesses-on r who now v key ws None only may h = λ other is also. let same : key ≡ other = cc in subst (λ (k : Bytes). PassesOver r who (guessed v k)) same h
+
+-- ---- what is done
+
+module _ (c : Core) (xid : ℤ) (r : Request) (v : View) (now : ℕ) (ws : List Want) (needs : AreNeeds r c.who v ws) (c' : Core) (out : List Action) where
+  pub looks-guessed : (g : Guess) → GuessesOn r c.who now v ws (Some g) → Is (decided c xid r g.view now (Planned g.plan)) c' out → Looks c xid r v now c' out
+  looks-guessed g (key, only, may, on) i =
+      inr (inl (record {
+        key = key;
+        needs = subst (AreNeeds r c.who v) only needs;
+        may = may;
+        plan = g.plan;
+        whole = on.planned.whole;
+        tested = on.planned.tested;
+        right = on.planned.right;
+        backed = on.planned.backed;
+        taken = on.taken;
+        is = subst (λ (u : View). Is (decided c xid r u now (Planned g.plan)) c' out) on.on i;
+      }))
+
+  pub looks-asked : 0 < length ws → GuessesOn r c.who now v ws None → Is (asks_for c xid r v (take max_ranges ws)) c' out → Looks c xid r v now c' out
+  looks-asked some unguessed i = inl (record { lacking = ws; needs = needs; some = λ e. omega (arith, some, ap (λ (l : List Want). length l) e); unguessed = unguessed; is = i })
