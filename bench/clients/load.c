@@ -323,14 +323,12 @@ static void etcd_turn(worker *w) {
     w->revision = update(w, body, life, data, counts, head, value);
   }
   if (!strcmp(what, "sequence")) {
-    /* The number, then whether the node is there, and then the update. */
+    /* The number, and then the update: that the node is not there is guarded, and not read before. */
     snprintf(name, sizeof name, "zk/d/0002%s/x%010d", w->key, w->count);
     base64(name, strlen(name), x);
     snprintf(name, sizeof name, "zk/c/0002%s/x%010d", w->key, w->count);
     base64(name, strlen(name), xc);
     snprintf(body, sizeof body, "{\"success\":[" RANGE(0) "," RANGE(0) "," RANGE(0) "," RANGE(0) "]}", head, life, data, counts);
-    long seen = post(w, body);
-    snprintf(body, sizeof body, "{\"success\":[{\"request_range\":{\"key\":\"%s\",\"revision\":\"%ld\"}}]}", x, seen);
     post(w, body);
     w->revision = make(w, body, life, data, counts, x, xc, head, value);
   }
