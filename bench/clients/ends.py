@@ -27,7 +27,7 @@ def it_ends_after_its_limit(program, work):
 def no_etcd_is_a_net_fault(program, work):
     proxy = Proxy(program, f"127.0.0.1:{free_port()}", work, is_awaited=False)
     assert proxy.status() == 6 and proxy.lines() == ["net fault"], proxy.lines()
-    assert len(proxy.faults()) == 2 and "first ask of" in proxy.faults()[0], proxy.faults()
+    assert len(proxy.faults()) == 2 and "nobody answers there" in proxy.faults()[0], proxy.faults()
 
 
 def an_address_in_use_is_a_net_fault(program, work):
