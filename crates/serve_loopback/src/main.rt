@@ -21,7 +21,7 @@
 //! |---|---|
 //! | `C FRAME ..` | it sends these frames, and waits for as many packets |
 //! | `C +N` | it waits for N packets more |
-//! | `C soon FRAME ..`, `C soon +N` | the same, within some half a second of idle time |
+//! | `C soon FRAME ..`, `C soon +N` | the same, in less than 0.9 seconds by the clock |
 //! | `C end` | it waits for the end of its stream |
 //! | `C cut` | it cuts its stream |
 //! | `shut` | somebody tries to connect until nobody listens |

@@ -11,7 +11,7 @@ use std::net::{Net, TcpListener, TcpStream};
 use std::random::RandomSource;
 use std::sync::{Arc, Wait};
 use std::thread::{self, Threads};
-use std::time::Clock;
+use std::time::{Clock, Duration, Instant};
 use zx_base::Memory;
 use zx_net::Net as Streams;
 use zx_outside::{Got, Sink, Source};
@@ -21,8 +21,8 @@ use zx_words::{MemRandom, RandWord};
 /// How many idle turns of some 10 milliseconds a client waits at most for what a step is to bring.
 const MAX_TURNS: u32 = 3000;
 
-/// How many of these turns it waits at most for what is to come soon. A wait that no bell ends takes twice as long.
-const SOON_TURNS: u32 = 50;
+/// In how many milliseconds has come what comes soon. A wait of the server's that no bell ends takes 1000.
+const SOON: u64 = 900;
 
 /// How often somebody tries to connect at most until nobody listens any more.
 const MAX_DIALS: u32 = 9;
@@ -59,15 +59,10 @@ fn packets_in(bytes: &[u8]) -> usize {
     count
 }
 
-/// Reads on until so many packets have come, in so many turns at most.
-fn hear_packets<S: Source>(
-    source: &mut S,
-    heard: &mut Vec<u8>,
-    count: usize,
-    turns: u32,
-) -> Result<()> {
+/// Reads on until so many packets have come.
+fn hear_packets<S: Source>(source: &mut S, heard: &mut Vec<u8>, count: usize) -> Result<()> {
     let mut room = [0u8; 256];
-    for _ in 0..turns {
+    for _ in 0..MAX_TURNS {
         if packets_in(heard.as_slice()) >= count {
             return Ok(());
         }
@@ -106,27 +101,44 @@ fn step_on<I: Source, O: Sink>(
     if what == "end" {
         return hear_end(source, heard);
     }
-    let (what, turns) = match what.strip_prefix("soon ") {
-        Some(what) => (what, SOON_TURNS),
-        None => (what, MAX_TURNS),
-    };
     let before = packets_in(heard.as_slice());
     if let Some(more) = what.strip_prefix("+") {
         let Ok(more) = more.parse::<usize>() else {
             bail!("no such step");
         };
-        return hear_packets(source, heard, before.saturating_add(more), turns);
+        return hear_packets(source, heard, before.saturating_add(more));
     }
     let Ok(Some(frames)) = frames_of(alloc, what) else {
         bail!("no such step");
     };
     ask(sink, frames.as_slice())?;
     let replies = what.split(' ').count();
-    hear_packets(source, heard, before.saturating_add(replies), turns)
+    hear_packets(source, heard, before.saturating_add(replies))
+}
+
+/// Has a client do this on its stream, in time if it is to come soon.
+fn step_in_time<R: Clock, I: Source, O: Sink>(
+    rt: &R,
+    alloc: Global,
+    source: &mut I,
+    sink: &mut O,
+    heard: &mut Vec<u8>,
+    what: &str,
+) -> Result<()> {
+    let Some(what) = what.strip_prefix("soon ") else {
+        return step_on(alloc, source, sink, heard, what);
+    };
+    let start = Instant::now(rt)?;
+    step_on(alloc, source, sink, heard, what)?;
+    if start.elapsed(rt)? >= Duration::from_millis(SOON) {
+        bail!("a client waits too long");
+    }
+    Ok(())
 }
 
 /// Has a client take a step.
-fn take_step<I: Source + Drop, O: Sink + Drop>(
+fn take_step<R: Clock, I: Source + Drop, O: Sink + Drop>(
+    rt: &R,
     alloc: Global,
     client: &mut Client<I, O>,
     what: &str,
@@ -136,7 +148,7 @@ fn take_step<I: Source + Drop, O: Sink + Drop>(
         return Ok(());
     }
     match &mut client.ends {
-        Some((source, sink)) => step_on(alloc, source, sink, &mut client.heard, what),
+        Some((source, sink)) => step_in_time(rt, alloc, source, sink, &mut client.heard, what),
         None => bail!("a client is gone"),
     }
 }
@@ -152,7 +164,8 @@ fn await_shut<N: Streams>(net: &mut N, address: &str) -> Result<()> {
 }
 
 /// Takes one step of a row. The client that comes next connects first.
-fn act<N: Streams>(
+fn act<R: Clock, N: Streams>(
+    rt: &R,
     alloc: Global,
     net: &mut N,
     address: &str,
@@ -174,13 +187,14 @@ fn act<N: Streams>(
         clients.push(Client { ends, heard })?;
     }
     match clients.get_mut(number.saturating_sub(1)) {
-        Some(client) => take_step(alloc, client, what),
+        Some(client) => take_step(rt, alloc, client, what),
         None => bail!("no such client"),
     }
 }
 
 /// Has clients take these steps, and gives what each received.
-fn act_all<N: Streams>(
+fn act_all<R: Clock, N: Streams>(
+    rt: &R,
     alloc: Global,
     net: &mut N,
     address: &str,
@@ -188,7 +202,7 @@ fn act_all<N: Streams>(
 ) -> Result<Vec<Heard>> {
     let mut clients = Vec::new(alloc);
     for step in steps.split("; ") {
-        act(alloc, net, address, &mut clients, step)?;
+        act(rt, alloc, net, address, &mut clients, step)?;
     }
     let mut all = Vec::new(alloc);
     for client in clients {
@@ -341,7 +355,7 @@ fn play<
         bail!("no thread");
     };
     let mut net = StdNet::new(rt, alloc).another();
-    let heard = act_all(alloc, &mut net, listen, steps)?;
+    let heard = act_all(&rt, alloc, &mut net, listen, steps)?;
     if !watched.await_end(&rt) {
         bail!("the server does not end");
     }
