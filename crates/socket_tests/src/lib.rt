@@ -4,4 +4,12 @@
 #![tactic(auto)]
 
 #[cfg(test)]
-mod tests;
+mod bells;
+#[cfg(test)]
+mod clocks;
+#[cfg(test)]
+mod common;
+#[cfg(test)]
+mod nets;
+#[cfg(test)]
+mod patience;
