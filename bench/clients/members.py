@@ -196,7 +196,7 @@ def the_endpoints_are_dialled_in_turn(program, work):
         watches = lambda: [number for number, route, _body in list(asked) if route == "/v3/watch"]
         assert until(lambda: len(watches()) >= 7, 30), watches()
         assert watches()[:7] == [0, 1, 2, 0, 1, 2, 0], watches()
-        # A client's link is to the first member that can be dialled.
+        # A client's link is to the first member that can be dialled, from the one on that was dialled last.
         connects = lambda: [it[0] for it in list(asked)[1:] if it[2] == LOOK]
         for first in (0, 1, 2):
             with socket.create_connection(("127.0.0.1", proxy.port), 5) as client:
@@ -339,8 +339,9 @@ def a_proxy_begins_beside_a_member_without_a_leader(program, work):
             assert until(lambda: proxy.lines() or proxy.process.poll() is not None, 30)
             listens = time.time() - since
             assert proxy.lines() == [f"listening {proxy.address}"] and listens < 10, f"{proxy.lines()} after {listens:.1f} s"
-            # A client's link is to the first member that takes it, with a leader or without.
+            # A client's link is to the member that answered the proxy's first ask.
             meanwhile = what_comes_of_a_client(proxy)
+            assert meanwhile.startswith("is served"), meanwhile
             etcd.heal()
             assert until(etcd.members[0].is_healthy, 20), "the member that was cut off has no leader again"
             assert what_comes_of_a_client(proxy).startswith("is served"), "no client is served after the heal"

@@ -10,7 +10,7 @@ ghost use Rattle.zp_server.specs.Looking.{Finds, FindsOpenFor, FindsOpenTwice};
 
 use crate::admitting::admit;
 use crate::book::Book;
-use crate::desk::Desk;
+use crate::desk::{Desk, chosen};
 use crate::ends::Stop;
 use crate::fresh::fresh;
 use crate::gate::Gate;
@@ -125,7 +125,8 @@ where
     ensures own { desk.new.own ≡ desk.old.own }
     ensures found { Finds result desk.new.own desk.new.free.items }
 {
-    desk.choose(endpoint);
+    desk.at = chosen(endpoint, desk.at, desk.is_broken);
+    desk.is_broken = false;
     match link_to(alloc, net, endpoint, &mut desk.at) {
         Ok(link) => {
             let fresh = fresh(random);

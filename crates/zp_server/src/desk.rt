@@ -38,29 +38,6 @@ impl Desk {
         self.busy.as_slice().is_empty()
     }
 
-    /// Notes why a connection ended.
-    pub fn note(&mut self, cause: &Cause)
-        ensures own { self.new.own ≡ self.old.own }
-        ensures busy { self.new.busy.items ≡ self.old.busy.items }
-        ensures free { self.new.free.items ≡ self.old.free.items }
-    {
-        if let Cause::LinkFault = cause {
-            self.is_broken = true;
-        }
-    }
-
-    /// Chooses the endpoint that is dialled first for the next client: the one that was dialled last, or the next one if a link failed since.
-    pub fn choose(&mut self, endpoint: &str)
-        ensures own { self.new.own ≡ self.old.own }
-        ensures busy { self.new.busy.items ≡ self.old.busy.items }
-        ensures free { self.new.free.items ≡ self.old.free.items }
-    {
-        if self.is_broken {
-            self.at = next_of(endpoint, self.at);
-            self.is_broken = false;
-        }
-    }
-
     /// Tells the operator if no further client can be served until one leaves, once each time that the places run out.
     pub fn tell_if_full<W: Eprint>(&mut self, rt: &W)
         ensures own { self.new.own ≡ self.old.own }
@@ -75,6 +52,20 @@ impl Desk {
             self.is_full = false;
         }
     }
+}
+
+/// Whether a link failed since the endpoint was chosen that is dialled first, now that a connection ended for this cause too.
+pub fn broken_by(is_broken: bool, cause: &Cause) -> bool {
+    match cause {
+        Cause::LinkFault => true,
+        _ => is_broken,
+    }
+}
+
+/// The number of the endpoint that is dialled first for the next client: the one that was dialled last, or the next one if a link failed
+/// since.
+pub fn chosen(endpoint: &str, at: usize, is_broken: bool) -> usize {
+    if is_broken { next_of(endpoint, at) } else { at }
 }
 
 /// Where the number stands.

@@ -10,7 +10,7 @@ ghost use Rattle.zp_server.specs.Looking.{Finds, IsFound, IsFoundClosed};
 
 use crate::back::Returned;
 use crate::book::Book;
-use crate::desk::{Desk, strike};
+use crate::desk::{Desk, broken_by, strike};
 use crate::ends::Stop;
 use crate::gate::Gate;
 use crate::house::House;
@@ -42,7 +42,7 @@ pub fn take_back<I: Source + Drop, K: Sink + Drop, O: Sink, B: Book<I, K>>(
     if !strike(&mut desk.busy, served.number) {
         return Err(Stop::Memory);
     }
-    desk.note(&served.cause);
+    desk.is_broken = broken_by(desk.is_broken, &served.cause);
     match say_closed(alloc, served.number, &served.cause, out) {
         Ok(()) => {}
         Err(stop) => return Err(stop),
