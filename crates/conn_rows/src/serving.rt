@@ -7,6 +7,7 @@ use ev_types::Ask;
 use row_files::{hex_of, push_word};
 use std::alloc::Global;
 use std::sync::{Arc, Wait};
+use zk_model::Layout;
 use zk_service::Ended;
 use zk_transcript::TranscriptLine;
 use zn_layout::begin_ask;
@@ -21,6 +22,7 @@ use zx_outside::{MemSink, MemSource};
 const FRESH: Fresh = Fresh {
     id: 17,
     passwd: [0xaa; 16],
+    layout: Layout::Two,
 };
 
 /// Which calls fail, counted from 1: 0 for none.

@@ -328,7 +328,12 @@ fn session_of(
         passwd: Bytes::new(alloc),
         read_only: None,
     });
-    Session::new(alloc, Some((id, [0xaa; 16])), &asked, connection, zxid)
+    let fresh = Fresh {
+        id,
+        passwd: [0xaa; 16],
+        layout: Layout::Two,
+    };
+    Session::new(alloc, Some(fresh), &asked, connection, zxid)
 }
 
 /// Whether a service can begin at a time, in milliseconds.

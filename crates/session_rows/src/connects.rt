@@ -10,7 +10,7 @@ use ev_store::Store;
 use ev_types::{Answer, Ask};
 use row_files::{Piece, Words, bytes_of, hex_of, push, push_number};
 use std::alloc::Global;
-use zk_model::{ConnectRequest, ConnectResponse};
+use zk_model::{ConnectRequest, ConnectResponse, Layout};
 use zn_view::Who;
 use zs_session::{ConnectStep, Connecting, Fresh, StepFault, alive_due};
 use zx_base::{Bytes, Memory};
@@ -95,6 +95,7 @@ pub fn begin(
     let fresh = Fresh {
         id: wish.id,
         passwd,
+        layout: Layout::One,
     };
     let connecting = Connecting::new(alloc, request, fresh);
     Ok(Some(stepped(alloc, text, connecting, None)?))

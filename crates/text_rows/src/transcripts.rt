@@ -2,6 +2,7 @@
 
 use row_files::{Words, bytes_of};
 use std::alloc::Global;
+use zk_model::Layout;
 use zk_service::{Cause, Ended, UpdateKind, UpdateRec};
 use zk_transcript::TranscriptLine;
 use zt_text::{Unread, Why, push_done, push_fault, push_line, push_unread};
@@ -115,7 +116,8 @@ fn line_of(
 ) -> Result<Option<TranscriptLine>, Memory> {
     match form {
         "Update" => Ok(update(words)),
-        "Open" => Ok(open(words)),
+        "Open" => Ok(open(words, Layout::Two)),
+        "Open1" => Ok(open(words, Layout::One)),
         "Lapse" => Ok(lapse(words)),
         "Frame" => frame(alloc, words),
         "Send" => send(alloc, words),
@@ -170,7 +172,7 @@ fn kind(words: &mut Words<'_>) -> Option<UpdateKind> {
     }
 }
 
-fn open(words: &mut Words<'_>) -> Option<TranscriptLine> {
+fn open(words: &mut Words<'_>, layout: Layout) -> Option<TranscriptLine> {
     let connection = words.number()?;
     let proxy = words.number()?;
     let id = words.long()?;
@@ -181,6 +183,7 @@ fn open(words: &mut Words<'_>) -> Option<TranscriptLine> {
         proxy,
         id,
         passwd,
+        layout,
     })
 }
 

@@ -38,7 +38,7 @@ appended w w' s = (s.more, s.lines)
 pub happens-appends : (w w' : World) (h : Happening) → Happens w h w' → Appends w w'
 happens-appends w w' (line.Settle c) h = appended w w' (settles-since (max_settling c w) c w w' h.effect)
 happens-appends w w' (line.Tick n) h = ([], ap (λ (v : World). v.lines) h.effect ∙ sym (append-nil w.lines))
-happens-appends w w' (line.Open c p id passwd) h = appended w w' (does-since w w' (line.Open c p id passwd) (λ x. x) h.possible h.effect)
+happens-appends w w' (line.Open c p id passwd layout) h = appended w w' (does-since w w' (line.Open c p id passwd layout) (λ x. x) h.possible h.effect)
 happens-appends w w' (line.Frame c bytes) h = appended w w' (does-since w w' (line.Frame c bytes) (λ x. x) h.possible h.effect)
 happens-appends w w' (line.Arrive c bytes) h = appended w w' (does-since w w' (line.Arrive c bytes) (λ x. x) h.possible h.effect)
 happens-appends w w' (line.Exec c) h = appended w w' (does-since w w' (line.Exec c) (λ x. x) h.possible h.effect)

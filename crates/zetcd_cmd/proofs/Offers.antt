@@ -3,6 +3,8 @@ use Rattle.std.proofs.Common.{◌≡◌, ℕ, ◌*◌, ◌^◌, ◌≤◌, List,
 use Rattle.std.proofs.lemmas.Grind.{common_steps}
 use Rattle.std.proofs.lemmas.Int.{ints}
 use Rattle.std.specs.Prelude.{Bool, ℤ, pos, ◌≤ℤ◌, ◌==◌, ◌&&◌, bytes_eq, codes, nat_lt, option_and_then, IfSome}
+use Rattle.zk_model.specs.declared.layout.Layout.TheVariants.{One, Two}
+use Rattle.zk_model.specs.declared.layout.Layout.{Layout}
 use Rattle.zk_model.specs.Limits.{max_long}
 use Rattle.zt_text.specs.declared.script.Happening.{Happening}
 use Rattle.zt_text.specs.declared.script.Happening.TheVariants as line
@@ -62,9 +64,9 @@ password-length w = if-holds (λ bytes. length bytes ≡ 16) (length w == 32) (h
 abbrev Offers : Happening → Type 0
 Offers h = NamesSession h × IsOfScript h
 
-open-offers : (words : List (List ℕ)) → IfSome (open_happening words) Offers
+open-offers : (layout : Layout) (words : List (List ℕ)) → IfSome (open_happening layout words) Offers
 unfolding open_happening
-open-offers words =
+open-offers layout words =
     bind Offers (four_words words) _ (λ w is. bind Offers (number w.0) _ (λ c is1. bind Offers (number w.1) _ (λ p is2. bind Offers (session_id w.2) _ (λ id is3. bind Offers (password w.3) _ (λ passwd is4.
     (let n = some-of IsNumber (session_id w.2) id (id-range w.2) is3 in
     (record { least = n.0; most = n.1; long = some-of _ (password w.3) passwd (password-length w.3) is4 }, n.0)))))))
@@ -197,11 +199,17 @@ of_frame form words = if bytes_eq form (codes "frame") then frame_happening word
 frame-on-offers : (form : List ℕ) (words : List (List ℕ)) → IfSome (of_frame form words) Offers
 frame-on-offers form words = either Offers (bytes_eq form (codes "frame")) (frame_happening words) (of_bytes form words) (frame-offers words) (bytes-on-offers form words)
 
+abbrev of_open1 : List ℕ → List (List ℕ) → Option Happening
+of_open1 form words = if bytes_eq form (codes "open1") then open_happening One words else of_frame form words
+
+open1-on-offers : (form : List ℕ) (words : List (List ℕ)) → IfSome (of_open1 form words) Offers
+open1-on-offers form words = either Offers (bytes_eq form (codes "open1")) (open_happening One words) (of_frame form words) (open-offers One words) (frame-on-offers form words)
+
 abbrev of_open : List ℕ → List (List ℕ) → Option Happening
-of_open form words = if bytes_eq form (codes "open") then open_happening words else of_frame form words
+of_open form words = if bytes_eq form (codes "open") then open_happening Two words else of_open1 form words
 
 open-on-offers : (form : List ℕ) (words : List (List ℕ)) → IfSome (of_open form words) Offers
-open-on-offers form words = either Offers (bytes_eq form (codes "open")) (open_happening words) (of_frame form words) (open-offers words) (frame-on-offers form words)
+open-on-offers form words = either Offers (bytes_eq form (codes "open")) (open_happening Two words) (of_open1 form words) (open-offers Two words) (open1-on-offers form words)
 
 form-offers : (form : List ℕ) (words : List (List ℕ)) → IfSome (happening_of_form form words) Offers
 unfolding happening_of_form

@@ -26,7 +26,7 @@ lapsed-updates s id (Some x) = omega arith
 
 pub change-updates : (before : List TranscriptLine) (s : State) (l : TranscriptLine) → (change before s l).updates ≤ s.updates + 1
 change-updates before s (Update u) = updated-updates before s u.zxid u.kind
-change-updates before s (Open c p id passwd) = omega arith
+change-updates before s (Open c p id passwd layout) = omega arith
 change-updates before s (Frame c i zxid bytes) = omega arith
 change-updates before s (Send c bytes) = omega arith
 change-updates before s (Lapse revision id) = lapsed-updates s id (session_at id s)

@@ -163,13 +163,13 @@ alone c d = eq-sym c d ∙ and_true (d == c)
 pub frame-marked : (c i : ℕ) (l : TranscriptLine) → is_some (frame_shown c i l) ≡ is_mark (frame_mark l) c i
 frame-marked c i (Frame d j zxid bytes) = is_some-when ((c == d) && (i == j)) bytes ∙ ap (λ b. b && (i == j)) (eq-sym c d) ∙ ap (λ b. (d == c) && b) (eq-sym i j)
 frame-marked c i (Update u) = refl
-frame-marked c i (Open d p id pw) = refl
+frame-marked c i (Open d p id pw layout) = refl
 frame-marked c i (Send d bytes) = refl
 frame-marked c i (Lapse r id) = refl
 frame-marked c i (Close d e) = refl
 
 pub open-marked : (c : ℕ) (l : TranscriptLine) → is_some (open_shown c l) ≡ is_mark (open_mark l) c 0
-open-marked c (Open d p id pw) = is_some-when (c == d) (id, pw) ∙ alone c d
+open-marked c (Open d p id pw layout) = is_some-when (c == d) (record { id = id; passwd = pw; layout = layout }) ∙ alone c d
 open-marked c (Frame d j zxid bytes) = refl
 open-marked c (Update u) = refl
 open-marked c (Send d bytes) = refl
@@ -178,7 +178,7 @@ open-marked c (Close d e) = refl
 
 pub close-marked : (c : ℕ) (l : TranscriptLine) → is_some (close_shown c l) ≡ is_mark (close_mark l) c 0
 close-marked c (Close d e) = is_some-when (c == d) d ∙ alone c d
-close-marked c (Open d p id pw) = refl
+close-marked c (Open d p id pw layout) = refl
 close-marked c (Frame d j zxid bytes) = refl
 close-marked c (Update u) = refl
 close-marked c (Send d bytes) = refl
@@ -202,7 +202,7 @@ own_update_in-marked c i u (Reaped id) = refl
 
 pub own-marked : (c i : ℕ) (l : TranscriptLine) → is_some (own_update_shown c i l) ≡ is_mark (own_mark l) c i
 own-marked c i (Update u) = own_update_in-marked c i u u.kind
-own-marked c i (Open d p id pw) = refl
+own-marked c i (Open d p id pw layout) = refl
 own-marked c i (Frame d j zxid bytes) = refl
 own-marked c i (Send d bytes) = refl
 own-marked c i (Lapse r id) = refl
@@ -218,7 +218,7 @@ close-own c (Close e end) d h =
           first ∙ second
       | false ↦ λ is k. absurd (cc)
     ] refl h
-close-own c (Open e p id pw) d h = absurd (cc)
+close-own c (Open e p id pw layout) d h = absurd (cc)
 close-own c (Frame e j zxid bytes) d h = absurd (cc)
 close-own c (Update u) d h = absurd (cc)
 close-own c (Send e bytes) d h = absurd (cc)
@@ -226,7 +226,7 @@ close-own c (Lapse r id) d h = absurd (cc)
 
 pub attach-marked : (c : ℕ) (l : TranscriptLine) → is_some (attach_shown c l) ≡ is_mark (attach_mark l) c 0
 attach-marked c (Update u) = attach_in-marked c u.zxid u.kind
-attach-marked c (Open d p id pw) = refl
+attach-marked c (Open d p id pw layout) = refl
 attach-marked c (Frame d j zxid bytes) = refl
 attach-marked c (Send d bytes) = refl
 attach-marked c (Lapse r id) = refl

@@ -23,7 +23,7 @@ is_some-when false x = refl
 -- a line shows the update of a zxid exactly where its update has that zxid
 has-zxid : (z : ℤ) (l : TranscriptLine) → is_zxid (update_zxid l) z ≡ is_some (update_shown z l)
 has-zxid z (Update u) = int_eq_equiv.symm u.zxid z ∙ sym (is_some-when (int_eq z u.zxid) u.zxid)
-has-zxid z (Open c p id pw) = refl
+has-zxid z (Open c p id pw layout) = refl
 has-zxid z (Frame c i y bytes) = refl
 has-zxid z (Send c bytes) = refl
 has-zxid z (Lapse r id) = refl
@@ -36,7 +36,7 @@ shows-zxid z (Update u) y h =
       | true ↦ λ is e. same-from_int_eq z u.zxid is ∙ same_Some u.zxid y e
       | false ↦ λ is e. absurd (cc)
     ] refl h
-shows-zxid z (Open c p id pw) y h = absurd (cc)
+shows-zxid z (Open c p id pw layout) y h = absurd (cc)
 shows-zxid z (Frame c i x bytes) y h = absurd (cc)
 shows-zxid z (Send c bytes) y h = absurd (cc)
 shows-zxid z (Lapse r id) y h = absurd (cc)

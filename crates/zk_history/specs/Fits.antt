@@ -8,12 +8,12 @@ use Rattle.zk_service.specs.declared.update.UpdateKind.{UpdateKind}
 use Rattle.zk_service.specs.declared.update.UpdateKind.TheVariants.{Begin, Asked}
 use Rattle.zk_transcript.specs.declared.transcript.TranscriptLine.{TranscriptLine}
 use Rattle.zk_transcript.specs.declared.transcript.TranscriptLine.TheVariants.{Update}
-use Rattle.zk_service.specs.States.{State, session_of}
+use Rattle.zk_service.specs.States.{Session, State, attached_session, limit_of}
 use Rattle.zk_transcript.specs.History.{after, request}
 use Rattle.zk_model.specs.Multi.{data_len}
 use Rattle.zk_model.specs.Znodes.{Tree}
 use Rattle.zk_machine.specs.Faults.{IsWithin, StaysWithin}
-use Rattle.zk_model.specs.Limits.{max_frame, max_owned}
+use Rattle.zk_model.specs.Limits.{max_frame}
 
 -- the numbers of the tree are within their fields, and the part's data fit a frame
 abbrev pub PartFits : Tree → Part → Type 0
@@ -35,13 +35,13 @@ IsTime now = now < 9223372036854775808
 abbrev pub IsCountable : State → Type 0
 IsCountable s = s.updates < 18446744073709551615
 
-abbrev pub AskedFits : Tree → Option ℤ → Option Request → ℤ → ℕ → Type 0
-AskedFits t (Some session) (Some r) zxid now = RequestFits t max_owned session r zxid now
+abbrev pub AskedFits : Tree → Option (ℤ × Session) → Option Request → ℤ → ℕ → Type 0
+AskedFits t (Some e) (Some r) zxid now = RequestFits t (limit_of e.1) e.0 r zxid now
 AskedFits t _ _ zxid now = ⊤
 
 abbrev pub UpdateFits : List TranscriptLine → State → ℤ → UpdateKind → Type 0
 UpdateFits before s zxid (Begin now) = IsTime now
-UpdateFits before s zxid (Asked c i now) = IsTime now × AskedFits s.tree (session_of c s) (request c i before) zxid now
+UpdateFits before s zxid (Asked c i now) = IsTime now × AskedFits s.tree (attached_session c s) (request c i before) zxid now
 UpdateFits before s zxid _ = ⊤
 
 -- the numbers of a line fit, where s is the state before it and `before` are the lines before it

@@ -41,7 +41,7 @@ kept None is place = when is place
 -- the marks of a connection's open, close and attachment have index 0, those of its frames and of the updates that carry out its
 -- requests have the frame's index
 abbrev pub open_mark : TranscriptLine → Option Mark
-open_mark (Open c proxy id passwd) = Some (c, 0)
+open_mark (Open c proxy id passwd layout) = Some (c, 0)
 open_mark _ = None
 
 abbrev pub frame_mark : TranscriptLine → Option Mark

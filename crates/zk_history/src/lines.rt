@@ -2,7 +2,7 @@
 
 ghost use Rattle.std.specs.Prelude.{◌≡◌, ℕ, List, None, option_map, IfOk, IfErr};
 ghost use Rattle.zk_service.specs.declared.update.UpdateKind.TheVariants as kind;
-ghost use Rattle.zk_service.specs.States.{State, attached_anew, committed, lapsed_in, session_at, session_of};
+ghost use Rattle.zk_service.specs.States.{State, attached_anew, committed, attached_session, lapsed_in, session_at};
 ghost use Rattle.zk_transcript.specs.History.{asked_commit, change, request, updated};
 ghost use Rattle.zk_machine.specs.Faults.{BeyondUnless};
 ghost use Rattle.zk_history.specs.Commits.{commit_of, response_in, response_to};
@@ -18,7 +18,6 @@ use crate::state::State;
 use std::alloc::Global;
 use zk_machine::{Fault, Turn, begin};
 use zk_model::Body;
-use zk_model::limit::MAX_OWNED;
 use zk_service::{UpdateKind, UpdateRec};
 use zk_transcript::TranscriptLine;
 use zx_base::{Memory, Seq};
@@ -27,8 +26,8 @@ use zx_base::{Memory, Seq};
 const MAX_LONG: u64 = 9223372036854775807;
 
 /// Who makes an update, and when. `Beyond` where the time, in milliseconds, is above the greatest `long`.
-fn turn(session: i64, zxid: i64, time: u64) -> Result<Turn, Fault>
-    ensures limit { IfOk result (λ t. t.limit ≡ 40) }
+fn turn(limit: usize, session: i64, zxid: i64, time: u64) -> Result<Turn, Fault>
+    ensures limit { IfOk result (λ t. t.limit ≡ limit) }
     ensures session { IfOk result (λ t. t.session ≡ session) }
     ensures zxid { IfOk result (λ t. t.zxid ≡ zxid) }
     ensures time { IfOk result (λ t. t.time ≡ time) }
@@ -38,19 +37,11 @@ fn turn(session: i64, zxid: i64, time: u64) -> Result<Turn, Fault>
         return Err(Fault::Beyond);
     }
     Ok(Turn {
-        limit: MAX_OWNED,
+        limit,
         session,
         zxid,
         time,
     })
-}
-
-/// The session that the requests of a connection are made under.
-fn session_of(connection: u32, state: &State) -> Option<i64>
-    ensures { result ≡ session_of connection state.now }
-{
-    let (session, _) = state.attached_to(connection)?;
-    Some(session)
 }
 
 /// The state after the first update.
@@ -59,7 +50,7 @@ fn begun(alloc: Global, zxid: i64, time: u64) -> Result<State, Fault>
     ensures ok { IfOk result (λ s. (before : List TranscriptLine) (state : State) → s ≡ updated before state zxid (kind.Begin time)) }
     ensures beyond { IfErr result (BeyondUnless (IsTime time)) }
 {
-    let tree = begin(alloc, &turn(0, zxid, time)?)?;
+    let tree = begin(alloc, &turn(0, 0, zxid, time)?)?;
     Ok(State::begun(alloc, tree, zxid))
 }
 
@@ -129,15 +120,15 @@ pub fn planned_commit(
     time: u64,
 ) -> Result<Option<Commit>, Fault>
     ensures ok { IfOk result (λ o. option_map (commit_of state.now.tree) o ≡ asked_commit (lines_of before.now) state.now zxid connection index time) }
-    ensures beyond { IfErr result (BeyondUnless (IsTime time × AskedFits state.now.tree (session_of connection state.now) (request connection index (lines_of before.now)) zxid time)) }
+    ensures beyond { IfErr result (BeyondUnless (IsTime time × AskedFits state.now.tree (attached_session connection state.now) (request connection index (lines_of before.now)) zxid time)) }
 {
-    let Some(session) = session_of(connection, state) else {
+    let Some((id, session)) = state.attached_to(connection) else {
         return Ok(None);
     };
     let Some(asked) = before.request(alloc, connection, index)? else {
         return Ok(None);
     };
-    let turn = turn(session, zxid, time)?;
+    let turn = turn(session.limit(), id, zxid, time)?;
     Ok(commit(alloc, state.tree(), &turn, asked)?)
 }
 
@@ -193,7 +184,7 @@ fn asked(
 ) -> Result<Applied, Fault>
     ensures ok { IfOk result (λ a. a.state ≡ updated (lines_of before.now) state zxid (kind.Asked connection index time)) }
     ensures response { IfOk result (λ a. a.response ≡ response_in (lines_of before.now) state zxid (kind.Asked connection index time)) }
-    ensures beyond { IfErr result (BeyondUnless (IsCountable state × IsTime time × AskedFits state.tree (session_of connection state) (request connection index (lines_of before.now)) zxid time)) }
+    ensures beyond { IfErr result (BeyondUnless (IsCountable state × IsTime time × AskedFits state.tree (attached_session connection state) (request connection index (lines_of before.now)) zxid time)) }
 {
     let done = planned_commit(alloc, before, &state, zxid, connection, index, time)?;
     Ok(committed(alloc, state, zxid, done)?)

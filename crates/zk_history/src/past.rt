@@ -11,7 +11,7 @@ use crate::firsts::{Firsts, Mark};
 use crate::shown::{attach_shown, close_shown, frame_shown, open_shown, own_update_shown};
 use crate::zxids::Zxids;
 use std::alloc::Global;
-use zk_service::{UpdateKind, UpdateRec};
+use zk_service::{Fresh, UpdateKind, UpdateRec};
 use zk_transcript::TranscriptLine;
 use zx_base::Memory;
 
@@ -183,8 +183,8 @@ impl<'a> Past<'a> {
         }
     }
 
-    /// The number and the password that a connection offers for a new session.
-    pub fn opening(&self, connection: u32) -> Option<(i64, [u8; 16])>
+    /// What a connection offers for a new session.
+    pub fn opening(&self, connection: u32) -> Option<Fresh>
         ensures { result ≡ opening connection (lines_of self.now) }
     {
         match self.opens.place(connection, 0) {

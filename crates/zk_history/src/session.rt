@@ -1,12 +1,14 @@
 //! Open sessions (Programmer's Guide, "ZooKeeper Sessions").
 
 ghost use Rattle.std.specs.Prelude.{◌≡◌, [], pos, option_map, IfOk, true};
-ghost use Rattle.zk_service.specs.States.{new_session, or_nothing};
+ghost use Rattle.zk_model.specs.declared.layout.Layout.TheVariants.{Two};
+ghost use Rattle.zk_service.specs.States.{limit_of, new_session, or_nothing};
 
 use std::alloc::Global;
 use std::marker::Model;
-use zk_model::ConnectRequest;
 use zk_model::limit::{MAX_TIMEOUT, MIN_TIMEOUT};
+use zk_model::{ConnectRequest, Layout};
+use zk_service::Fresh;
 use zx_base::{Bytes, Memory};
 
 /// An open session, with its password, its timeout, and the connection that it is attached to.
@@ -15,6 +17,7 @@ pub struct Session {
     passwd: Bytes,
     /// The granted timeout, in milliseconds.
     timeout: i32,
+    layout: Layout,
     /// The connection that it is attached to, and the zxid of that attachment.
     connection: u32,
     attached: i64,
@@ -29,19 +32,29 @@ impl Model for Session {
 
     ghost coded = { coded_session };
 
-    ghost view = { λ s. record { passwd = s.passwd; timeout = s.timeout; connection = s.connection; attached = s.attached; lapsed = s.lapsed } };
+    ghost view = { λ s. record { passwd = s.passwd; timeout = s.timeout; layout = s.layout; connection = s.connection; attached = s.attached; lapsed = s.lapsed } };
 }
 
 /// The password that a connection offered, or no bytes where no open line is shown.
-fn offered(alloc: Global, opened: Option<(i64, [u8; 16])>) -> Result<Bytes, Memory>
-    ensures { IfOk result (λ passwd. passwd ≡ or_nothing [] (option_map (λ o. o.1) opened)) }
+fn offered(alloc: Global, opened: Option<Fresh>) -> Result<Bytes, Memory>
+    ensures { IfOk result (λ passwd. passwd ≡ or_nothing [] (option_map (λ f. f.passwd) opened)) }
 {
     match opened {
         Some(opened) => {
-            let passwd = opened.1;
+            let passwd = opened.passwd;
             Bytes::copy_of(alloc, passwd.as_slice())
         }
         None => Ok(Bytes::new(alloc)),
+    }
+}
+
+/// The layout that a connection offered, or layout 2 where no open line is shown.
+fn offered_layout(opened: Option<Fresh>) -> Layout
+    ensures { result ≡ or_nothing Two (option_map (λ f. f.layout) opened) }
+{
+    match opened {
+        Some(opened) => opened.layout,
+        None => Layout::Two,
     }
 }
 
@@ -60,7 +73,7 @@ impl Session {
     /// between 4 and 40 seconds.
     pub fn new(
         alloc: Global,
-        opened: Option<(i64, [u8; 16])>,
+        opened: Option<Fresh>,
         asked: &Option<ConnectRequest>,
         connection: u32,
         zxid: i64,
@@ -70,6 +83,7 @@ impl Session {
         Ok(Session {
             passwd: offered(alloc, opened)?,
             timeout: MAX_TIMEOUT.min(MIN_TIMEOUT.max(asked_timeout(asked))),
+            layout: offered_layout(opened),
             connection,
             attached: zxid,
             lapsed: false,
@@ -88,6 +102,7 @@ impl Session {
         Ok(Session {
             passwd: Bytes::copy_of(alloc, self.passwd.as_slice())?,
             timeout: self.timeout,
+            layout: self.layout,
             connection,
             attached: zxid,
             lapsed: self.lapsed,
@@ -101,6 +116,7 @@ impl Session {
         Ok(Session {
             passwd: Bytes::copy_of(alloc, self.passwd.as_slice())?,
             timeout: self.timeout,
+            layout: self.layout,
             connection: self.connection,
             attached: self.attached,
             lapsed: true,
@@ -119,6 +135,13 @@ impl Session {
         ensures { result ≡ self.now.timeout }
     {
         self.timeout
+    }
+
+    /// How many ephemeral nodes the session may own.
+    pub fn limit(&self) -> usize
+        ensures { result ≡ limit_of self.now }
+    {
+        self.layout.max_owned()
     }
 
     /// The connection that the session is attached to.

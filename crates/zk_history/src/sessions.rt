@@ -51,13 +51,13 @@ impl Sessions {
         self.open.get(&id)
     }
 
-    /// The session that is attached to a connection, and whether it has lapsed.
-    pub fn attached_to(&self, connection: u32) -> Option<(i64, bool)>
-        ensures { result ≡ option_map (λ e. (e.0, e.1.lapsed)) (attached_in connection (entries self.now)) }
+    /// The session that is attached to a connection, with its number.
+    pub fn attached_to(&self, connection: u32) -> Option<(i64, &Session)>
+        ensures { option_map (λ e. (e.0, e.1.now)) result ≡ attached_in connection (entries self.now) }
     {
         let id = first_attached(&self.attachments, connection)?;
         let session = self.get(id)?;
-        Some((id, session.is_lapsed()))
+        Some((id, session))
     }
 
     /// The sessions with this one under its number.

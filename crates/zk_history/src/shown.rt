@@ -12,13 +12,13 @@ ghost use Rattle.zk_jute.specs.Requests.{read_request};
 use crate::past::Past;
 use std::alloc::Global;
 use zk_model::{ConnectRequest, Request};
-use zk_service::{UpdateKind, UpdateRec};
+use zk_service::{Fresh, UpdateKind, UpdateRec};
 use zk_transcript::TranscriptLine;
 use zk_wire::{WireFault, read_connect, read_request};
 use zx_base::Memory;
 
-/// The number and the password that a connection offers for a new session, where this is its open line.
-pub fn open_shown(line: &TranscriptLine, connection: u32) -> Option<(i64, [u8; 16])>
+/// What a connection offers for a new session, where this is its open line.
+pub fn open_shown(line: &TranscriptLine, connection: u32) -> Option<Fresh>
     ensures { result ≡ open_shown connection line.now }
 {
     match line {
@@ -26,8 +26,13 @@ pub fn open_shown(line: &TranscriptLine, connection: u32) -> Option<(i64, [u8; 1
             connection: opened,
             id,
             passwd,
+            layout,
             ..
-        } if connection == *opened => Some((*id, *passwd)),
+        } if connection == *opened => Some(Fresh {
+            id: *id,
+            passwd: *passwd,
+            layout: *layout,
+        }),
         _ => None,
     }
 }

@@ -2,6 +2,7 @@
 
 ghost use Rattle.std.specs.Prelude.{◌≡◌, [], ◌+◌, ◌<◌, option_map, IfOk, IfErr};
 ghost use Rattle.std.specs.FinMap.{empty, insert, remove};
+ghost use Rattle.zk_service.specs.Answers.{owned_limit_in};
 ghost use Rattle.zk_service.specs.States.{advanced, attached_session, nothing_yet, removed_all, session_at};
 ghost use Rattle.zk_history.specs.Commits.{changed};
 ghost use Rattle.zk_machine.specs.Faults.{BeyondUnless};
@@ -170,9 +171,9 @@ impl State {
         self.triggers.as_slice()
     }
 
-    /// The session that is attached to a connection, and whether it has lapsed.
-    pub fn attached_to(&self, connection: u32) -> Option<(i64, bool)>
-        ensures { result ≡ option_map (λ e. (e.0, e.1.lapsed)) (attached_session connection self.now) }
+    /// The session that is attached to a connection, with its number.
+    pub fn attached_to(&self, connection: u32) -> Option<(i64, &Session)>
+        ensures { option_map (λ e. (e.0, e.1.now)) result ≡ attached_session connection self.now }
     {
         self.sessions.attached_to(connection)
     }
@@ -182,5 +183,15 @@ impl State {
         ensures { option_map (λ s. s.now) result ≡ session_at id self.now }
     {
         self.sessions.get(id)
+    }
+
+    /// How many ephemeral nodes the session of this number may own, 0 where it is not open.
+    pub fn owned_limit(&self, id: i64) -> usize
+        ensures { result ≡ owned_limit_in (session_at id self.now) }
+    {
+        match self.session(id) {
+            Some(session) => session.limit(),
+            None => 0,
+        }
     }
 }

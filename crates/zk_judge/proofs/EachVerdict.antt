@@ -131,7 +131,7 @@ least-fault-of P decide c found = by (decide c) found
     by (inr not) (Some n) = earlier n not (cases_lt c n)
 
 line-more : (P : ℕ → Type 0) → ((c : ℕ) → P c ⊎ (P c → ⊥)) → (before : List TranscriptLine) (l : TranscriptLine) (found : Option ℕ) → IsLeastOpened P before found → (o : Option ℕ) × IsLeastOpened P (before ++ l ∷ []) o
-line-more P decide before (line.Open c p id pw) found least = let x = least-fault-of P decide c found in (x.0, opened-more P before c p id pw found x.0 x.1 least)
+line-more P decide before (line.Open c p id pw layout) found least = let x = least-fault-of P decide c found in (x.0, opened-more P before c p id pw layout found x.0 x.1 least)
 line-more P decide before (line.Update u) found least = (found, opened-skip P before (line.Update u) found (λ d. refl) least)
 line-more P decide before (line.Frame c i z bytes) found least = (found, opened-skip P before (line.Frame c i z bytes) found (λ d. refl) least)
 line-more P decide before (line.Send c bytes) found least = (found, opened-skip P before (line.Send c bytes) found (λ d. refl) least)

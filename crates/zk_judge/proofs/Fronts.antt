@@ -48,7 +48,7 @@ still past p w k none = by (slice_get past k) refl
     by : (o : Option TranscriptLine) → slice_get past k ≡ o → fired_above (take (k + 1) past) p w ≡ fired_above (take k past) p w
     by None at = ap (λ ls. fired_above ls p w) (is-none past k at)
     by (Some (Update u)) at = absurd (none u at)
-    by (Some (Open a b d e)) at = line (Open a b d e) at refl
+    by (Some (Open a b d e layout)) at = line (Open a b d e layout) at refl
     by (Some (FrameLine a b d e)) at = line (FrameLine a b d e) at refl
     by (Some (Send a b)) at = line (Send a b) at refl
     by (Some (Lapse a b)) at = line (Lapse a b) at refl
@@ -118,7 +118,7 @@ update-of lines z u h = let f = first_place-at (update_shown z) 0 lines u h in b
 
     by : (l : TranscriptLine) → slice_get lines u.0 ≡ Some l → update_shown z l ≡ Some u.1 → IsUpdateOf lines z u
     by (Update x) at e = on x (int_eq z x.zxid) at refl e
-    by (Open a b d e2) at e = absurd (cc)
+    by (Open a b d e2 layout) at e = absurd (cc)
     by (FrameLine a b d e2) at e = absurd (cc)
     by (Send a b) at e = absurd (cc)
     by (Lapse a b) at e = absurd (cc)

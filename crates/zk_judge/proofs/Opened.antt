@@ -22,7 +22,7 @@ skips : (d : ℕ) (before : List TranscriptLine) (l : TranscriptLine) → open_s
 skips d before l none opened = ap is_some (sym (first_shown-skip (open_shown d) before l none)) ∙ opened
 
 opened-as : (d : ℕ) (before : List TranscriptLine) (l : TranscriptLine) → is_some (opening d (before ++ l ∷ [])) ≡ true → (is_some (opening d before) ≡ true) ⊎ (opened_by l ≡ Some d)
-opened-as d before (Open c p id pw) opened = elim (opened-by d c p id pw before opened) [ inl e ↦ inl e | inr e ↦ inr (ap Some (sym e)) ]
+opened-as d before (Open c p id pw layout) opened = elim (opened-by d c p id pw layout before opened) [ inl e ↦ inl e | inr e ↦ inr (ap Some (sym e)) ]
 opened-as d before (Update u) opened = inl (skips d before (Update u) refl opened)
 opened-as d before (FrameLine c i z bytes) opened = inl (skips d before (FrameLine c i z bytes) refl opened)
 opened-as d before (Send c bytes) opened = inl (skips d before (Send c bytes) refl opened)

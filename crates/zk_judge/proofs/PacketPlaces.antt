@@ -25,7 +25,7 @@ packets-from-places lines c k (Send d bytes ∷ ls) are = by (c == d) (packets-f
     by true rest = ap (λ (p : Due). p ∷ map (packet_at lines) (sent_from c (k + 1) ls)) here ∙ ap (λ (ps : List Due). (k, bytes) ∷ ps) rest
     by false rest = rest
 packets-from-places lines c k (Update u ∷ ls) are = packets-from-places lines c (k + 1) ls (from-next lines k (Update u) ls are)
-packets-from-places lines c k (Open d x id pw ∷ ls) are = packets-from-places lines c (k + 1) ls (from-next lines k (Open d x id pw) ls are)
+packets-from-places lines c k (Open d x id pw layout ∷ ls) are = packets-from-places lines c (k + 1) ls (from-next lines k (Open d x id pw layout) ls are)
 packets-from-places lines c k (FrameLine d i z bytes ∷ ls) are = packets-from-places lines c (k + 1) ls (from-next lines k (FrameLine d i z bytes) ls are)
 packets-from-places lines c k (Lapse r id ∷ ls) are = packets-from-places lines c (k + 1) ls (from-next lines k (Lapse r id) ls are)
 packets-from-places lines c k (Close d e ∷ ls) are = packets-from-places lines c (k + 1) ls (from-next lines k (Close d e) ls are)

@@ -25,7 +25,7 @@ own_in c i u v (Reaped id) h = absurd (cc)
 
 own_line : (c i : ℕ) (l : TranscriptLine) (v : UpdateRec) → own_update_shown c i l ≡ Some v → l ≡ Update v
 own_line c i (Update u) v h = ap (λ (w : UpdateRec). Update w) (own_in c i u v u.kind h)
-own_line c i (Open d p id pw) v h = absurd (cc)
+own_line c i (Open d p id pw layout) v h = absurd (cc)
 own_line c i (Frame d j y bytes) v h = absurd (cc)
 own_line c i (Send d bytes) v h = absurd (cc)
 own_line c i (Lapse r id) v h = absurd (cc)

@@ -10,6 +10,8 @@ use Rattle.zk_model.specs.declared.request.Request.{Request}
 use Rattle.zk_model.specs.declared.request.Request.TheVariants as req
 use Rattle.zk_jute.specs.Records.{contents_of}
 use Rattle.zk_jute.specs.Requests.{Frame, NoHeader, Unreadable, Unknown, Asks}
+use Rattle.zk_service.specs.declared.fresh.Fresh.{Fresh}
+use Rattle.zk_model.specs.declared.layout.Layout.{Layout}
 use Rattle.zk_transcript.specs.declared.transcript.TranscriptLine.{TranscriptLine}
 use Rattle.zk_transcript.specs.declared.transcript.TranscriptLine.TheVariants.{Update, Open, Frame as FrameLine, Send, Lapse, Close}
 use Rattle.zk_service.specs.States.{State}
@@ -49,7 +51,7 @@ shown-fits lines c i k (FrameLine d j z content) bytes none at shown = by_test (
         let fits = frames-fit lines none k d j z content at in
         subst (λ (b : List ℕ). IsFitFrame i b (length lines)) same (record { small = fits.small; index = omega (arith, index, fits.index) })
 shown-fits lines c i k (Update u) bytes none at shown = absurd (cc)
-shown-fits lines c i k (Open d p id pw) bytes none at shown = absurd (cc)
+shown-fits lines c i k (Open d p id pw layout) bytes none at shown = absurd (cc)
 shown-fits lines c i k (Send d content) bytes none at shown = absurd (cc)
 shown-fits lines c i k (Lapse r id) bytes none at shown = absurd (cc)
 shown-fits lines c i k (Close d e) bytes none at shown = absurd (cc)
@@ -89,19 +91,19 @@ asked-looks t limit session (Unknown xid kind) r whole frame is = absurd (cc)
 
 -- ---- passwords
 
-pub offered-one : (l : TranscriptLine) (c proxy : ℕ) (id : ℤ) (passwd : List ℕ) → l ≡ Open c proxy id passwd → length passwd ≡ 16 → (d : ℕ) (o : ℤ × List ℕ) → open_shown d l ≡ Some o → length o.1 ≡ 16
-offered-one l c proxy id passwd is long d o shown = by_test (d == c) (sym (ap (open_shown d) is) ∙ shown)
+pub offered-one : (l : TranscriptLine) (c proxy : ℕ) (id : ℤ) (passwd : List ℕ) (layout : Layout) → l ≡ Open c proxy id passwd layout → length passwd ≡ 16 → (d : ℕ) (o : Fresh) → open_shown d l ≡ Some o → length o.passwd ≡ 16
+offered-one l c proxy id passwd layout is long d o shown = by_test (d == c) (sym (ap (open_shown d) is) ∙ shown)
   where
-    by_test : (b : Bool) → when b (id, passwd) ≡ Some o → length o.1 ≡ 16
+    by_test : (b : Bool) → when b (record { id = id; passwd = passwd; layout = layout }) ≡ Some o → length o.passwd ≡ 16
     by_test false e = absurd (cc)
-    by_test true e = ap (λ (y : ℤ × List ℕ). length y.1) (sym (some_is e)) ∙ long
+    by_test true e = ap (λ (y : Fresh). length y.passwd) (sym (some_is e)) ∙ long
 
 -- one more line, which offers a password of 16 bytes or none
-pub offered-more : (before : List TranscriptLine) (l : TranscriptLine) → ((c : ℕ) (o : ℤ × List ℕ) → open_shown c l ≡ Some o → length o.1 ≡ 16) → OfferPasswords before → OfferPasswords (before ++ l ∷ [])
+pub offered-more : (before : List TranscriptLine) (l : TranscriptLine) → ((c : ℕ) (o : Fresh) → open_shown c l ≡ Some o → length o.passwd ≡ 16) → OfferPasswords before → OfferPasswords (before ++ l ∷ [])
 offered-more before l one offered c o is = by_opening (opening c before) refl
   where
-    by_opening : (p : Option (ℤ × List ℕ)) → opening c before ≡ p → length o.1 ≡ 16
+    by_opening : (p : Option Fresh) → opening c before ≡ p → length o.passwd ≡ 16
     by_opening (Some x) e =
         let same : x ≡ o = some_is (sym (first_shown-push (open_shown c) before (l ∷ []) x e) ∙ is) in
-        ap (λ (y : ℤ × List ℕ). length y.1) (sym same) ∙ offered c x e
+        ap (λ (y : Fresh). length y.passwd) (sym same) ∙ offered c x e
     by_opening None e = one c o (sym (first_shown-new (open_shown c) before l e) ∙ is)

@@ -65,7 +65,7 @@ connections xs = map (λ (x : Conversation). x.connection) xs
 
 -- the connection that a line opens
 abbrev pub opened_by : TranscriptLine → Option ℕ
-opened_by (Open c proxy id passwd) = Some c
+opened_by (Open c proxy id passwd layout) = Some c
 opened_by _ = None
 
 -- each connection that these lines open is there

@@ -4,11 +4,12 @@ ghost use Rattle.std.specs.Prelude.{◌≡◌, ◌<◌, ℕ, ℤ, Some, length, 
 ghost use Rattle.zk_transcript.specs.declared.transcript.TranscriptLine.TheVariants.{Update};
 ghost use Rattle.zk_model.specs.declared.reply.Reply.TheVariants as reply;
 ghost use Rattle.zk_transcript.specs.History.{after};
+ghost use Rattle.zk_service.specs.Answers.{owned_limit_in};
+ghost use Rattle.zk_service.specs.States.{session_at};
 ghost use Rattle.zk_service.specs.States.{session_at};
 ghost use Rattle.zk_jute.specs.Requests.{Frame};
 ghost use Rattle.zk_service.specs.Answers.{only, plain_reply as plain_reply_of, session_refusal as session_refusal_of};
 ghost use Rattle.zk_transcript.specs.Walks.{closes_session as closes_session_of, looked as looked_of, response_at as response_at_of, told_as_of as told_as_of_of, told_by_state as told_by_state_of};
-ghost use Rattle.zk_model.specs.Limits.{max_owned};
 ghost use Rattle.zk_machine.specs.Faults.{IsWhole};
 ghost use Rattle.zk_answers.specs.Outcomes.{told_of};
 ghost use Rattle.zk_judge.specs.Fronts.{IsFront};
@@ -76,7 +77,7 @@ fn looked(
 ) -> Result<Option<Told>, Memory>
     requires whole { IsWhole state.now.tree }
     requires short { IsShortFrame (frame_as frame.now) }
-    ensures { IfOk result (λ o. option_map told_of o ≡ looked_of state.now max_owned party.session watches (frame_as frame.now) (plain_reply_of watches (frame_as frame.now))) }
+    ensures { IfOk result (λ o. option_map told_of o ≡ looked_of state.now (owned_limit_in (session_at party.session state.now)) party.session watches (frame_as frame.now) (plain_reply_of watches (frame_as frame.now))) }
 {
     if plain_reply(alloc, frame)?.is_some() {
         return Ok(None);

@@ -1,8 +1,9 @@
 //! What the tree answers to a request, beside watches that are armed already and are not copied.
 
 ghost use Rattle.std.specs.Prelude.{◌≡◌, pos, option_map, IfOk};
+ghost use Rattle.zk_service.specs.Answers.{owned_limit_in};
+ghost use Rattle.zk_service.specs.States.{session_at};
 ghost use Rattle.zk_service.specs.Answers.{tree_reply as tree_reply_of};
-ghost use Rattle.zk_model.specs.Limits.{max_owned};
 ghost use Rattle.zk_answers.specs.Fits.{FitsRequest};
 ghost use Rattle.zk_answers.specs.Outcomes.{told_of};
 ghost use Rattle.zk_judge.specs.Arming.{armed_by as armed_by_of, is_good as is_good_of, is_set_watches as is_set_watches_of, with_armed};
@@ -11,7 +12,6 @@ use crate::walker::Party;
 use std::alloc::Global;
 use zk_answers::{Told, Watches, tree_reply};
 use zk_history::{Fault, State};
-use zk_model::limit::MAX_OWNED;
 use zk_model::{Reply, Request};
 use zx_base::Memory;
 
@@ -79,13 +79,13 @@ fn tree_told(
     watches: &Watches,
     request: &Request,
 ) -> Result<Option<Told>, Memory>
-    requires { FitsRequest state.now.tree max_owned party.session request.now (pos 0) 0 }
-    ensures { IfOk result (λ o. option_map told_of o ≡ tree_reply_of state.now.tree max_owned party.session watches.now request.now) }
+    requires { FitsRequest state.now.tree (owned_limit_in (session_at party.session state.now)) party.session request.now (pos 0) 0 }
+    ensures { IfOk result (λ o. option_map told_of o ≡ tree_reply_of state.now.tree (owned_limit_in (session_at party.session state.now)) party.session watches.now request.now) }
 {
     match tree_reply(
         alloc,
         state.tree(),
-        MAX_OWNED,
+        state.owned_limit(party.session),
         party.session,
         watches,
         request,
@@ -105,8 +105,8 @@ pub fn tree_answer(
     watches: Watches,
     request: &Request,
 ) -> Result<Option<Told>, Memory>
-    requires { FitsRequest state.now.tree max_owned party.session request.now (pos 0) 0 }
-    ensures { IfOk result (λ o. option_map told_of o ≡ tree_reply_of state.now.tree max_owned party.session watches request.now) }
+    requires { FitsRequest state.now.tree (owned_limit_in (session_at party.session state.now)) party.session request.now (pos 0) 0 }
+    ensures { IfOk result (λ o. option_map told_of o ≡ tree_reply_of state.now.tree (owned_limit_in (session_at party.session state.now)) party.session watches request.now) }
 {
     if is_set_watches(request) {
         return tree_told(alloc, state, party, &watches, request);

@@ -1,6 +1,7 @@
 //! The lines of a transcript, with tables of what they show and of what its updates did.
 
-ghost use Rattle.std.specs.Prelude.{◌≡◌, ◌+◌, ◌<◌, ◌≤◌, ℕ, ℤ, List, None, Some, length, option_map, slice_get, IfOk, IfSome};
+ghost use Rattle.std.specs.Prelude.{◌≡◌, ◌+◌, ◌<◌, ◌≤◌, ℕ, List, None, Some, length, option_map, slice_get, IfOk, IfSome};
+ghost use Rattle.zk_service.specs.declared.fresh.Fresh.{Fresh};
 ghost use Rattle.zk_service.specs.declared.update.UpdateRec.{UpdateRec as Updated};
 ghost use Rattle.zk_transcript.specs.declared.transcript.TranscriptLine.TheVariants.{Update};
 ghost use Rattle.zk_transcript.specs.History.{connect as connect_of, first_place, open_shown, state_at};
@@ -33,7 +34,7 @@ fn see_bytes(passwd: &[u8; 16])
 
 /// Proof only: the password that a line offers has 16 bytes.
 fn see_password(line: &TranscriptLine)
-    ensures { (c : ℕ) (o : ℤ × List ℕ) → open_shown c line.now ≡ Some o → length o.1 ≡ 16 }
+    ensures { (c : ℕ) (f : Fresh) → open_shown c line.now ≡ Some f → length f.passwd ≡ 16 }
 {
     if let TranscriptLine::Open { passwd, .. } = line {
         see_bytes(passwd);

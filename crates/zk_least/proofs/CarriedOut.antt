@@ -166,7 +166,7 @@ kind-plain before s c i u v (Closed id d j) h m =
 
 line-plain : (before : List TranscriptLine) (s : State) (c i : ℕ) (l : TranscriptLine) (v : UpdateRec) → own_update_shown c i l ≡ Some v → is_legal_line before s l ≡ true → ByTree before c i
 line-plain before s c i (Update u) v h m = kind-plain before s c i u v u.kind h (and_parts (may_update before s u.zxid u.kind) (is_next_zxid s u.zxid) m).0
-line-plain before s c i (Open a b d e) v h m = absurd (cc)
+line-plain before s c i (Open a b d e layout) v h m = absurd (cc)
 line-plain before s c i (FrameLine a b d e) v h m = absurd (cc)
 line-plain before s c i (Send a b) v h m = absurd (cc)
 line-plain before s c i (Lapse a b) v h m = absurd (cc)

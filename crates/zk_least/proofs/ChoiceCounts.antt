@@ -41,7 +41,7 @@ one-falls p z (Update u) h = by (int_lt z u.zxid) (int_lt p u.zxid) refl refl
             let x : z <ℤ u.zxid = grind (arith, nat_tests, ints) in
             let y : u.zxid ≤ℤ p = grind (arith, nat_tests, ints) in
             omega (arith, ints, x, y, h)
-one-falls p z (Open a b c d) h = omega arith
+one-falls p z (Open a b c d layout) h = omega arith
 one-falls p z (FrameLine a b c d) h = omega arith
 one-falls p z (Send a b) h = omega arith
 one-falls p z (Lapse a b) h = omega arith

@@ -39,7 +39,7 @@ shown-above p z (Update u) h = go (int_lt p u.zxid) refl h
         let lt : p <ℤ u.zxid = grind (arith, nat_tests, ints) in
         (u, refl, s, omega (arith, ints, lt, s))
     go false e t = absurd (cc)
-shown-above p z (Open a b c d) h = absurd (cc)
+shown-above p z (Open a b c d layout) h = absurd (cc)
 shown-above p z (FrameLine a b c d) h = absurd (cc)
 shown-above p z (Send a b) h = absurd (cc)
 shown-above p z (Lapse a b) h = absurd (cc)
@@ -78,7 +78,7 @@ next-above p ls x h = let r = above-at p 0 ls x h in subst (λ e. IsAbove p ls e
 
 pub not-above : (p : ℤ) (l : TranscriptLine) → ((u : UpdateRec) → l ≡ Update u → u.zxid ≤ℤ p) → is_above p l ≡ false
 not-above p (Update u) h = let le = h u refl in grind (arith, nat_tests, ints)
-not-above p (Open a b c d) h = refl
+not-above p (Open a b c d layout) h = refl
 not-above p (FrameLine a b c d) h = refl
 not-above p (Send a b) h = refl
 not-above p (Lapse a b) h = refl
@@ -106,7 +106,7 @@ after-above : (lines : List TranscriptLine) (p : ℤ) (e j : ℕ) (z : ℤ) (l :
 after-above lines p e j z (Update x) legal a lt h =
     let later = zxids-rise lines e j a.update x legal lt a.there h in
     yes-above p x (omega (arith, ints, later, a.same, a.up)) ∙ sym (yes-above z x (omega (arith, ints, later, a.same)))
-after-above lines p e j z (Open x b c d) legal a lt h = refl
+after-above lines p e j z (Open x b c d layout) legal a lt h = refl
 after-above lines p e j z (FrameLine x b c d) legal a lt h = refl
 after-above lines p e j z (Send x b) legal a lt h = refl
 after-above lines p e j z (Lapse x b) legal a lt h = refl

@@ -130,7 +130,7 @@ from-append full p k (l ∷ xs) ys x =
 
 none-is-above : (p : ℤ) (l : TranscriptLine) → NoUpdate l → is_above p l ≡ false
 none-is-above p (Update u) h = absurd (h u refl)
-none-is-above p (Open a b d e) h = refl
+none-is-above p (Open a b d e layout) h = refl
 none-is-above p (FrameLine a b d e) h = refl
 none-is-above p (Send a b) h = refl
 none-is-above p (Lapse a b) h = refl
@@ -138,7 +138,7 @@ none-is-above p (Close a b) h = refl
 
 none-shown : (z : ℤ) (l : TranscriptLine) → NoUpdate l → update_shown z l ≡ None
 none-shown z (Update u) h = absurd (h u refl)
-none-shown z (Open a b d e) h = refl
+none-shown z (Open a b d e layout) h = refl
 none-shown z (FrameLine a b d e) h = refl
 none-shown z (Send a b) h = refl
 none-shown z (Lapse a b) h = refl
@@ -179,7 +179,7 @@ other-zxid lines k j u (Update v) h at lt e =
     let up = zxids-rise lines j k v u h lt e at in
     let differ : int_eq u.zxid v.zxid ≡ false = grind (arith, nat_tests, ints) in
     when-none (int_eq u.zxid v.zxid) v.zxid differ
-other-zxid lines k j u (Open a b c d) h at lt e = refl
+other-zxid lines k j u (Open a b c d layout) h at lt e = refl
 other-zxid lines k j u (FrameLine a b c d) h at lt e = refl
 other-zxid lines k j u (Send a b) h at lt e = refl
 other-zxid lines k j u (Lapse a b) h at lt e = refl

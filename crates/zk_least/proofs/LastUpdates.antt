@@ -35,7 +35,7 @@ lapse-zxid s id (Some x) = refl
 last-line : (lines : List TranscriptLine) (m : ℕ) (l : TranscriptLine) → is_legal lines ≡ true → slice_get lines m ≡ Some l → (pos 0 <ℤ (state_at lines m).zxid → IsLastUpdate lines m) → pos 0 <ℤ (state_at lines (m + 1)).zxid → IsLastUpdate lines (m + 1)
 last-line lines m (Update u) legal at was up = record { place = m; update = u; before = omega arith; there = at; zxid = sym (at-line lines m u legal at).zxid }
 last-line lines m (Lapse r d) legal at was up = last-zxid lines m (ap (λ (s : State). s.zxid) (state_at-line lines m (Lapse r d) at) ∙ lapse-zxid (state_at lines m) d (session_at d (state_at lines m))) was up
-last-line lines m (Open a b d e) legal at was up = last-zxid lines m (ap (λ (s : State). s.zxid) (state_at-line lines m (Open a b d e) at)) was up
+last-line lines m (Open a b d e layout) legal at was up = last-zxid lines m (ap (λ (s : State). s.zxid) (state_at-line lines m (Open a b d e layout) at)) was up
 last-line lines m (FrameLine a b d e) legal at was up = last-zxid lines m (ap (λ (s : State). s.zxid) (state_at-line lines m (FrameLine a b d e) at)) was up
 last-line lines m (Send a b) legal at was up = last-zxid lines m (ap (λ (s : State). s.zxid) (state_at-line lines m (Send a b) at)) was up
 last-line lines m (Close a b) legal at was up = last-zxid lines m (ap (λ (s : State). s.zxid) (state_at-line lines m (Close a b) at)) was up
@@ -107,7 +107,7 @@ still-last lines k l at none still =
 pub last-update-law : LastUpdateLaw
 last-update-law lines k (Update u) legal at = ap (λ z. after_update z (take (k + 1) lines)) (at-line lines k u legal at).zxid ∙ since-line lines k u legal at
 last-update-law lines k (Lapse r d) legal at = still-last lines k (Lapse r d) at (λ u s. cc) (lapse-zxid (state_at lines k) d (session_at d (state_at lines k)))
-last-update-law lines k (Open a b d e) legal at = still-last lines k (Open a b d e) at (λ u s. cc) refl
+last-update-law lines k (Open a b d e layout) legal at = still-last lines k (Open a b d e layout) at (λ u s. cc) refl
 last-update-law lines k (FrameLine a b d e) legal at = still-last lines k (FrameLine a b d e) at (λ u s. cc) refl
 last-update-law lines k (Send a b) legal at = still-last lines k (Send a b) at (λ u s. cc) refl
 last-update-law lines k (Close a b) legal at = still-last lines k (Close a b) at (λ u s. cc) refl

@@ -52,7 +52,7 @@ attach-kind c u (Reaped id) a h = absurd (cc)
 
 attaching : (c : ℕ) (l : TranscriptLine) (a : Attachment) → attach_shown c l ≡ Some a → IsAttaching l a
 attaching c (Update u) a h = let k = attach-kind c u u.kind a h in record { update = u; is = refl; later = k.0; zxid = k.1 }
-attaching c (Open d p q e) a h = absurd (cc)
+attaching c (Open d p q e layout) a h = absurd (cc)
 attaching c (FrameLine d p q e) a h = absurd (cc)
 attaching c (Send d p) a h = absurd (cc)
 attaching c (Lapse d p) a h = absurd (cc)
@@ -81,7 +81,7 @@ begin-before (Update v ∷ ls) zero u h b at =
     absurd (cc)
 begin-before (Update v ∷ ls) (suc e) u h b at = record { place = 0; update = v; before = omega arith; there = refl }
 begin-before (Lapse r d ∷ ls) e u h b at = absurd (cc)
-begin-before (Open p q r s ∷ ls) e u h b at = rest_after-line (Open p q r s) ls e u (λ x. cc) at (λ k is. begin-before ls k u h b is)
+begin-before (Open p q r s layout ∷ ls) e u h b at = rest_after-line (Open p q r s layout) ls e u (λ x. cc) at (λ k is. begin-before ls k u h b is)
 begin-before (FrameLine p q r s ∷ ls) e u h b at = rest_after-line (FrameLine p q r s) ls e u (λ x. cc) at (λ k is. begin-before ls k u h b is)
 begin-before (Send p q ∷ ls) e u h b at = rest_after-line (Send p q) ls e u (λ x. cc) at (λ k is. begin-before ls k u h b is)
 begin-before (Close p q ∷ ls) e u h b at = rest_after-line (Close p q) ls e u (λ x. cc) at (λ k is. begin-before ls k u h b is)

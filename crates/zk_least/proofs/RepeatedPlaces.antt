@@ -45,7 +45,7 @@ shown-update z x (Update v) h = by (int_eq z v.zxid) refl h
         let told : v.zxid ≡ x = cc in
         (v, refl, sym same, sym told ∙ sym same)
     by false e t = absurd (cc)
-shown-update z x (Open a b c d) h = absurd (cc)
+shown-update z x (Open a b c d layout) h = absurd (cc)
 shown-update z x (FrameLine a b c d) h = absurd (cc)
 shown-update z x (Send a b) h = absurd (cc)
 shown-update z x (Lapse a b) h = absurd (cc)

@@ -61,7 +61,7 @@ lapse-still s id (Some x) = (refl, refl)
 line-rises : (before : List TranscriptLine) (s : State) (l : TranscriptLine) → is_legal_line before s l ≡ true → 0 < s.updates → Rises s (change before s l)
 line-rises before s (Update u) h some = update-rises before s u h some
 line-rises before s (Lapse revision id) h some = inl (lapse-still s id (session_at id s))
-line-rises before s (Open a b d e) h some = inl (refl, refl)
+line-rises before s (Open a b d e layout) h some = inl (refl, refl)
 line-rises before s (FrameLine a b d e) h some = inl (refl, refl)
 line-rises before s (Send a b) h some = inl (refl, refl)
 line-rises before s (Close a b) h some = inl (refl, refl)
@@ -146,7 +146,7 @@ line-long lines k (Update u) h least at was =
     subst IsLong (sym (at-line lines k u h at).zxid) (least k u at, most)
 line-long lines k (Lapse revision id) h least at was =
     subst IsLong (sym (ap (λ (s : State). s.zxid) (state_at-line lines k (Lapse revision id) at) ∙ (lapse-still (state_at lines k) id (session_at id (state_at lines k))).1)) was
-line-long lines k (Open a b d e) h least at was = subst IsLong (sym (ap (λ (s : State). s.zxid) (state_at-line lines k (Open a b d e) at))) was
+line-long lines k (Open a b d e layout) h least at was = subst IsLong (sym (ap (λ (s : State). s.zxid) (state_at-line lines k (Open a b d e layout) at))) was
 line-long lines k (FrameLine a b d e) h least at was = subst IsLong (sym (ap (λ (s : State). s.zxid) (state_at-line lines k (FrameLine a b d e) at))) was
 line-long lines k (Send a b) h least at was = subst IsLong (sym (ap (λ (s : State). s.zxid) (state_at-line lines k (Send a b) at))) was
 line-long lines k (Close a b) h least at was = subst IsLong (sym (ap (λ (s : State). s.zxid) (state_at-line lines k (Close a b) at))) was
@@ -175,7 +175,7 @@ line-started lines k (Update u) h at was = subst IsStarted (state_at-line lines 
 line-started lines k (Lapse revision id) h at was =
     let still = lapse-still (state_at lines k) id (session_at id (state_at lines k)) in
     elim was [ inl a ↦ inl (omega (arith, a, still.0)) | inr a ↦ inr (still.1 ∙ a) ]
-line-started lines k (Open a b d e) h at was = was
+line-started lines k (Open a b d e layout) h at was = was
 line-started lines k (FrameLine a b d e) h at was = was
 line-started lines k (Send a b) h at was = was
 line-started lines k (Close a b) h at was = was

@@ -45,7 +45,7 @@ NoUpdates ls = (j : ℕ) (l : TranscriptLine) → slice_get ls j ≡ Some l → 
 line-lag : (before : List TranscriptLine) (s : State) (l : TranscriptLine) → NoUpdate l → IsLag s (change before s l)
 line-lag before s (Update u) none = absurd (none u refl)
 line-lag before s (Lapse revision id) none = lapse-lag s id (session_at id s)
-line-lag before s (Open a b d e) none = no-lag s
+line-lag before s (Open a b d e layout) none = no-lag s
 line-lag before s (FrameLine a b d e) none = no-lag s
 line-lag before s (Send a b) none = no-lag s
 line-lag before s (Close a b) none = no-lag s
@@ -112,7 +112,7 @@ NoLapses id ls = (j : ℕ) (r : ℤ) → slice_get ls j ≡ Some (Lapse r id) �
 line-keeps : (before : List TranscriptLine) (s : State) (id : ℤ) (l : TranscriptLine) → NoUpdate l → ((r d : ℤ) → l ≡ Lapse r d → id ≢ d) → session_at id (change before s l) ≡ session_at id s
 line-keeps before s id (Update u) none still = absurd (none u refl)
 line-keeps before s id (Lapse revision d) none still = lapse-other s id d (session_at d s) (still revision d refl)
-line-keeps before s id (Open a b d e) none still = refl
+line-keeps before s id (Open a b d e layout) none still = refl
 line-keeps before s id (FrameLine a b d e) none still = refl
 line-keeps before s id (Send a b) none still = refl
 line-keeps before s id (Close a b) none still = refl
@@ -133,7 +133,7 @@ same-session lines k m id legal le some same still =
 line-gone : (before : List TranscriptLine) (s : State) (id : ℤ) (l : TranscriptLine) → NoUpdate l → IsGone (session_at id s) → session_at id (change before s l) ≡ session_at id s
 line-gone before s id (Update u) none gone = absurd (none u refl)
 line-gone before s id (Lapse revision d) none gone = gone-stays s id d gone
-line-gone before s id (Open a b d e) none gone = refl
+line-gone before s id (Open a b d e layout) none gone = refl
 line-gone before s id (FrameLine a b d e) none gone = refl
 line-gone before s id (Send a b) none gone = refl
 line-gone before s id (Close a b) none gone = refl

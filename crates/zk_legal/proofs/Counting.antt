@@ -37,7 +37,7 @@ frames-few c (x ∷ ls) = elim (is_frame_of c x) as (λ b. (if b then frames_of 
 no_frame : (c : ℕ) (l : TranscriptLine) → sender l ≡ None → is_frame_of c l ≡ false
 no_frame c (Frame d i z bytes) h = absurd (cc)
 no_frame c (Update u) h = refl
-no_frame c (Open d p id pw) h = refl
+no_frame c (Open d p id pw layout) h = refl
 no_frame c (Send d bytes) h = refl
 no_frame c (Lapse r id) h = refl
 no_frame c (Close d e) h = refl
@@ -45,7 +45,7 @@ no_frame c (Close d e) h = refl
 a_frame : (c d : ℕ) (l : TranscriptLine) → sender l ≡ Some d → is_frame_of c l ≡ (d == c)
 a_frame c d (Frame e i z bytes) h = let same : e ≡ d = cc in eq-sym c e ∙ ap (λ x. x == c) same
 a_frame c d (Update u) h = absurd (cc)
-a_frame c d (Open e p id pw) h = absurd (cc)
+a_frame c d (Open e p id pw layout) h = absurd (cc)
 a_frame c d (Send e bytes) h = absurd (cc)
 a_frame c d (Lapse r id) h = absurd (cc)
 a_frame c d (Close e end) h = absurd (cc)

@@ -6,7 +6,7 @@ use Rattle.std.specs.Ordering.{int_eq}
 use Rattle.std.proofs.lemmas.Bool.{and_parts, cases_Bool}
 use Rattle.std.proofs.lemmas.List.{length-append}
 use Rattle.std.proofs.lemmas.List.Elements.{All-weaker, recursion_from_All}
-use Rattle.zk_model.specs.Limits.{max_frame, max_time, max_owned}
+use Rattle.zk_model.specs.Limits.{max_frame, max_time}
 use Rattle.zk_model.specs.Multi.{data_len}
 use Rattle.zk_model.specs.Znodes.{Tree}
 use Rattle.zk_model.specs.declared.request.Part.{Part}
@@ -21,7 +21,7 @@ use Rattle.zk_service.specs.declared.update.UpdateKind.{UpdateKind}
 use Rattle.zk_service.specs.declared.update.UpdateKind.TheVariants as kind
 use Rattle.zk_transcript.specs.declared.transcript.TranscriptLine.{TranscriptLine}
 use Rattle.zk_transcript.specs.declared.transcript.TranscriptLine.TheVariants as line
-use Rattle.zk_service.specs.States.{State, nothing_yet, session_of}
+use Rattle.zk_service.specs.States.{Session, State, attached_session, limit_of, nothing_yet}
 use Rattle.zk_transcript.specs.History.{after, after_from, asked_commit, asked_in, change, frame, request}
 use Rattle.zk_transcript.specs.Legal.{is_next_zxid, is_small_frame, is_within_parts, may_update}
 use Rattle.zk_transcript.proofs.Appending.{after-push}
@@ -104,7 +104,7 @@ pub uneventful : (b : List TranscriptLine) (s : State) (ls : List TranscriptLine
 uneventful b s [] none = refl
 uneventful b s (line.Update u ∷ ls) none = absurd (cc)
 uneventful b s (line.Lapse revision id ∷ ls) none = absurd (cc)
-uneventful b s (line.Open c p id pw ∷ ls) none = uneventful (b ++ line.Open c p id pw ∷ []) s ls none
+uneventful b s (line.Open c p id pw layout ∷ ls) none = uneventful (b ++ line.Open c p id pw layout ∷ []) s ls none
 uneventful b s (line.Frame c i z bytes ∷ ls) none = uneventful (b ++ line.Frame c i z bytes ∷ []) s ls none
 uneventful b s (line.Send c bytes ∷ ls) none = uneventful (b ++ line.Send c bytes ∷ []) s ls none
 uneventful b s (line.Close c end ∷ ls) none = uneventful (b ++ line.Close c end ∷ []) s ls none
@@ -158,8 +158,8 @@ request-fits t limit session (req.SetData path content version) zxid now whole s
 request-fits t limit session (req.Multi parts) zxid now whole small = parts-within limit session zxid now t parts whole (parts-short parts small)
 request-fits t limit session r zxid now whole small = tt
 
-pub asked-fits : (before : List TranscriptLine) (s : State) (c i : ℕ) (zxid : ℤ) (now : ℕ) → IsWhole s.tree → is_small_frame (frame c i before) ≡ true → AskedFits s.tree (session_of c s) (request c i before) zxid now
-asked-fits before s c i zxid now whole small = by_session (session_of c s) (request c i before) refl
+pub asked-fits : (before : List TranscriptLine) (s : State) (c i : ℕ) (zxid : ℤ) (now : ℕ) → IsWhole s.tree → is_small_frame (frame c i before) ≡ true → AskedFits s.tree (attached_session c s) (request c i before) zxid now
+asked-fits before s c i zxid now whole small = by_session (attached_session c s) (request c i before) refl
   where
     by_reading : (bytes : List ℕ) (f : Frame) (r : Request) → read_request bytes ≡ f → length bytes ≤ max_frame → asked_in f ≡ Some r → AllByRecursion IsShort (contents_of r)
     by_reading bytes NoHeader r e le is = absurd (cc)
@@ -171,10 +171,10 @@ asked-fits before s c i zxid now whole small = by_session (session_of c s) (requ
     by_frame None r fits is = absurd (cc)
     by_frame (Some bytes) r fits is = by_reading bytes (read_request bytes) r refl (leb-true (length bytes) max_frame fits) is
 
-    by_session : (o : Option ℤ) (q : Option Request) → request c i before ≡ q → AskedFits s.tree o q zxid now
+    by_session : (o : Option (ℤ × Session)) (q : Option Request) → request c i before ≡ q → AskedFits s.tree o q zxid now
     by_session None q is = tt
-    by_session (Some id) None is = tt
-    by_session (Some id) (Some r) is = request-fits s.tree max_owned id r zxid now whole (by_frame (frame c i before) r small is)
+    by_session (Some e) None is = tt
+    by_session (Some e) (Some r) is = request-fits s.tree (limit_of e.1) e.0 r zxid now whole (by_frame (frame c i before) r small is)
 
 -- ---- lines
 
@@ -199,7 +199,7 @@ line-fits before s (line.Update u) run holds =
     let timely = (and_parts _ (is_timely u.kind) (range-line before s (line.Update u) holds)).1 in
     let may = (and_parts (may_update before s u.zxid u.kind) (is_next_zxid s u.zxid) (legal-line before s (line.Update u) holds)).0 in
     kind-fits before s u.zxid u.kind (run-whole before s run) timely may
-line-fits before s (line.Open c p id pw) run holds = tt
+line-fits before s (line.Open c p id pw layout) run holds = tt
 line-fits before s (line.Frame c i z bytes) run holds = tt
 line-fits before s (line.Send c bytes) run holds = tt
 line-fits before s (line.Lapse revision id) run holds = tt

@@ -9,6 +9,7 @@ use Rattle.zx_base.proofs.Options.{some_none}
 use Rattle.zk_model.specs.Limits.{max_long}
 use Rattle.zk_service.specs.declared.update.UpdateKind.{UpdateKind}
 use Rattle.zk_service.specs.declared.update.UpdateKind.TheVariants.{Begin, Session as NewSession, Attach, Asked, Closed, Reaped}
+use Rattle.zk_service.specs.declared.fresh.Fresh.{Fresh}
 use Rattle.zk_transcript.specs.declared.transcript.TranscriptLine.{TranscriptLine}
 use Rattle.zk_transcript.specs.declared.transcript.TranscriptLine.TheVariants.{Update, Open, Frame, Send, Lapse, Close}
 use Rattle.zk_service.specs.States.{State, Session, Commit, attached_anew, committed, lapsed_in, new_session, nothing_yet, or_nothing, session_at}
@@ -49,7 +50,7 @@ offered-long : (before : List TranscriptLine) (s : State) (z id : ℤ) (c : ℕ)
 unfolding may_update
 offered-long before s z id c offered may = by_opening (opening c before) refl (and_parts _ (offers id (opening c before)) (and_parts _ (asks_anew (connect c before)) (and_parts _ (may_attach before c z (connect c before)) may).0).0).1
   where
-    by_opening : (o : Option (ℤ × List ℕ)) → opening c before ≡ o → offers id o ≡ true → length (or_nothing [] (option_map (λ (x : ℤ × List ℕ). x.1) o)) ≡ 16
+    by_opening : (o : Option Fresh) → opening c before ≡ o → offers id o ≡ true → length (or_nothing [] (option_map (λ (f : Fresh). f.passwd) o)) ≡ 16
     by_opening None is offer = absurd (cc)
     by_opening (Some o) is offer = offered c o is
 
@@ -65,7 +66,7 @@ updated-long before s z (Reaped id) offered long may = each_session-gone IsLong 
 change-long : (before : List TranscriptLine) (s : State) (l : TranscriptLine) → OfferPasswords before → EachSession IsLong s.sessions → is_legal_line before s l ≡ true → EachSession IsLong (change before s l).sessions
 change-long before s (Update u) offered long legal = updated-long before s u.zxid u.kind offered long (and_parts (may_update before s u.zxid u.kind) (is_next_zxid s u.zxid) legal).0
 change-long before s (Lapse revision id) offered long legal = lapsed-long s id long
-change-long before s (Open c p id pw) offered long legal = long
+change-long before s (Open c p id pw layout) offered long legal = long
 change-long before s (Frame c i z bytes) offered long legal = long
 change-long before s (Send c bytes) offered long legal = long
 change-long before s (Close c end) offered long legal = long

@@ -43,7 +43,7 @@ begins-shows : (ls : List TranscriptLine) → begins ls ≡ true → (u : Update
 begins-shows [] h = absurd (cc)
 begins-shows (Update u ∷ ls) h = (u, refl)
 begins-shows (Lapse revision id ∷ ls) h = absurd (cc)
-begins-shows (Open c p id pw ∷ ls) h = begins-shows ls h
+begins-shows (Open c p id pw layout ∷ ls) h = begins-shows ls h
 begins-shows (FrameLine c i z bytes ∷ ls) h = begins-shows ls h
 begins-shows (Send c bytes ∷ ls) h = begins-shows ls h
 begins-shows (Close c end ∷ ls) h = begins-shows ls h

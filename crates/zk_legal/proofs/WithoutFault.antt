@@ -8,6 +8,7 @@ use Rattle.std.proofs.lemmas.Bool.Decides.{nat_tests}
 use Rattle.std.proofs.lemmas.Int.{ints}
 use Rattle.std.proofs.lemmas.Grind.{common_steps}
 use Rattle.zk_service.specs.declared.update.UpdateRec.{UpdateRec}
+use Rattle.zk_service.specs.declared.fresh.Fresh.{Fresh}
 use Rattle.zk_transcript.specs.declared.transcript.TranscriptLine.{TranscriptLine}
 use Rattle.zk_transcript.specs.declared.transcript.TranscriptLine.TheVariants as line
 use Rattle.zk_transcript.specs.Conversations.{IsShownFresh, IsSilentUnopened}
@@ -80,7 +81,7 @@ is_opened-send before s c bytes h = (and_parts (is_some (opening c before)) _ h)
 not-opened : (c : ℕ) (before more : List TranscriptLine) → opening c (before ++ more) ≡ None → is_some (opening c before) ≡ false
 not-opened c before more none = by (opening c before) refl
   where
-    by : (o : Option (ℤ × List ℕ)) → opening c before ≡ o → is_some o ≡ false
+    by : (o : Option Fresh) → opening c before ≡ o → is_some o ≡ false
     by None e = refl
     by (Some x) e = let later = first_shown-push (open_shown c) before more x e in absurd (cc)
 
@@ -103,7 +104,7 @@ silent-from c j before s (l ∷ ls) none unopened =
     by : packets_from c (j + 1) ls ≡ [] → (x : TranscriptLine) → l ≡ x → packets_from c j (x ∷ ls) ≡ []
     by later (line.Send d bytes) is = other later d bytes is (c == d) refl
     by later (line.Update u) is = later
-    by later (line.Open d p id pw) is = later
+    by later (line.Open d p id pw layout) is = later
     by later (line.Frame d i z bytes) is = later
     by later (line.Lapse revision id) is = later
     by later (line.Close d end) is = later

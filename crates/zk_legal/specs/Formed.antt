@@ -41,7 +41,7 @@ is_kind_formed before _ = true
 -- a reaper's. Frames come after the first update, are numbered 0, 1, 2 and so on, have at most 1,048,575 bytes, and show the zxid
 -- of the last update.
 unfoldable pub is_formed_line : List TranscriptLine → State → TranscriptLine → Bool
-is_formed_line before s (line.Open c proxy id passwd) = not (is_opened before c)
+is_formed_line before s (line.Open c proxy id passwd layout) = not (is_opened before c)
 is_formed_line before s (line.Frame c i zxid bytes) =
     is_opened before c && not (is_closed before c) && i == frames_of c before && nat_le (length bytes) max_frame && has_begun s && int_eq zxid s.zxid
 is_formed_line before s (line.Send c bytes) = is_opened before c && not (is_closed before c)

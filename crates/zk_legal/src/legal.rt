@@ -14,7 +14,7 @@ use std::alloc::Global;
 use zk_history::{Fault, Past, State, planned_commit};
 use zk_model::limit::{MAX_FRAME, MAX_PARTS};
 use zk_model::{ConnectRequest, Request};
-use zk_service::UpdateKind;
+use zk_service::{Fresh, UpdateKind};
 use zk_transcript::TranscriptLine;
 use zx_base::Memory;
 
@@ -43,12 +43,12 @@ fn may_attach(before: &Past, connection: u32, zxid: i64, asked: &Option<ConnectR
     }
 }
 
-fn offers(id: i64, opened: Option<(i64, [u8; 16])>) -> bool
+fn offers(id: i64, opened: Option<Fresh>) -> bool
     ensures { result ≡ offers_of id opened }
 {
     match opened {
         None => false,
-        Some((offered, _)) => id == offered,
+        Some(opened) => id == opened.id,
     }
 }
 
@@ -89,7 +89,7 @@ fn is_live(connection: u32, state: &State) -> bool
 {
     match state.attached_to(connection) {
         None => false,
-        Some((_, is_lapsed)) => !is_lapsed,
+        Some((_, session)) => !session.is_lapsed(),
     }
 }
 
@@ -99,7 +99,7 @@ fn is_live_as(id: i64, connection: u32, state: &State) -> bool
 {
     match state.attached_to(connection) {
         None => false,
-        Some((session, is_lapsed)) => id == session && !is_lapsed,
+        Some((attached, session)) => id == attached && !session.is_lapsed(),
     }
 }
 

@@ -1,6 +1,8 @@
 -- Limits of the service. Those on counts and sizes keep each transaction within what etcd takes, and each number within
 -- its field on the wire (zookeeper.jute).
 use Rattle.std.specs.Prelude.{ℕ, ℤ, pos}
+use Rattle.zk_model.specs.declared.layout.Layout.{Layout}
+use Rattle.zk_model.specs.declared.layout.Layout.TheVariants.{One, Two}
 
 -- the most bytes of a frame without its length, and so of a node's data (`jute.maxbuffer`)
 abbrev pub max_frame : ℕ
@@ -22,9 +24,11 @@ max_creates = pos 1073741823
 abbrev pub max_version : ℤ
 max_version = pos 2147483647
 
--- the most ephemeral nodes that a session owns
-abbrev pub max_owned : ℕ
-max_owned = 40
+-- The most ephemeral nodes that a session owns, by its layout. Those of layout 2 have fewer records, so that as many more of them
+-- go with their session in one transaction
+abbrev pub max_owned : Layout → ℕ
+max_owned One = 40
+max_owned Two = 60
 
 -- the most parts of a multi
 abbrev pub max_parts : ℕ

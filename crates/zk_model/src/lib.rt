@@ -12,6 +12,7 @@ pub mod access;
 pub mod code;
 mod connect;
 pub mod flags;
+mod layout;
 pub mod limit;
 pub mod load;
 mod node;
@@ -23,6 +24,7 @@ pub mod version;
 pub mod watcher;
 
 pub use connect::{ConnectRequest, ConnectResponse};
+pub use layout::Layout;
 pub use node::{Node, Stat, Trigger};
 pub use path::{Path, PathFault, read_path};
 pub use path_set::PathSet;

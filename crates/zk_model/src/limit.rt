@@ -6,9 +6,6 @@ pub const MAX_FRAME: usize = 1_048_575;
 /// The most creates of children that a node counts: the Stat's `cversion` is an int and counts each of them twice.
 pub const MAX_CREATES: i32 = 1_073_741_823;
 
-/// The most ephemeral nodes that a session owns.
-pub const MAX_OWNED: usize = 40;
-
 /// The most parts of a multi.
 pub const MAX_PARTS: usize = 24;
 

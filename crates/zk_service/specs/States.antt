@@ -14,6 +14,9 @@ use Rattle.zk_model.specs.declared.request.Request.TheVariants as req
 use Rattle.zk_model.specs.declared.request.Part.TheVariants as part
 use Rattle.zk_model.specs.declared.node.Trigger.{Trigger}
 use Rattle.zk_model.specs.declared.connect.ConnectRequest.{ConnectRequest}
+use Rattle.zk_model.specs.declared.layout.Layout.{Layout}
+use Rattle.zk_model.specs.declared.layout.Layout.TheVariants.{Two}
+use Rattle.zk_service.specs.declared.fresh.Fresh.{Fresh}
 use Rattle.std.specs.FinMap.{FinMap, get, insert, remove, empty, entries}
 use Rattle.zx_base.specs.Maps.{Bytes}
 use Rattle.zk_model.specs.Paths.{root, parent, is_path}
@@ -27,6 +30,8 @@ use Rattle.zk_model.specs.Limits.{max_creates, max_frame, max_long, max_owned, m
 pub record Session : Type 0 where
   pub passwd : List ℕ
   pub timeout : ℤ
+  -- how its nodes are kept, and so how many it may own
+  pub layout : Layout
   -- the connection that it is attached to, and the zxid of that attachment
   pub connection : ℕ
   pub attached : ℤ
@@ -125,10 +130,12 @@ abbrev pub or_nothing : {A : Type 0} → A → Option A → A
 or_nothing x None = x
 or_nothing x (Some y) = y
 
-abbrev pub new_session : Option (ℤ × List ℕ) → Option ConnectRequest → ℕ → ℤ → Session
+-- the session that begins with what its connection offers
+abbrev pub new_session : Option Fresh → Option ConnectRequest → ℕ → ℤ → Session
 new_session opened asked c zxid = record {
-  passwd = or_nothing [] (option_map (λ (o : ℤ × List ℕ). o.1) opened);
+  passwd = or_nothing [] (option_map (λ (f : Fresh). f.passwd) opened);
   timeout = granted_timeout (or_nothing (pos 0) (option_map (λ (r : ConnectRequest). r.timeout) asked));
+  layout = or_nothing Two (option_map (λ (f : Fresh). f.layout) opened);
   connection = c;
   attached = zxid;
   lapsed = false;
@@ -154,9 +161,9 @@ session_ended s zxid id =
     let ps = owned s.tree id in
     advanced s zxid (removed_all s.tree ps zxid) (flat_map removal ps) (remove s.sessions id)
 
--- how many ephemeral nodes a session may own: the same number for each
+-- how many ephemeral nodes a session may own
 abbrev pub limit_of : Session → ℕ
-limit_of x = max_owned
+limit_of x = max_owned x.layout
 
 abbrev pub lapsed_in : State → ℤ → Option Session → State
 lapsed_in s id None = s

@@ -10,6 +10,7 @@ mod cause;
 mod connect;
 mod fits;
 mod form;
+mod fresh;
 mod update;
 
 pub use body::{body_with_stat, response_of};
@@ -17,4 +18,5 @@ pub use cause::{Cause, Ended, copy_of_cause};
 pub use connect::answered_read_only;
 pub use fits::{names_and_stat_fit, names_fit};
 pub use form::has_valid_form;
+pub use fresh::Fresh;
 pub use update::{UpdateKind, UpdateRec};

@@ -32,7 +32,7 @@ begins-push : (ls : List TranscriptLine) (l : TranscriptLine) → begins ls ≡ 
 begins-push [] l h = absurd (cc)
 begins-push (Update u ∷ ls) l h = h
 begins-push (Lapse revision id ∷ ls) l h = absurd (cc)
-begins-push (Open c proxy id passwd ∷ ls) l h = begins-push ls l h
+begins-push (Open c proxy id passwd layout ∷ ls) l h = begins-push ls l h
 begins-push (Frame c i z bytes ∷ ls) l h = begins-push ls l h
 begins-push (Send c bytes ∷ ls) l h = begins-push ls l h
 begins-push (Close c end ∷ ls) l h = begins-push ls l h

@@ -292,7 +292,7 @@ lined-change : (lines : List TranscriptLine) (s : State) (l : TranscriptLine) �
 lined-change lines s (Update u) was some h =
     let both = and_parts (may_update lines s u.zxid u.kind) (is_next_zxid s u.zxid) h in lined-updated lines s u.zxid u.kind was some both.0 (above-next s u.zxid some both.1)
 lined-change lines s (Lapse revision id) was some h = lined-lapsed lines s revision id was
-lined-change lines s (Open c proxy id passwd) was some h = lined-same lines (Open c proxy id passwd) s (λ d. refl) (λ id. refl) (λ id. refl) was
+lined-change lines s (Open c proxy id passwd layout) was some h = lined-same lines (Open c proxy id passwd layout) s (λ d. refl) (λ id. refl) (λ id. refl) was
 lined-change lines s (FrameLine c i z bytes) was some h = lined-same lines (FrameLine c i z bytes) s (λ d. refl) (λ id. refl) (λ id. refl) was
 lined-change lines s (Send c bytes) was some h = lined-same lines (Send c bytes) s (λ d. refl) (λ id. refl) (λ id. refl) was
 lined-change lines s (Close c end) was some h = lined-same lines (Close c end) s (λ d. refl) (λ id. refl) (λ id. refl) was
@@ -300,7 +300,7 @@ lined-change lines s (Close c end) was some h = lined-same lines (Close c end) s
 unattached : (c : ℕ) (l : TranscriptLine) → is_still l ≡ true → attach_shown c l ≡ None
 unattached c (Update u) h = absurd (cc)
 unattached c (Lapse revision id) h = refl
-unattached c (Open d proxy id passwd) h = refl
+unattached c (Open d proxy id passwd layout) h = refl
 unattached c (FrameLine d i z bytes) h = refl
 unattached c (Send d bytes) h = refl
 unattached c (Close d end) h = refl

@@ -2,6 +2,7 @@
 use Rattle.std.proofs.Common.{◌≡◌, ℕ, List, [], ◌∷◌, refl, arith, true, false, ℤ}
 use Rattle.std.specs.Prelude.{◌≤ℤ◌, int_le}
 use Rattle.std.proofs.lemmas.Int.{ints}
+use Rattle.zk_model.specs.declared.layout.Layout.{Layout}
 use Rattle.zk_model.specs.Limits.{max_long}
 use Rattle.zk_transcript.specs.declared.transcript.TranscriptLine.{TranscriptLine}
 use Rattle.zk_transcript.specs.declared.transcript.TranscriptLine.TheVariants.{Open, Lapse}
@@ -18,9 +19,9 @@ after-begin now = refl
 
 -- ---- where Begin may stand
 
-pub begin-after : (c proxy : ℕ) (id : ℤ) (passwd : List ℕ) (z : ℤ) (now : ℕ) → z ≤ℤ max_long → is_legal (Open c proxy id passwd ∷ begin_line z now ∷ []) ≡ true
+pub begin-after : (c proxy : ℕ) (id : ℤ) (passwd : List ℕ) (layout : Layout) (z : ℤ) (now : ℕ) → z ≤ℤ max_long → is_legal (Open c proxy id passwd layout ∷ begin_line z now ∷ []) ≡ true
 unfolding is_legal may_update
-begin-after c proxy id passwd z now most = let long : int_le z max_long ≡ true = grind (arith, ints) in rw long refl
+begin-after c proxy id passwd layout z now most = let long : int_le z max_long ≡ true = grind (arith, ints) in rw long refl
 
 pub begin-before : (revision id : ℤ) (lines : List TranscriptLine) → is_legal (Lapse revision id ∷ lines) ≡ false
 unfolding is_legal

@@ -8,6 +8,7 @@ use Rattle.std.proofs.lemmas.Int.{ints}
 use Rattle.std.proofs.Common.{arith}
 use Rattle.std.proofs.lemmas.Slice.Eq.{bytes_eq-Decides}
 use Rattle.zk_model.specs.declared.connect.ConnectRequest.{ConnectRequest}
+use Rattle.zk_service.specs.declared.fresh.Fresh.{Fresh}
 use Rattle.zk_service.specs.declared.update.UpdateKind.TheVariants.{Session as NewSession, Attach, Reaped}
 use Rattle.zk_transcript.specs.declared.transcript.TranscriptLine.{TranscriptLine}
 use Rattle.zk_transcript.specs.declared.transcript.TranscriptLine.TheVariants.{Update}
@@ -44,16 +45,16 @@ unfolding may_update
 reaped-lapsed lines k z id h g =
     lapsed (session_at id (state_at lines k)) (and_parts (may_update (take k lines) (state_at lines k) z (Reaped id)) (is_next_zxid (state_at lines k) z) (is_legal-at lines k _ h g)).0
 
-offered : (id : ℤ) (o : Option (ℤ × List ℕ)) → offers id o ≡ true → (x : ℤ × List ℕ) × (o ≡ Some x) × (x.0 ≡ id)
+offered : (id : ℤ) (o : Option Fresh) → offers id o ≡ true → (f : Fresh) × (o ≡ Some f) × (f.id ≡ id)
 offered id None h = absurd (cc)
-offered id (Some x) h = (x, refl, sym ((Decides-int_eq id x.0).0 h))
+offered id (Some f) h = (f, refl, sym ((Decides-int_eq id f.id).0 h))
 
 anew : (o : Option ConnectRequest) → asks_anew o ≡ true → (r : ConnectRequest) × (o ≡ Some r) × (r.session ≡ pos 0)
 anew None h = absurd (cc)
 anew (Some r) h = (r, refl, (Decides-int_eq r.session (pos 0)).0 h)
 
 pub session-offered : (lines : List TranscriptLine) (k c : ℕ) (z id : ℤ) → is_legal lines ≡ true → slice_get lines k ≡ Some (Update (record { zxid = z; kind = NewSession id c }))
-    → (o : ℤ × List ℕ) × (r : ConnectRequest) × (opening c (take k lines) ≡ Some o) × (connect c (take k lines) ≡ Some r) × (o.0 ≡ id) × (r.session ≡ pos 0) × (session_at id (state_at lines k) ≡ None)
+    → (f : Fresh) × (r : ConnectRequest) × (opening c (take k lines) ≡ Some f) × (connect c (take k lines) ≡ Some r) × (f.id ≡ id) × (r.session ≡ pos 0) × (session_at id (state_at lines k) ≡ None)
 unfolding may_update
 session-offered lines k c z id h g =
     let may = (and_parts (may_update (take k lines) (state_at lines k) z (NewSession id c)) (is_next_zxid (state_at lines k) z) (is_legal-at lines k _ h g)).0 in

@@ -62,7 +62,7 @@ lapsed-some s id (Some x) some = some
 change-some : (before : List TranscriptLine) (s : State) (l : TranscriptLine) → 1 ≤ s.updates → 1 ≤ (change before s l).updates
 change-some before s (Update u) some = updated-some before s u.zxid u.kind some
 change-some before s (Lapse revision id) some = lapsed-some s id (session_at id s) some
-change-some before s (Open c proxy id passwd) some = some
+change-some before s (Open c proxy id passwd layout) some = some
 change-some before s (FrameLine c i z bytes) some = some
 change-some before s (Send c bytes) some = some
 change-some before s (Close c end) some = some
@@ -117,8 +117,8 @@ module _ (P : List TranscriptLine → State → Type 0)
   from_start before [] still begin h = absurd (cc)
   from_start before (Update u ∷ ls) still begin h = from_begin before u.zxid u.kind ls still begin h
   from_start before (Lapse revision id ∷ ls) still begin h = absurd (cc)
-  from_start before (Open c proxy id passwd ∷ ls) still begin h =
-      skip before (Open c proxy id passwd) ls (from_start (before ++ Open c proxy id passwd ∷ []) ls (still-push before (Open c proxy id passwd) still refl) begin h)
+  from_start before (Open c proxy id passwd layout ∷ ls) still begin h =
+      skip before (Open c proxy id passwd layout) ls (from_start (before ++ Open c proxy id passwd layout ∷ []) ls (still-push before (Open c proxy id passwd layout) still refl) begin h)
   from_start before (FrameLine c i z bytes ∷ ls) still begin h =
       skip before (FrameLine c i z bytes) ls (from_start (before ++ FrameLine c i z bytes ∷ []) ls (still-push before (FrameLine c i z bytes) still refl) begin h)
   from_start before (Send c bytes ∷ ls) still begin h =
@@ -165,7 +165,7 @@ first_shown-push {A} show (l ∷ ls) more x h =
 no_update : (l : TranscriptLine) → is_still l ≡ true → update_in l ≡ None
 no_update (Update u) h = absurd (cc)
 no_update (Lapse revision id) h = refl
-no_update (Open c proxy id passwd) h = refl
+no_update (Open c proxy id passwd layout) h = refl
 no_update (FrameLine c i z bytes) h = refl
 no_update (Send c bytes) h = refl
 no_update (Close c end) h = refl

@@ -48,7 +48,7 @@ carried_by c z (Reaped id) m h = absurd (cc)
 
 carrier-of : (c : ℕ) (l : TranscriptLine) (m : ℕ) → index_shown c l ≡ Some m → carrier l ≡ Some c
 carrier-of c (Update u) m h = carried_by c u.zxid u.kind m h
-carrier-of c (Open d proxy id passwd) m h = absurd (cc)
+carrier-of c (Open d proxy id passwd layout) m h = absurd (cc)
 carrier-of c (FrameLine d i z bytes) m h = absurd (cc)
 carrier-of c (Send d bytes) m h = absurd (cc)
 carrier-of c (Lapse revision id) m h = absurd (cc)

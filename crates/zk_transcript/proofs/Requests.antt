@@ -16,7 +16,7 @@ use Rattle.zk_transcript.proofs.Prefixes.{begins-take, is_legal-take, is_legal-b
 updates_by : (c : ℕ) (a : Attachment) (l : TranscriptLine) → attach_shown c l ≡ Some a → (u : UpdateRec) × (l ≡ Update u)
 updates_by c a (Update u) h = (u, refl)
 updates_by c a (Lapse revision id) h = absurd (cc)
-updates_by c a (Open d proxy id passwd) h = absurd (cc)
+updates_by c a (Open d proxy id passwd layout) h = absurd (cc)
 updates_by c a (FrameLine d i z bytes) h = absurd (cc)
 updates_by c a (Send d bytes) h = absurd (cc)
 updates_by c a (Close d end) h = absurd (cc)

@@ -331,7 +331,7 @@ fine-updated first before s z (Reaped id) fine some h up = fine-reaped first bef
 fine-change : (first : ℤ) (before : List TranscriptLine) (s : State) (l : TranscriptLine) → Fine first s → 1 ≤ s.updates → is_legal_line before s l ≡ true → Fine first (change before s l)
 fine-change first before s (Update u) fine some h = let both = and_parts (may_update before s u.zxid u.kind) (is_next_zxid s u.zxid) h in fine-updated first before s u.zxid u.kind fine some both.0 both.1
 fine-change first before s (Lapse revision id) fine some h = fine-lapsed first s id fine
-fine-change first before s (Open c proxy id passwd) fine some h = fine
+fine-change first before s (Open c proxy id passwd layout) fine some h = fine
 fine-change first before s (FrameLine c i z bytes) fine some h = fine
 fine-change first before s (Send c bytes) fine some h = fine
 fine-change first before s (Close c end) fine some h = fine

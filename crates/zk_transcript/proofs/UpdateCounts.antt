@@ -25,7 +25,7 @@ no_updates : (before : List TranscriptLine) → list_all is_still before ≡ tru
 no_updates [] still = refl
 no_updates (Update u ∷ before) still = absurd (cc)
 no_updates (Lapse revision id ∷ before) still = absurd (cc)
-no_updates (Open c proxy id passwd ∷ before) still = no_updates before still
+no_updates (Open c proxy id passwd layout ∷ before) still = no_updates before still
 no_updates (FrameLine c i z bytes ∷ before) still = no_updates before still
 no_updates (Send c bytes ∷ before) still = no_updates before still
 no_updates (Close c end ∷ before) still = no_updates before still
@@ -54,7 +54,7 @@ lapsed-counts s id (Some x) = refl
 change-counts : (before : List TranscriptLine) (s : State) (l : TranscriptLine) → 1 ≤ s.updates → is_legal_line before s l ≡ true → (change before s l).updates ≡ s.updates + length (updates (l ∷ []))
 change-counts before s (Update u) some h = updated-counts before s u.zxid u.kind some (and_parts (may_update before s u.zxid u.kind) (is_next_zxid s u.zxid) h).0
 change-counts before s (Lapse revision id) some h = omega (arith, lapsed-counts s id (session_at id s))
-change-counts before s (Open c proxy id passwd) some h = omega arith
+change-counts before s (Open c proxy id passwd layout) some h = omega arith
 change-counts before s (FrameLine c i z bytes) some h = omega arith
 change-counts before s (Send c bytes) some h = omega arith
 change-counts before s (Close c end) some h = omega arith

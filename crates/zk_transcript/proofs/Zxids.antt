@@ -44,7 +44,7 @@ change-zxid before s (Update u) some h =
     let above = above-next s u.zxid some both.1 in
     omega (arith, ints, updated-zxid before s u.zxid u.kind both.0)
 change-zxid before s (Lapse revision id) some h = omega (arith, ints, lapsed-zxid s id (session_at id s))
-change-zxid before s (Open c proxy id passwd) some h = omega (arith, ints)
+change-zxid before s (Open c proxy id passwd layout) some h = omega (arith, ints)
 change-zxid before s (FrameLine c i z bytes) some h = omega (arith, ints)
 change-zxid before s (Send c bytes) some h = omega (arith, ints)
 change-zxid before s (Close c end) some h = omega (arith, ints)

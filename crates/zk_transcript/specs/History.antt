@@ -5,6 +5,7 @@ use Rattle.std.specs.Prelude.{ℕ, ℤ, ◌+◌, Bool, ◌&&◌, List, [], ◌�
 use Rattle.std.specs.List.{filter_map}
 use Rattle.zk_model.specs.declared.request.Request.{Request}
 use Rattle.zk_model.specs.declared.connect.ConnectRequest.{ConnectRequest}
+use Rattle.zk_service.specs.declared.fresh.Fresh.{Fresh}
 use Rattle.zk_service.specs.declared.update.UpdateRec.{UpdateRec}
 use Rattle.zk_service.specs.declared.update.UpdateKind.{UpdateKind}
 use Rattle.zk_service.specs.declared.update.UpdateKind.TheVariants.{Begin, Session as NewSession, Attach, Asked, Closed, Reaped}
@@ -31,12 +32,12 @@ first_place show k (l ∷ ls) = elim (show l) [ Some x ↦ Some (k, x) | None �
 abbrev pub when : {A : Type 0} → Bool → A → Option A
 when b x = if b then Some x else None
 
--- the number and the password that a connection offers for a new session
-abbrev pub open_shown : ℕ → TranscriptLine → Option (ℤ × List ℕ)
-open_shown c (Open connection proxy id passwd) = when (c == connection) (id, passwd)
+-- what a connection offers for a new session
+abbrev pub open_shown : ℕ → TranscriptLine → Option Fresh
+open_shown c (Open connection proxy id passwd layout) = when (c == connection) (record { id = id; passwd = passwd; layout = layout })
 open_shown c _ = None
 
-abbrev pub opening : ℕ → List TranscriptLine → Option (ℤ × List ℕ)
+abbrev pub opening : ℕ → List TranscriptLine → Option Fresh
 opening c lines = first_shown (open_shown c) lines
 
 -- the bytes of a frame; frame 0 is the connect

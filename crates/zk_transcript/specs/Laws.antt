@@ -1,5 +1,7 @@
 -- The laws of legal histories.
 use Rattle.std.specs.Prelude.{◌≡◌, ◌<◌, ◌≤ℤ◌, ◌<ℤ◌, true, false, ℕ, ℤ, pos, List, [], ◌∷◌, Some, None, length, slice_get, take}
+use Rattle.zk_model.specs.declared.layout.Layout.{Layout}
+use Rattle.zk_service.specs.declared.fresh.Fresh.{Fresh}
 use Rattle.zk_service.specs.declared.update.UpdateKind.TheVariants.{Begin, Session as NewSession, Attach, Reaped}
 use Rattle.zk_model.specs.declared.connect.ConnectRequest.{ConnectRequest}
 use Rattle.zk_model.specs.Limits.{max_long}
@@ -14,8 +16,8 @@ use Rattle.zk_transcript.specs.Legal.{Attachment, attach_of, index_shown, is_leg
 
 -- Begin may have any zxid up to the greatest of a `long`, and may follow a line that is neither an update nor a lapse
 abbrev pub BeginComesAfterAnOpenLine : Type 0
-BeginComesAfterAnOpenLine = (c proxy : ℕ) (id : ℤ) (passwd : List ℕ) (z : ℤ) (now : ℕ) → z ≤ℤ max_long
-    → is_legal (Open c proxy id passwd ∷ Update (record { zxid = z; kind = Begin now }) ∷ []) ≡ true
+BeginComesAfterAnOpenLine = (c proxy : ℕ) (id : ℤ) (passwd : List ℕ) (layout : Layout) (z : ℤ) (now : ℕ) → z ≤ℤ max_long
+    → is_legal (Open c proxy id passwd layout ∷ Update (record { zxid = z; kind = Begin now }) ∷ []) ≡ true
 
 -- no lapse stands before Begin
 abbrev pub BeginComesBeforeLapses : Type 0
@@ -80,7 +82,7 @@ AliveSinceOwnLine = (lines : List TranscriptLine) (c k moment : ℕ) (own : Atta
 abbrev pub SessionsBeginAsOffered : Type 0
 SessionsBeginAsOffered = (lines : List TranscriptLine) (k c : ℕ) (z id : ℤ) → is_legal lines ≡ true
     → slice_get lines k ≡ Some (Update (record { zxid = z; kind = NewSession id c }))
-    → (o : ℤ × List ℕ) × (r : ConnectRequest) × (opening c (take k lines) ≡ Some o) × (connect c (take k lines) ≡ Some r) × (o.0 ≡ id)
+    → (f : Fresh) × (r : ConnectRequest) × (opening c (take k lines) ≡ Some f) × (connect c (take k lines) ≡ Some r) × (f.id ≡ id)
     × (r.session ≡ pos 0) × (session_at id (state_at lines k) ≡ None)
 
 -- a session is attached to a connection whose connect names it and shows its password, while it is open and has not lapsed

@@ -6,6 +6,7 @@ use Rattle.std.specs.Ordering.{int_eq}
 use Rattle.zk_model.specs.declared.request.Request.{Request}
 use Rattle.zk_model.specs.declared.request.Request.TheVariants as req
 use Rattle.zk_model.specs.declared.connect.ConnectRequest.{ConnectRequest}
+use Rattle.zk_service.specs.declared.fresh.Fresh.{Fresh}
 use Rattle.zk_service.specs.declared.update.UpdateKind.{UpdateKind}
 use Rattle.zk_service.specs.declared.update.UpdateKind.TheVariants.{Begin, Session as NewSession, Attach, Asked, Closed, Reaped}
 use Rattle.zk_transcript.specs.declared.transcript.TranscriptLine.{TranscriptLine}
@@ -65,9 +66,9 @@ abbrev pub may_attach : List TranscriptLine → ℕ → ℤ → Option ConnectRe
 may_attach before c zxid None = false
 may_attach before c zxid (Some r) = is_none (attach_of c before) && is_small_frame (frame c 0 before) && int_lt r.last_zxid zxid
 
-abbrev pub offers : ℤ → Option (ℤ × List ℕ) → Bool
+abbrev pub offers : ℤ → Option Fresh → Bool
 offers id None = false
-offers id (Some o) = int_eq id o.0
+offers id (Some f) = int_eq id f.id
 
 abbrev pub asks_anew : Option ConnectRequest → Bool
 asks_anew None = false

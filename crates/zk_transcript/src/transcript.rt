@@ -3,6 +3,7 @@
 //! Connections and proxies have the numbers that the script gives them. `index` counts the frames of a connection from 0, which is
 //! its connect. A zxid is the revision of etcd that the update made. Times are the script's clock, in milliseconds.
 
+use zk_model::Layout;
 use zk_service::{Ended, UpdateRec};
 use zx_base::{Bytes, Seq};
 
@@ -11,12 +12,13 @@ use zx_base::{Bytes, Seq};
 pub enum TranscriptLine {
     /// An update was committed.
     Update(UpdateRec),
-    /// A connection opened at a proxy; `id` and `passwd` are what it offers if its client asks for a new session.
+    /// A connection opened at a proxy; `id`, `passwd` and `layout` are what it offers if its client asks for a new session.
     Open {
         connection: u32,
         proxy: u32,
         id: i64,
         passwd: [u8; 16],
+        layout: Layout,
     },
     /// A frame of the client came, `bytes` without its length; `zxid` is that of the last update then.
     Frame {

@@ -1,5 +1,5 @@
 -- The first transaction makes the first state of a new store.
-use Rattle.std.proofs.Common.{◌≡◌, ℕ, ◌<◌, ◌^◌, ℤ, pos, true, false, cond, List, [], ◌∷◌, ◌++◌, Option, Some, None, refl, sym, ap, ◌∙◌, subst, arith}
+use Rattle.std.proofs.Common.{Bool, ◌≡◌, ℕ, ◌<◌, ◌^◌, ℤ, pos, true, false, cond, List, [], ◌∷◌, ◌++◌, Option, Some, None, refl, sym, ap, ◌∙◌, subst, arith}
 use Rattle.std.specs.Prelude.{◌&&◌}
 use Rattle.std.specs.Ordering.{nat_cmp, int_cmp, int_eq}
 use Rattle.std.specs.Cmp.Lexicographic.{slice_cmp}
@@ -26,7 +26,7 @@ use Rattle.zx_base.proofs.MapLaws.{same-true, apart-from_same}
 use Rattle.zx_base.proofs.Options.{none_some}
 use Rattle.zn_layout.specs.Keys.{Key, HeadKey, DataKey, CountsKey, SessionKey, LeaseKey, key_bytes, front}
 use Rattle.zn_layout.specs.Records.{node_value, counts_value, head_value, IsLongCount, IsNodeRec}
-use Rattle.zn_layout.specs.StandsFor.{Stored, stored_of, at, Means, IsData, IsCounts, DataMeans, CountsMean, NodesMean, LifeMeans, IsHead, AreLayout, StandsFor}
+use Rattle.zn_layout.specs.StandsFor.{Stored, stored_of, at, Means, IsData, IsCounts, is_counted, is_counted_in, DataMeans, CountsMean, NodesMean, LifeMeans, IsHead, AreLayout, StandsFor}
 use Rattle.zn_layout.specs.Begin.{new_record, first_counts, begin_changes, head_is_absent, first_head, begin_parts, begin_ask, Begins}
 use Rattle.ev_types.specs.Reads.{read_key, one_found}
 use Rattle.zn_layout.specs.Changes.{acts_of, update_acts, put_or_else, last}
@@ -78,11 +78,11 @@ no_data None None x e f h = h
 no_data None (Some n) x e f h = absurd cc
 no_data (Some m) w x e f h = absurd cc
 
-no_counted : (o w : Option Node) (j k : ℕ) (x : Option Stored) → o ≡ None → w ≡ None → CountsMean o j x → CountsMean w k x
-no_counted None None j k None e f h = tt
-no_counted None None j k (Some s) e f h = h
-no_counted None (Some n) j k x e f h = absurd cc
-no_counted (Some m) w j k x e f h = absurd cc
+no_counted : (o w : Option Node) (j k : ℕ) (b d : Bool) (x : Option Stored) → o ≡ None → w ≡ None → CountsMean o j b x → CountsMean w k d x
+no_counted None None j k b d None e f h = tt
+no_counted None None j k b d (Some s) e f h = h
+no_counted None (Some n) j k b d x e f h = absurd cc
+no_counted (Some m) w j k b d x e f h = absurd cc
 
 no_nodes : (x : Option Session) (ps qs : List Bytes) (o : Option Stored) → x ≡ None → NodesMean x ps o → NodesMean x qs o
 no_nodes None ps qs None e h = tt
@@ -97,9 +97,10 @@ data_fits now h p = elim (same p root) as (λ b. same p root ≡ b → KeyFits (
 
 counts_fit : (now : ℕ) (p : Bytes) → KeyFits (pos 2) (last (begin_changes now) (CountsKey p)) (CountsKey p) nothing_yet (first_state now)
 counts_fit now p = elim (same p root) as (λ b. same p root ≡ b → KeyFits (pos 2) (put_or_else (cond b (Some (Some (record { value = counts_value first_counts; lease = pos 0 }))) None) None) (CountsKey p) nothing_yet (first_state now)) [
-  | true ↦ λ e. subst (λ (o : Option Node). CountsMean o (num_children (first_tree now) p) (Some (record { value = counts_value first_counts; revision = pos 2; lease = pos 0 }))) (sym (ap (get (first_tree now)) (same-true p root e) ∙ first_there now))
-      (subst (λ (k : ℕ). IsCounts (record { value = counts_value first_counts; revision = pos 2; lease = pos 0 }) (new_node [] (pos 0) (pos 2) now) k) (sym (first_childless now p)) (root_counts now))
-  | false ↦ λ e o. no_counted (get empty p) (get (first_tree now) p) _ _ o (get-empty (slice_cmp nat_cmp) p) (first_other now p (apart-from_same p root e))
+  | true ↦ λ e. subst (λ (o : Option Node). CountsMean o (num_children (first_tree now) p) (is_counted_in (first_state now) o) (Some (record { value = counts_value first_counts; revision = pos 2; lease = pos 0 }))) (sym (ap (get (first_tree now)) (same-true p root e) ∙ first_there now))
+      (subst (λ (b : Bool). CountsMean (Some (new_node [] (pos 0) (pos 2) now)) (num_children (first_tree now) p) b (Some (record { value = counts_value first_counts; revision = pos 2; lease = pos 0 }))) (sym (ap is_counted (get-empty int_cmp (pos 0))))
+      (subst (λ (k : ℕ). IsCounts (record { value = counts_value first_counts; revision = pos 2; lease = pos 0 }) (new_node [] (pos 0) (pos 2) now) k) (sym (first_childless now p)) (root_counts now)))
+  | false ↦ λ e o. no_counted (get empty p) (get (first_tree now) p) _ _ _ _ o (get-empty (slice_cmp nat_cmp) p) (first_other now p (apart-from_same p root e))
 ] refl
 
 key_fits : (now : ℕ) → now < 2 ^ 62 → (k : Key) → KeyFits (pos 2) (last (begin_changes now) k) k nothing_yet (first_state now)
@@ -120,7 +121,7 @@ none_there k = get-empty (slice_cmp nat_cmp) (key_bytes k)
 means_nothing : (k : Key) → Means nothing_yet k None
 means_nothing HeadKey = tt
 means_nothing (DataKey p) = subst (λ (o : Option Node). DataMeans o None) (sym (get-empty (slice_cmp nat_cmp) p)) tt
-means_nothing (CountsKey p) = subst (λ (o : Option Node). CountsMean o (num_children empty p) None) (sym (get-empty (slice_cmp nat_cmp) p)) tt
+means_nothing (CountsKey p) = subst (λ (o : Option Node). CountsMean o (num_children empty p) (is_counted_in nothing_yet o) None) (sym (get-empty (slice_cmp nat_cmp) p)) tt
 means_nothing (SessionKey id) = subst (λ (x : Option Session). NodesMean x (owned empty (pos id)) None) (sym (get-empty int_cmp (pos id))) tt
 means_nothing (LeaseKey id) = subst (λ (x : Option Session). LifeMeans id x None) (sym (get-empty int_cmp (pos id))) tt
 

@@ -20,7 +20,7 @@ use Rattle.zk_model.specs.Znodes.{Tree, num_children, owned}
 use Rattle.zk_service.specs.States.{State, Session, session_at, lapsed_in}
 use Rattle.zx_base.specs.Maps.{Bytes}
 use Rattle.zn_layout.specs.Keys.{Key, HeadKey, DataKey, CountsKey, SessionKey, LeaseKey, front, key_bytes}
-use Rattle.zn_layout.specs.StandsFor.{Stored, stored_of, at, DataMeans, CountsMean, NodesMean, LifeMeans, Means, HeadMeans, StandsFor}
+use Rattle.zn_layout.specs.StandsFor.{Stored, stored_of, at, is_counted, is_counted_in, DataMeans, CountsMean, NodesMean, LifeMeans, Means, HeadMeans, StandsFor}
 use Rattle.zx_base.proofs.Orders.{equal-from_is_eq}
 use Rattle.zx_base.proofs.Booleans.{and-first}
 
@@ -68,10 +68,11 @@ module _ (id : ℤ) (low : is_lease id ≡ true) where
   free_data None (Some kv) h = absurd h
   free_data (Some n) (Some kv) h = free kv h.free
 
-  free_counts : (w : Option Node) (children : ℕ) (o : Option Kv) → CountsMean w children (stored_of o) → is_leased id o ≡ false
-  free_counts w children None h = refl
-  free_counts None children (Some kv) h = absurd h
-  free_counts (Some n) children (Some kv) h = free kv h.free
+  free_counts : (w : Option Node) (children : ℕ) (b : Bool) (o : Option Kv) → CountsMean w children b (stored_of o) → is_leased id o ≡ false
+  free_counts w children b None h = refl
+  free_counts None children b (Some kv) h = absurd h
+  free_counts (Some n) children true (Some kv) h = free kv h.free
+  free_counts (Some n) children false (Some kv) h = absurd h
 
   free_nodes : (x : Option Session) (ps : List Bytes) (o : Option Kv) → NodesMean x ps (stored_of o) → is_leased id o ≡ false
   free_nodes x ps None h = refl
@@ -116,6 +117,21 @@ module _ (id : ℤ) (low : is_lease id ≡ true) where
     session-own : (i : ℕ) → pos i ≡ id → session_at (pos i) next ≡ option_map lapsed_now (session_at (pos i) s)
     session-own i e = ap (λ j. session_at j next) e ∙ session-same s id (session_at id s) refl ∙ ap (λ j. option_map lapsed_now (session_at j s)) (sym e)
 
+    -- a session keeps its layout, lapsed or not
+    counted_own : (x : Option Session) → is_counted (option_map lapsed_now x) ≡ is_counted x
+    counted_own None = refl
+    counted_own (Some x) = refl
+
+    counted_at : (i : ℤ) → is_counted (session_at i next) ≡ is_counted (session_at i s)
+    counted_at i = elim (int_eq i id) as (λ b. int_eq i id ≡ b → is_counted (session_at i next) ≡ is_counted (session_at i s)) [
+      | true ↦ λ h. let e = (Decides-int_eq i id).0 h in ap (λ j. is_counted (session_at j next)) e ∙ ap is_counted (session-same s id (session_at id s) refl) ∙ counted_own (session_at id s) ∙ ap (λ j. is_counted (session_at j s)) (sym e)
+      | false ↦ λ h. ap is_counted (session-other s id i (session_at id s) (λ e. false≢true (sym h ∙ (Decides-int_eq i id).1 e)))
+    ] refl
+
+    counted_in : (n : Option Node) → is_counted_in next n ≡ is_counted_in s n
+    counted_in None = refl
+    counted_in (Some n) = counted_at n.owner
+
     nodes_mean : (i : ℕ) → Means s (SessionKey i) (stored_of (at m (SessionKey i))) → Means next (SessionKey i) (stored_of (at m (SessionKey i)))
     nodes_mean i h = subst (λ (t : Tree). NodesMean (session_at (pos i) next) (owned t (pos i)) (stored_of (at m (SessionKey i)))) (sym (tree-lapsed s id (session_at id s))) (⊎_elim
         (λ e. subst (λ (x : Option Session). NodesMean x (owned s.tree (pos i)) (stored_of (at m (SessionKey i)))) (sym (session-own i e)) (nodes_own (session_at (pos i) s) _ _ h))
@@ -137,8 +153,9 @@ module _ (id : ℤ) (low : is_lease id ≡ true) where
     each_means HeadKey h = tt
     each_means (DataKey p) h = along (DataKey p) (free_data (get s.tree p) (at m (DataKey p)) h)
         (subst (λ (t : Tree). DataMeans (get t p) (stored_of (at m (DataKey p)))) (sym (tree-lapsed s id (session_at id s))) h)
-    each_means (CountsKey p) h = along (CountsKey p) (free_counts (get s.tree p) (num_children s.tree p) (at m (CountsKey p)) h)
-        (subst (λ (t : Tree). CountsMean (get t p) (num_children t p) (stored_of (at m (CountsKey p)))) (sym (tree-lapsed s id (session_at id s))) h)
+    each_means (CountsKey p) h = along (CountsKey p) (free_counts (get s.tree p) (num_children s.tree p) (is_counted_in s (get s.tree p)) (at m (CountsKey p)) h)
+        (subst (λ (t : Tree). CountsMean (get t p) (num_children t p) (is_counted_in next (get t p)) (stored_of (at m (CountsKey p)))) (sym (tree-lapsed s id (session_at id s)))
+        (subst (λ (b : Bool). CountsMean (get s.tree p) (num_children s.tree p) b (stored_of (at m (CountsKey p)))) (sym (counted_in (get s.tree p))) h))
     each_means (SessionKey i) h = along (SessionKey i) (free_nodes (session_at (pos i) s) (owned s.tree (pos i)) (at m (SessionKey i)) h) (nodes_mean i h)
     each_means (LeaseKey i) h = life_means i h
 

@@ -1,5 +1,5 @@
 -- What one key says of the state that its keys stand for.
-use Rattle.std.proofs.Common.{◌≡◌, ℕ, Option, Some, None, refl, sym, ◌∙◌, subst}
+use Rattle.std.proofs.Common.{◌≡◌, ℕ, Bool, true, false, Option, Some, None, refl, sym, ◌∙◌, subst}
 use Rattle.std.specs.FinMap.{get}
 use Rattle.ev_types.specs.declared.answer.Kv.{Kv}
 use Rattle.ev_types.specs.Ranges.{Keys}
@@ -12,7 +12,7 @@ use Rattle.zn_layout.specs.declared.record.CountRec.{CountRec}
 use Rattle.zn_layout.specs.Keys.{HeadKey, DataKey, CountsKey}
 use Rattle.zn_layout.specs.Records.{node_value, counts_value, IsNodeRec, IsCountRec}
 use Rattle.zn_layout.specs.Reading.{IsValueOf}
-use Rattle.zn_layout.specs.StandsFor.{Stored, stored_of, at, data_record, counts_record, IsData, IsCounts, DataMeans, CountsMean, IsHead, HeadMeans, StandsFor}
+use Rattle.zn_layout.specs.StandsFor.{Stored, stored_of, at, data_record, counts_record, IsData, IsCounts, is_counted_in, DataMeans, CountsMean, IsHead, HeadMeans, StandsFor}
 use Rattle.zn_layout.proofs.Nodes.{node_value-injective, counts_value-injective}
 
 -- what matters of a key that is there
@@ -71,41 +71,28 @@ data_read o n r is read = node_value-injective r (data_record n is.stored) read.
 pub record FoundCounts (s : State) (p : Bytes) (kv : Kv) : Type 0 where
   pub node : Node
   pub there : get s.tree p ≡ Some node
+  pub counted : is_counted_in s (Some node) ≡ true
   pub is : IsCounts (stored kv) node (num_children s.tree p)
 
-pub record StoredCounts (keys : Keys) (p : Bytes) (node : Node) (children : ℕ) : Type 0 where
-  pub kv : Kv
-  pub there : at keys (CountsKey p) ≡ Some kv
-  pub is : IsCounts (stored kv) node children
+-- what the state says of a node's counts, by whether it has a record of them
+abbrev CountsOf : State → Bytes → Option Node → Bool → Option Kv → Type 0
+CountsOf s p n b o = CountsMean n (num_children s.tree p) b (stored_of o)
 
-found_counts : (s : State) (p : Bytes) (kv : Kv) (n : Option Node) → get s.tree p ≡ n → CountsMean n (num_children s.tree p) (Some (stored kv)) → FoundCounts s p kv
-found_counts s p kv None e h = absurd h
-found_counts s p kv (Some n) e h = record { node = n; there = e; is = h }
+found_counts : (s : State) (p : Bytes) (kv : Kv) (n : Option Node) (b : Bool) → get s.tree p ≡ n → is_counted_in s n ≡ b → CountsOf s p n b (Some kv) → FoundCounts s p kv
+found_counts s p kv None b e d h = absurd h
+found_counts s p kv (Some n) true e d h = record { node = n; there = e; counted = d; is = h }
+found_counts s p kv (Some n) false e d h = absurd h
 
-no_counted : (n : Option Node) (children : ℕ) → CountsMean n children None → n ≡ None
-no_counted None children h = refl
-no_counted (Some n) children h = absurd h
-
-stored_counts : (keys : Keys) (p : Bytes) (node : Node) (children : ℕ) (o : Option Kv) → at keys (CountsKey p) ≡ o → CountsMean (Some node) children (stored_of o) → StoredCounts keys p node children
-stored_counts keys p node children None e h = absurd h
-stored_counts keys p node children (Some kv) e h = record { kv = kv; there = e; is = h }
-
-no_counts_there : (children : ℕ) (o : Option Kv) → CountsMean None children (stored_of o) → o ≡ None
-no_counts_there children None h = refl
-no_counts_there children (Some kv) h = absurd h
+no_counts_there : (s : State) (p : Bytes) (b : Bool) (o : Option Kv) → CountsOf s p None b o → o ≡ None
+no_counts_there s p b None h = refl
+no_counts_there s p b (Some kv) h = absurd h
 
 module _ (keys : Keys) (s : State) (stands : StandsFor keys s) (p : Bytes) where
   pub counts_found : (kv : Kv) → at keys (CountsKey p) ≡ Some kv → FoundCounts s p kv
-  counts_found kv e = found_counts s p kv (get s.tree p) refl (subst (λ (o : Option Kv). CountsMean (get s.tree p) (num_children s.tree p) (stored_of o)) e (stands.each (CountsKey p)))
-
-  pub counts_absent : at keys (CountsKey p) ≡ None → get s.tree p ≡ None
-  counts_absent e = no_counted (get s.tree p) (num_children s.tree p) (subst (λ (o : Option Kv). CountsMean (get s.tree p) (num_children s.tree p) (stored_of o)) e (stands.each (CountsKey p)))
-
-  pub counts_stored : (n : Node) → get s.tree p ≡ Some n → StoredCounts keys p n (num_children s.tree p)
-  counts_stored n e = stored_counts keys p n (num_children s.tree p) (at keys (CountsKey p)) refl (subst (λ (o : Option Node). CountsMean o (num_children s.tree p) (stored_of (at keys (CountsKey p)))) e (stands.each (CountsKey p)))
+  counts_found kv e = found_counts s p kv (get s.tree p) (is_counted_in s (get s.tree p)) refl refl (subst (CountsOf s p (get s.tree p) (is_counted_in s (get s.tree p))) e (stands.each (CountsKey p)))
 
   pub uncounted : get s.tree p ≡ None → at keys (CountsKey p) ≡ None
-  uncounted e = no_counts_there (num_children s.tree p) (at keys (CountsKey p)) (subst (λ (o : Option Node). CountsMean o (num_children s.tree p) (stored_of (at keys (CountsKey p)))) e (stands.each (CountsKey p)))
+  uncounted e = no_counts_there s p (is_counted_in s None) (at keys (CountsKey p)) (subst (λ (o : Option Node). CountsOf s p o (is_counted_in s o) (at keys (CountsKey p))) e (stands.each (CountsKey p)))
 
 pub counts_read : (o : Stored) (n : Node) (children : ℕ) (r : CountRec) → IsCounts o n children → IsValueOf counts_value IsCountRec o.value r → r ≡ counts_record n children
 counts_read o n children r is read = counts_value-injective r (counts_record n children) read.0 is.fits (sym read.1 ∙ is.value)

@@ -2,8 +2,8 @@
 use Rattle.std.proofs.Common.{◌≡◌, List, [], sym, subst, arith}
 use Rattle.std.specs.List.Sorted.{IsStrictlySortedBy}
 use Rattle.zx_base.specs.Maps.{Bytes}
-use Rattle.zn_layout.specs.Records.{IsSessionRec}
+use Rattle.zn_layout.specs.Records.{ArePaths}
 
-pub none_within : (ps : List Bytes) → ps ≡ [] → IsSessionRec ps
+pub none_within : (ps : List Bytes) → ps ≡ [] → ArePaths ps
 unfolding IsStrictlySortedBy
-none_within ps e = subst IsSessionRec (sym e) (record { count = omega arith; valid = λ k d lt. absurd (omega arith); rising = tt })
+none_within ps e = subst ArePaths (sym e) (record { count = omega arith; valid = λ k d lt. absurd (omega arith); rising = tt })

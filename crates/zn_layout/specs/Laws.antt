@@ -27,6 +27,7 @@ use Rattle.zx_base.specs.Maps.{Bytes}
 use Rattle.zn_layout.specs.declared.record.CountRec.{CountRec}
 use Rattle.zn_layout.specs.declared.record.LeaseRec.{LeaseRec}
 use Rattle.zn_layout.specs.declared.record.NodeRec.{NodeRec}
+use Rattle.zn_layout.specs.declared.record.SessionRec.{SessionRec}
 use Rattle.zn_layout.specs.Begin.{begin_ask, Begins}
 use Rattle.zn_layout.specs.Changes.{KeyChange, head_put, update_acts, last, are_distinct, have_leases, change_size}
 use Rattle.zn_layout.specs.Commits.{IsCommitted}
@@ -57,7 +58,7 @@ LeaseValueIsInjective = (r q : LeaseRec) → IsLeaseRec r → IsLeaseRec q → l
 
 -- no two records of a session's nodes within their bounds have the same value
 abbrev pub SessionValueIsInjective : Type 0
-SessionValueIsInjective = (ps qs : List Bytes) → IsSessionRec ps → IsSessionRec qs → session_value ps ≡ session_value qs → ps ≡ qs
+SessionValueIsInjective = (r q : SessionRec) → IsSessionRec r → IsSessionRec q → session_value r ≡ session_value q → r ≡ q
 
 -- no two records of the head within their bounds have the same value
 abbrev pub HeadValueIsInjective : Type 0

@@ -5,9 +5,8 @@ use Rattle.zn_layout.specs.declared.record.HeadRec.{HeadRec}
 use Rattle.zn_layout.specs.declared.fault.RecordFault.{RecordFault}
 use Rattle.zn_layout.specs.declared.fault.RecordFault.TheVariants.{Damaged, Memory}
 use Rattle.zn_layout.specs.declared.record.NodeRec.{NodeRec}
-use Rattle.zn_layout.specs.declared.record.SessionRec.{SessionRec}
 use Rattle.zn_layout.specs.declared.test.NodeNumbers.{NodeNumbers}
-use Rattle.zn_layout.specs.Records.{head_value, session_value, IsHeadRec, IsSessionRec}
+use Rattle.zn_layout.specs.Records.{head_value, IsHeadRec}
 
 -- a record within its bounds, whose value this is
 abbrev pub IsValueOf : {R : Type 0} → (R → Bytes) → (R → Type 0) → Bytes → R → Type 0
@@ -48,11 +47,3 @@ head_bytes r = head_value r.triggers
 
 abbrev pub IsHeadWithin : HeadRec → Type 0
 IsHeadWithin r = IsHeadRec r.triggers
-
--- ---- the nodes of a session, as a record with its list
-
-abbrev pub session_bytes : SessionRec → Bytes
-session_bytes r = session_value r.paths
-
-abbrev pub IsSessionWithin : SessionRec → Type 0
-IsSessionWithin r = IsSessionRec r.paths

@@ -3,6 +3,7 @@ use Rattle.std.specs.Prelude.{◌≡◌, ℕ, ◌^◌, ◌<◌, List, ◌∷◌,
 use Rattle.std.specs.Int.{w32, w64}
 use Rattle.std.specs.Int.RustNames.{FitsSigned}
 use Rattle.std.specs.List.{All, flat_map}
+use Rattle.zk_model.specs.declared.layout.Layout.{Layout}
 use Rattle.zk_model.specs.declared.node.Trigger.{Trigger}
 use Rattle.zk_jute.specs.JuteWriting.{count_bytes, string_bytes}
 use Rattle.zk_model.specs.Paths.{is_path}
@@ -10,7 +11,7 @@ use Rattle.zx_base.specs.Maps.{Bytes}
 use Rattle.zn_layout.specs.declared.record.NodeRec.{NodeRec}
 use Rattle.zn_layout.specs.declared.record.CountRec.{CountRec}
 use Rattle.zn_layout.specs.declared.record.LeaseRec.{LeaseRec}
-use Rattle.zn_layout.specs.Records.{trigger_bytes}
+use Rattle.zn_layout.specs.Records.{layout_byte, trigger_bytes}
 use Rattle.zk_model.specs.Watches.{trigger_path}
 
 -- ---- numbers
@@ -32,6 +33,10 @@ pub record HasLife (r : LeaseRec) : Type 0 where
   pub attaches : FitsSigned w64 r.attaches
 
 -- ---- lists
+
+-- the bytes begin as the record of no session's nodes does
+abbrev pub IsOfNoLayout : Bytes → Type 0
+IsOfNoLayout v = (layout : Layout) (rest : Bytes) → v ≡ layout_byte layout ∷ rest → ⊥
 
 abbrev pub IsValidPath : Bytes → Type 0
 IsValidPath p = IsTrue (is_path p)

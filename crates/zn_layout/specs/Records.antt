@@ -1,9 +1,11 @@
--- The values under the service's keys: a byte 1, and a record's fields, big-endian. No two records of a kind that are within
--- their bounds have the same value.
-use Rattle.std.specs.Prelude.{◌≡◌, ℤ, pos, ◌≤◌, ◌<◌, ◌^◌, ◌≤ℤ◌, List, ◌∷◌, ◌++◌, length, All, IsTrue}
+-- The values under the service's keys: a first byte, and a record's fields, big-endian. The first byte is 1, or 2 in the record of the
+-- nodes of a session of layout 2. No two records of a kind that are within their bounds have the same value.
+use Rattle.std.specs.Prelude.{◌≡◌, ℕ, ℤ, pos, Bool, true, false, ◌≤◌, ◌<◌, ◌^◌, ◌≤ℤ◌, List, ◌∷◌, ◌++◌, length, All, IsTrue}
 use Rattle.std.specs.List.Sorted.{IsStrictlySortedBy}
 use Rattle.std.specs.Ordering.{nat_cmp}
 use Rattle.std.specs.Cmp.Lexicographic.{slice_cmp}
+use Rattle.zk_model.specs.declared.layout.Layout.{Layout}
+use Rattle.zk_model.specs.declared.layout.Layout.TheVariants.{One, Two}
 use Rattle.zk_model.specs.declared.node.Trigger.{Trigger}
 use Rattle.zk_model.specs.declared.node.Trigger.TheVariants.{Created, Deleted, Changed, Children}
 use Rattle.zk_jute.specs.JuteWriting.{int_bytes, long_bytes, string_bytes, vector_bytes}
@@ -13,6 +15,7 @@ use Rattle.zx_base.specs.Maps.{Bytes}
 use Rattle.zn_layout.specs.declared.record.NodeRec.{NodeRec}
 use Rattle.zn_layout.specs.declared.record.CountRec.{CountRec}
 use Rattle.zn_layout.specs.declared.record.LeaseRec.{LeaseRec}
+use Rattle.zn_layout.specs.declared.record.SessionRec.{SessionRec}
 use Rattle.zk_model.specs.Limits.{max_creates, max_frame, max_long, max_timeout, max_version, min_timeout}
 
 -- ---- the bytes
@@ -23,8 +26,12 @@ node_value r = 1 ∷ (long_bytes r.czxid ++ int_bytes r.version ++ long_bytes r.
 unfoldable pub counts_value : CountRec → Bytes
 counts_value r = 1 ∷ (int_bytes r.creates ++ int_bytes r.children)
 
-unfoldable pub session_value : List Bytes → Bytes
-session_value paths = 1 ∷ vector_bytes string_bytes paths
+abbrev pub layout_byte : Layout → ℕ
+layout_byte One = 1
+layout_byte Two = 2
+
+unfoldable pub session_value : SessionRec → Bytes
+session_value r = layout_byte r.layout ∷ vector_bytes string_bytes r.paths
 
 unfoldable pub lease_value : LeaseRec → Bytes
 lease_value r = 1 ∷ (int_bytes r.timeout ++ long_bytes r.attaches ++ r.passwd)
@@ -37,6 +44,13 @@ trigger_bytes (Children p) = 4 ∷ string_bytes p
 
 unfoldable pub head_value : List Trigger → Bytes
 head_value ts = 1 ∷ vector_bytes trigger_bytes ts
+
+-- ---- which records there are
+
+-- whether each ephemeral node of a session of this layout has a record of its counts
+abbrev pub has_counts : Layout → Bool
+has_counts One = true
+has_counts Two = false
 
 -- ---- the bounds of a record
 
@@ -59,10 +73,14 @@ pub record IsCountRec (r : CountRec) : Type 0 where
   pub fewer : r.children ≤ℤ r.creates
   pub creates : r.creates ≤ℤ max_creates
 
-pub record IsSessionRec (paths : List Bytes) : Type 0 where
+-- paths as the record of a session's nodes lists them
+pub record ArePaths (paths : List Bytes) : Type 0 where
   pub count : length paths < 2 ^ 31
   pub valid : All (λ p. IsTrue (is_path p)) paths
   pub rising : IsStrictlySortedBy (slice_cmp nat_cmp) paths
+
+abbrev pub IsSessionRec : SessionRec → Type 0
+IsSessionRec r = ArePaths r.paths
 
 pub record IsLeaseRec (r : LeaseRec) : Type 0 where
   pub least : min_timeout ≤ℤ r.timeout

@@ -1,5 +1,5 @@
 -- Which keys stand for a state of the service: one clause for each kind of key, and no other key below `zk/`.
-use Rattle.std.specs.Prelude.{◌≡◌, ℕ, ℤ, pos, cond, ◌≤ℤ◌, true, false, List, ◌++◌, Option, Some, None}
+use Rattle.std.specs.Prelude.{◌≡◌, ℕ, ℤ, pos, Bool, cond, ◌≤ℤ◌, true, false, List, ◌++◌, Option, Some, None}
 use Rattle.std.specs.Ordering.{int_eq}
 use Rattle.std.specs.FinMap.{get}
 use Rattle.ev_types.specs.declared.answer.Kv.{Kv}
@@ -12,8 +12,9 @@ use Rattle.zx_base.specs.Maps.{Bytes}
 use Rattle.zn_layout.specs.declared.record.NodeRec.{NodeRec}
 use Rattle.zn_layout.specs.declared.record.CountRec.{CountRec}
 use Rattle.zn_layout.specs.declared.record.LeaseRec.{LeaseRec}
+use Rattle.zn_layout.specs.declared.record.SessionRec.{SessionRec}
 use Rattle.zn_layout.specs.Keys.{Key, HeadKey, DataKey, CountsKey, SessionKey, LeaseKey, front, key_bytes}
-use Rattle.zn_layout.specs.Records.{node_value, counts_value, session_value, lease_value, head_value, IsNodeRec, IsCountRec, IsSessionRec, IsLeaseRec, IsHeadRec}
+use Rattle.zn_layout.specs.Records.{has_counts, node_value, counts_value, session_value, lease_value, head_value, IsNodeRec, IsCountRec, IsSessionRec, IsLeaseRec, IsHeadRec}
 
 -- ---- what a key has, apart from what only the head needs
 
@@ -63,24 +64,45 @@ DataMeans None (Some o) = ⊥
 DataMeans (Some n) None = ⊥
 DataMeans (Some n) (Some o) = IsData o n
 
--- the key is there exactly where the node is, and has the counts of its children
-abbrev pub CountsMean : Option Node → ℕ → Option Stored → Type 0
-CountsMean None children None = Unit {0}
-CountsMean None children (Some o) = ⊥
-CountsMean (Some n) children None = ⊥
-CountsMean (Some n) children (Some o) = IsCounts o n children
+-- a node without a record of its counts: it has had no child since its create
+pub record IsUncounted (n : Node) (children : ℕ) : Type 0 where
+  pub creates : n.creates ≡ pos 0
+  pub childless : children ≡ 0
+  pub pzxid : n.pzxid ≡ n.czxid
 
-pub record IsNodes (o : Stored) (paths : List Bytes) : Type 0 where
-  pub fits : IsSessionRec paths
-  pub value : o.value ≡ session_value paths
+-- the key is there exactly where the node is and has a record of its counts, and has the counts of its children
+abbrev pub CountsMean : Option Node → ℕ → Bool → Option Stored → Type 0
+CountsMean None children counted None = Unit {0}
+CountsMean None children counted (Some o) = ⊥
+CountsMean (Some n) children true None = ⊥
+CountsMean (Some n) children true (Some o) = IsCounts o n children
+CountsMean (Some n) children false None = IsUncounted n children
+CountsMean (Some n) children false (Some o) = ⊥
+
+-- whether a node has a record of its counts, by the session that owns it, if one does: an ephemeral node of a session of layout 2 has
+-- none
+abbrev pub is_counted : Option Session → Bool
+is_counted None = true
+is_counted (Some x) = has_counts x.layout
+
+abbrev pub is_counted_in : State → Option Node → Bool
+is_counted_in s None = true
+is_counted_in s (Some n) = is_counted (session_at n.owner s)
+
+pub record IsNodes (o : Stored) (r : SessionRec) : Type 0 where
+  pub fits : IsSessionRec r
+  pub value : o.value ≡ session_value r
   pub free : o.lease ≡ pos 0
 
--- the key is there exactly where the session is open, and has the paths of the nodes that it owns
+abbrev pub nodes_record : Session → List Bytes → SessionRec
+nodes_record x paths = record { layout = x.layout; paths = paths }
+
+-- the key is there exactly where the session is open, and has its layout and the paths of the nodes that it owns
 abbrev pub NodesMean : Option Session → List Bytes → Option Stored → Type 0
 NodesMean None paths None = Unit {0}
 NodesMean None paths (Some o) = ⊥
 NodesMean (Some x) paths None = ⊥
-NodesMean (Some x) paths (Some o) = IsNodes o paths
+NodesMean (Some x) paths (Some o) = IsNodes o (nodes_record x paths)
 
 abbrev pub life_record : Session → ℤ → LeaseRec
 life_record x attaches = record { timeout = x.timeout; attaches = attaches; passwd = x.passwd }
@@ -104,7 +126,7 @@ LifeMeans id (Some x) (Some o) = IsLife o id x
 abbrev pub Means : State → Key → Option Stored → Type 0
 Means s HeadKey o = Unit {0}
 Means s (DataKey p) o = DataMeans (get s.tree p) o
-Means s (CountsKey p) o = CountsMean (get s.tree p) (num_children s.tree p) o
+Means s (CountsKey p) o = CountsMean (get s.tree p) (num_children s.tree p) (is_counted_in s (get s.tree p)) o
 Means s (SessionKey id) o = NodesMean (session_at (pos id) s) (owned s.tree (pos id)) o
 Means s (LeaseKey id) o = LifeMeans id (session_at (pos id) s) o
 

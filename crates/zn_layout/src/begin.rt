@@ -9,7 +9,7 @@ ghost use Rattle.zn_layout.specs.Records.{node_value, counts_value};
 
 use crate::act::{get_head, put_counts, put_head, put_node};
 use crate::key::head_key;
-use crate::record::{CountRec, HeadRec, NodeRec};
+use crate::record::{FIRST_COUNTS, HeadRec, NodeRec};
 use ev_types::{Act, Ask, Guard, TxnReq};
 use std::alloc::Global;
 use zx_base::{Memory, Seq};
@@ -72,9 +72,5 @@ fn put_root(alloc: Global, now: u64) -> Result<Act, Memory>
 fn put_no_counts(alloc: Global) -> Result<Act, Memory>
     ensures { IfOk result (λ a. a ≡ act_of (put_key (CountsKey root) (counts_value first_counts))) }
 {
-    let counts = CountRec {
-        creates: 0,
-        children: 0,
-    };
-    put_counts(alloc, ROOT, &counts)
+    put_counts(alloc, ROOT, &FIRST_COUNTS)
 }

@@ -1,7 +1,8 @@
 //! How the tree of znodes is kept under etcd's keys.
 //!
 //! A node has two keys, one for its data and one for the counts of its children: a create below it changes the counts and
-//! leaves the data. So the data key's mod_revision is the node's mzxid, and the counts key's its pzxid. The head holds the
+//! leaves the data. So the data key's mod_revision is the node's mzxid, and the counts key's its pzxid. An ephemeral node of a
+//! session of layout 2 has no counts, which would say nothing: it has no children. The head holds the
 //! last update: its mod_revision is the zxid, its version the number of updates. A session has a key for the nodes that it
 //! owns, and one for its life, which is attached to its lease. `specs/Keys`, `specs/Records` and `specs/StandsFor` say all of
 //! it; the layout is this project's own.
@@ -21,6 +22,7 @@ mod entry;
 mod fault;
 mod key;
 mod laws;
+mod layout;
 mod list;
 mod read;
 mod record;
@@ -40,9 +42,10 @@ pub use laws::{
     reading_stands, session_value_is_injective, stands_after, update_commits, update_is_allowed,
     update_is_sendable, update_looks_again,
 };
+pub use layout::has_counts;
 pub use list::{head_in, is_before, read_head, read_session, session_in, valid_path};
 pub use read::{counts_in, lease_in, read_counts, read_lease, read_node};
-pub use record::{CountRec, HeadRec, LeaseRec, NodeRec, SessionRec};
+pub use record::{CountRec, FIRST_COUNTS, HeadRec, LeaseRec, NodeRec, SessionRec};
 pub use test::{
     NodeNumbers, is_counts_record, is_lease_record, is_node_record, node_content, node_numbers,
 };

@@ -6,16 +6,16 @@ ghost use Rattle.std.specs.List.Sorted.{IsStrictlySortedBy};
 ghost use Rattle.std.specs.Ordering.{nat_cmp};
 ghost use Rattle.ev_types.specs.Ranges.{comes_before};
 ghost use Rattle.zk_jute.specs.JuteWriting.{string_bytes};
-ghost use Rattle.zn_layout.specs.Records.{trigger_bytes};
-ghost use Rattle.zn_layout.specs.Reading.{head_bytes, IsHeadWithin, session_bytes, IsSessionWithin, IsValueOf, IsFault, IsReadAs};
-ghost use Rattle.zn_layout.specs.ReadingSteps.{IsValidPath, IsValidTrigger, TakesItem, TakesItems, IsOfKind, IsPathOf, IsCounted, IsNotCounted};
+ghost use Rattle.zn_layout.specs.Records.{layout_byte, session_value, trigger_bytes, IsSessionRec};
+ghost use Rattle.zn_layout.specs.Reading.{head_bytes, IsHeadWithin, IsValueOf, IsFault, IsReadAs};
+ghost use Rattle.zn_layout.specs.ReadingSteps.{IsValidPath, IsValidTrigger, TakesItem, TakesItems, IsOfKind, IsOfNoLayout, IsPathOf, IsCounted, IsNotCounted};
 
 use crate::fault::{RecordFault, damaged};
 use crate::read::{after_first, split_int};
 use crate::record::{HeadRec, SessionRec};
 use std::alloc::Global;
 use std::marker::Model;
-use zk_model::{Path, PathFault, Trigger};
+use zk_model::{Layout, Path, PathFault, Trigger};
 use zx_base::{Memory, Seq};
 
 /// The fewest bytes of a path with its length.
@@ -57,7 +57,7 @@ pub fn head_in(alloc: Global, value: &[u8]) -> Result<Option<HeadRec>, Memory>
 
 /// Reads the value under this key as the record of a session's nodes. `Damaged` where it is none, with the key and the value.
 pub fn read_session(alloc: Global, key: &[u8], value: &[u8]) -> Result<SessionRec, RecordFault>
-    ensures { MatchResult result (IsValueOf session_bytes IsSessionWithin value.now) (IsFault session_bytes IsSessionWithin key.now value.now) }
+    ensures { MatchResult result (IsValueOf session_value IsSessionRec value.now) (IsFault session_value IsSessionRec key.now value.now) }
 {
     match session_in(alloc, value)? {
         Some(session) => Ok(session),
@@ -68,9 +68,9 @@ pub fn read_session(alloc: Global, key: &[u8], value: &[u8]) -> Result<SessionRe
 /// Reads a value as the record of a session's nodes. `None` where it is no record within its bounds, as where the paths do
 /// not rise.
 pub fn session_in(alloc: Global, value: &[u8]) -> Result<Option<SessionRec>, Memory>
-    ensures { IfOk result (IsReadAs session_bytes IsSessionWithin value.now) }
+    ensures { IfOk result (IsReadAs session_value IsSessionRec value.now) }
 {
-    let Some(numbers) = after_first(value) else {
+    let Some((layout, numbers)) = split_layout(value) else {
         return Ok(None);
     };
     let Some((count, rest)) = split_count(numbers) else {
@@ -84,9 +84,20 @@ pub fn session_in(alloc: Global, value: &[u8]) -> Result<Option<SessionRec>, Mem
         return Ok(None);
     }
     if are_rising(paths.as_slice()) {
-        Ok(Some(SessionRec { paths }))
+        Ok(Some(SessionRec { layout, paths }))
     } else {
         Ok(None)
+    }
+}
+
+/// The layout that the first byte tells, and the rest.
+fn split_layout(value: &[u8]) -> Option<(Layout, &[u8])>
+    ensures { MatchOption result (IsOfNoLayout value.now) (λ x. value.now ≡ layout_byte x.0 ∷ x.1.now) }
+{
+    match split_byte(value)? {
+        (1, rest) => Some((Layout::One, rest)),
+        (2, rest) => Some((Layout::Two, rest)),
+        _ => None,
     }
 }
 

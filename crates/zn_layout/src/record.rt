@@ -1,6 +1,6 @@
 //! The records that are stored.
 
-use zk_model::{Path, Trigger};
+use zk_model::{Layout, Path, Trigger};
 use zx_base::{Bytes, Seq};
 
 /// A znode's data, and the fields of its Stat that no key's revision gives.
@@ -29,9 +29,18 @@ pub struct CountRec {
     pub children: i32,
 }
 
-/// The paths of the nodes that a session owns, strictly rising by bytes.
+/// The counts of a new node.
+pub const FIRST_COUNTS: CountRec = CountRec {
+    creates: 0,
+    children: 0,
+};
+
+/// The nodes that a session owns.
 #[derive(Drop)]
 pub struct SessionRec {
+    /// That of the session, which tells how its nodes are kept.
+    pub layout: Layout,
+    /// Strictly rising by bytes.
     pub paths: Seq<Path>,
 }
 

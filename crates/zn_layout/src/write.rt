@@ -6,6 +6,7 @@ ghost use Rattle.zk_model.specs.Paths.{is_path};
 ghost use Rattle.zn_layout.specs.Records.{node_value, counts_value, session_value, lease_value, head_value, trigger_bytes, IsNodeRec, IsCountRec, IsSessionRec, IsLeaseRec, IsHeadRec};
 ghost use Rattle.zk_model.specs.Watches.{trigger_path};
 
+use crate::layout::layout_byte;
 use crate::record::{CountRec, HeadRec, LeaseRec, NodeRec, SessionRec};
 use crate::writer::Writer;
 use std::alloc::Global;
@@ -61,10 +62,11 @@ pub fn write_counts(alloc: Global, counts: &CountRec) -> Result<Vec<u8>, Memory>
 /// The value of the record of a session's nodes, which is within its bounds: its paths rise strictly by their bytes.
 #[tactic(auto, unfolding(crate::specs::Records::session_value))]
 pub fn write_session(alloc: Global, session: &SessionRec) -> Result<Vec<u8>, Memory>
-    requires { IsSessionRec session.now.paths }
-    ensures { IfOk result (λ v. v.items ≡ session_value session.now.paths) }
+    requires { IsSessionRec session.now }
+    ensures { IfOk result (λ v. v.items ≡ session_value session.now) }
 {
-    let mut value = Writer::new(alloc, length_of_paths(session.paths.as_slice()))?;
+    let room = length_of_paths(session.paths.as_slice());
+    let mut value = Writer::begun(alloc, layout_byte(session.layout), room)?;
     value.count(session.paths.len())?;
     for path in session.paths.as_slice() {
         write_path(&mut value, path)?;

@@ -7,7 +7,7 @@ use std::alloc::Global;
 use std::marker::Model;
 use zx_base::Memory;
 
-/// The first byte of each record's value.
+/// The first byte of the value of each record but that of a session's nodes, which has it in layout 1.
 pub(crate) const RECORD: u8 = 1;
 
 #[derive(Drop)]
@@ -28,8 +28,15 @@ impl Writer {
     pub(crate) fn new(alloc: Global, capacity: usize) -> Result<Writer, Memory>
         ensures { IfOk result (λ w. w ≡ 1 ∷ []) }
     {
+        Writer::begun(alloc, RECORD, capacity)
+    }
+
+    /// A value that begins with this byte.
+    pub(crate) fn begun(alloc: Global, first: u8, capacity: usize) -> Result<Writer, Memory>
+        ensures { IfOk result (λ w. w ≡ first ∷ []) }
+    {
         let mut out = Vec::with_capacity(alloc, capacity)?;
-        out.push(RECORD)?;
+        out.push(first)?;
         Ok(Writer { out })
     }
 

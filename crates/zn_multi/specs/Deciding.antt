@@ -11,6 +11,7 @@ use Rattle.zk_model.specs.Limits.{max_load}
 use Rattle.zk_model.specs.Multi.{data_len, distinct, row_of}
 use Rattle.zn_layout.specs.Changes.{act_of, head_put}
 use Rattle.zn_layout.specs.Keys.{Key, HeadKey, key_bytes}
+use Rattle.zn_layout.specs.declared.record.SessionRec.{SessionRec}
 use Rattle.zn_view.specs.declared.plan.Decision.{Decision}
 use Rattle.zn_view.specs.declared.plan.Decision.TheVariants.{Answered, Planned, Expired, Moved}
 use Rattle.zn_view.specs.declared.plan.Plan.{Plan}
@@ -19,7 +20,7 @@ use Rattle.zn_view.specs.Asks.{again_of, guards_of, picked}
 use Rattle.zn_view.specs.Seen.{View}
 use Rattle.zx_base.specs.Maps.{Bytes}
 use Rattle.zn_updates.specs.KeysRead.{start_keys}
-use Rattle.zn_updates.specs.Parts.{IfPaths}
+use Rattle.zn_updates.specs.Parts.{IfNodes}
 use Rattle.zn_multi.specs.Carrying.{no_progress, Runs}
 use Rattle.zn_multi.specs.Laying.{written_acts}
 use Rattle.zn_multi.specs.Reading.{AreRead, each_new}
@@ -29,14 +30,14 @@ use Rattle.zn_multi.specs.declared.carrying.Progress.{Progress}
 
 -- ---- the load
 
-abbrev pub path_bytes : Option (List Bytes) → ℕ
+abbrev pub path_bytes : Option SessionRec → ℕ
 path_bytes None = 0
-path_bytes (Some ps) = sum_by length ps
+path_bytes (Some r) = sum_by length r.paths
 
 -- The bytes of the paths of the nodes that a session owned before, by the list that the view saw. They are open where the list was
 -- not looked up, and for a number below 1, which no session has.
 abbrev pub IsOwnedLoad : View → ℤ → ℕ → Type 0
-IsOwnedLoad v id n = (ps : Option (List Bytes)) × (pos 1 ≤ℤ id → IfPaths v id ps) × (n ≡ path_bytes ps)
+IsOwnedLoad v id n = (nodes : Option SessionRec) × (pos 1 ≤ℤ id → IfNodes v id nodes) × (n ≡ path_bytes nodes)
 
 -- the bytes of the paths of several sessions' nodes, added
 abbrev pub AreOwnedLoads : View → List ℤ → ℕ → Type 0

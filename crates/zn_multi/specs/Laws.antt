@@ -2,9 +2,9 @@
 use Rattle.std.specs.Prelude.{◌<◌, ◌^◌, ◌≡◌, ◌≤◌, ◌++◌, ℕ, ℤ, [], length, List, Some, true}
 use Rattle.zk_model.specs.declared.request.Part.{Part}
 use Rattle.zk_model.specs.declared.request.Request.TheVariants as requests
-use Rattle.zk_model.specs.Limits.{max_owned, max_parts}
+use Rattle.zk_model.specs.Limits.{max_parts}
 use Rattle.zk_model.specs.Multi.{Stopped as StoppedAt, parts_of}
-use Rattle.zk_service.specs.States.{Session, IsSound, session_at, State}
+use Rattle.zk_service.specs.States.{Session, IsSound, session_at, State, limit_of}
 use Rattle.zn_view.specs.declared.plan.Who.{Who}
 use Rattle.zn_layout.specs.Fits.{ChangesFit}
 use Rattle.zn_view.specs.Needs.{IsWhole}
@@ -49,7 +49,7 @@ abbrev pub PartsStopAlike : Type 0
 PartsStopAlike = (who : Who) (now : ℕ) (v near : View) (parts : List Part) (s : State) (z : ℤ) (x : Session) (place : ℕ) (code : ℤ)
     (run : Runs who now v no_progress 0 parts (Stopped place code)) → RunsSeen who now v near no_progress 0 parts (Stopped place code) run
     → IsNarrower near v → now < 2 ^ 62 → AreShort parts → IsSound s → Shows z near s → session_at who.session s ≡ Some x
-    → parts_of s.tree max_owned who.session parts z now ≡ StoppedAt place code
+    → parts_of s.tree (limit_of x) who.session parts z now ≡ StoppedAt place code
 
 -- where the parts pass on a view, they pass in each sound state in which the session is open and of which the view shows what the
 -- parts look at, at any zxid, and the keys that were laid over the view are the changes that lead to the state after them

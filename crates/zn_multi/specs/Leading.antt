@@ -3,13 +3,13 @@ use Rattle.std.specs.Prelude.{◌≡◌, ℕ, ℤ, ◌+◌, true, List, ◌++◌
 use Rattle.zk_model.specs.declared.node.Trigger.{Trigger}
 use Rattle.zk_model.specs.declared.reply.PartResult.{PartResult}
 use Rattle.zk_model.specs.declared.request.Part.{Part}
-use Rattle.zk_model.specs.Limits.{max_owned}
 use Rattle.zk_model.specs.Multi.{Parts, Stopped, Passed, parts_of}
 use Rattle.zk_model.specs.Znodes.{Tree}
 use Rattle.zk_service.specs.States.{State, IsSound}
 use Rattle.zn_layout.specs.Changes.{KeyChange, are_distinct}
 use Rattle.zn_layout.specs.Fits.{ChangesFit}
 use Rattle.zn_view.specs.Needs.{own_result}
+use Rattle.zn_view.specs.Views.{limit_at}
 use Rattle.zn_view.specs.Seen.{View}
 use Rattle.zn_updates.specs.Parts.{IsKeptChange}
 use Rattle.zn_updates.specs.Right.{with_tree}
@@ -25,7 +25,7 @@ with_first rs gs ss (Passed results t triggers touched) = Passed (rs ++ results)
 -- are changes of keys, but for the head, that lead from the state to the one with that tree, each key once.
 pub record LeadsTo (id : ℤ) (now : ℕ) (v : View) (parts rest : List Part) (p : Progress) (s : State) (z : ℤ) : Type 0 where
   pub tree : Tree
-  pub runs : parts_of s.tree max_owned id parts z now ≡ with_first (map (own_result z) p.results) p.triggers p.touched (parts_of tree max_owned id rest z now)
+  pub runs : parts_of s.tree (limit_at id s) id parts z now ≡ with_first (map (own_result z) p.results) p.triggers p.touched (parts_of tree (limit_at id s) id rest z now)
   pub sound : IsSound (with_tree s tree)
   pub changes : List KeyChange
   pub over : p.over ≡ laid_view changes

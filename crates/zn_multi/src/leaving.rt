@@ -11,7 +11,7 @@ ghost use Rattle.zn_layout.specs.Records.{IsCountRec};
 ghost use Rattle.zn_view.specs.declared.leaving.NodeNow.{NodeNow as AnyNode};
 ghost use Rattle.zn_view.specs.declared.leaving.TreeChange.TheVariants as changed;
 ghost use Rattle.zn_multi.specs.Reading.{AreSmall, IfLeft};
-ghost use Rattle.zn_view.specs.Leaving.{set_once as set_once_more, one_child_more as one_more, one_child_less as one_less, node_with as node_with_change, counts_with as counts_with_change, owned_with as owned_with_change, node_after as node_after_all, counts_after as counts_after_all, owned_after as owned_after_all, with_change as with_one_change, create_change as change_of_create, delete_change as change_of_delete, set_change as change_of_set, is_checked as is_checked_in, is_owner_seen as is_owner_seen_in, are_seen as are_seen_in, IsNodeShown, AreCountsShown, IsOwnedShown, IsNodeNow, AreCountsNow, IsOwnedNow, IsOwnedFor, NodeLeaves, DeleteLeaves, SetLeaves, CheckLeaves};
+ghost use Rattle.zn_view.specs.Leaving.{counted as counted_as, set_once as set_once_more, one_child_more as one_more, one_child_less as one_less, node_with as node_with_change, counts_with as counts_with_change, room_with as room_with_change, node_after as node_after_all, counts_after as counts_after_all, room_after as room_after_all, with_change as with_one_change, create_change as change_of_create, delete_change as change_of_delete, set_change as change_of_set, is_checked as is_checked_in, is_owner_seen as is_owner_seen_in, are_seen as are_seen_in, IsNodeShown, AreCountsShown, IsRoomShown, IsNodeNow, AreCountsNow, IsRoomNow, IsRoomFor, NodeLeaves, DeleteLeaves, SetLeaves, CheckLeaves};
 ghost use Rattle.zn_view.specs.Lookups.{HasSeen, sees};
 ghost use Rattle.zn_view.specs.Seen.{seen};
 ghost use Rattle.zn_view.specs.Views.{counts_of_parent};
@@ -19,8 +19,8 @@ ghost use Rattle.zn_view.specs.Views.{counts_of_parent};
 use crate::creator::{Creator, owner_of};
 use std::alloc::Global;
 use zk_model::Path;
-use zk_model::limit::{MAX_CREATES, MAX_OWNED};
-use zn_layout::{CountRec, counts_key, data_key, session_key};
+use zk_model::limit::MAX_CREATES;
+use zn_layout::{CountRec, FIRST_COUNTS, counts_key, data_key, session_key};
 use zn_view::{NodeNow, TreeChange, View};
 use zx_base::{Memory, Seq};
 
@@ -179,35 +179,35 @@ fn counts_after(
     counts
 }
 
-/// How many nodes a session owns after one change more.
-fn owned_with(owned: usize, session: i64, change: &TreeChange) -> usize
-    requires { owned < 2 ^ 62 }
-    ensures { result ≡ owned_with_change session owned change.now }
+/// How many nodes more a session may own after one change more.
+fn room_with(room: usize, session: i64, change: &TreeChange) -> usize
+    requires { room < 2 ^ 62 }
+    ensures { result ≡ room_with_change session room change.now }
 {
     match change {
-        TreeChange::Created { owner, .. } => { if *owner == session { owned + 1 } else { owned } }
-        TreeChange::Deleted { owner, .. } => {
+        TreeChange::Created { owner, .. } => {
             if *owner == session {
-                owned.saturating_sub(1)
+                room.saturating_sub(1)
             } else {
-                owned
+                room
             }
         }
-        TreeChange::DataSet(_) => owned,
+        TreeChange::Deleted { owner, .. } => { if *owner == session { room + 1 } else { room } }
+        TreeChange::DataSet(_) => room,
     }
 }
 
-/// How many nodes a session owns after these changes.
-fn owned_after(changes: &[TreeChange], session: i64, owned: usize) -> usize
+/// How many nodes more a session may own after these changes.
+fn room_after(changes: &[TreeChange], session: i64, room: usize) -> usize
     requires few { length changes.now ≤ max_parts }
-    requires within { owned < 2 ^ 31 }
-    ensures { result ≡ owned_after_all changes.now session owned }
+    requires within { room < 2 ^ 31 }
+    ensures { result ≡ room_after_all changes.now session room }
 {
-    let mut owned = owned;
+    let mut room = room;
     for change in changes {
-        owned = owned_with(owned, session, change);
+        room = room_with(room, session, change);
     }
-    owned
+    room
 }
 
 /// The node that the view shows. Its key was looked up.
@@ -226,6 +226,19 @@ fn node_shown(view: &View, path: &Path) -> Result<Option<NodeNow>, Memory>
     }))
 }
 
+/// The node that the view shows; none where its record was not looked up.
+fn shown_node(alloc: Global, view: &View, path: &Path) -> Result<Option<Option<NodeNow>>, Memory>
+    requires { IsTrue (is_path path.now) }
+    ensures is { IfOk result (IsNodeShown (seen view.now (key_bytes (DataKey path.now)))) }
+    ensures within { IfOk result (λ x. IfSome x (λ o. IfSome o (λ n. n.version ≤ℤ max_version))) }
+{
+    let key = data_key(alloc, path.bytes())?;
+    match view.found(key.as_slice()) {
+        Some(_) => Ok(Some(node_shown(view, path)?)),
+        None => Ok(None),
+    }
+}
+
 /// The node at a path after these changes; none where neither they nor the view tell.
 fn node_now(
     alloc: Global,
@@ -237,11 +250,7 @@ fn node_now(
     requires few { length changes.now ≤ max_parts }
     ensures { IfOk result (IsNodeNow view.now changes.now path.now) }
 {
-    let key = data_key(alloc, path.bytes())?;
-    let shown = match view.found(key.as_slice()) {
-        Some(_) => Some(node_shown(view, path)?),
-        None => None,
-    };
+    let shown = shown_node(alloc, view, path)?;
     Ok(node_after(changes, path, shown))
 }
 
@@ -255,6 +264,25 @@ fn counts_shown(view: &View, path: &Path) -> Result<Option<CountRec>, Memory>
     match view.counts_at(path.bytes())? {
         Some((counts, _)) => Ok(Some(counts)),
         None => Ok(None),
+    }
+}
+
+/// The counts of a node, by the record of them: without one it has none, if it is there.
+fn counted(
+    node: &Option<Option<NodeNow>>,
+    counts: Option<Option<CountRec>>,
+) -> Option<Option<CountRec>>
+    requires { IfSome counts (λ o. IfSome o IsCountRec) }
+    ensures is { result ≡ counted_as node.now counts }
+    ensures within { IfSome result (λ o. IfSome o IsCountRec) }
+{
+    match counts {
+        Some(None) => match node {
+            Some(Some(_)) => Some(Some(FIRST_COUNTS)),
+            Some(None) => Some(None),
+            None => None,
+        },
+        counts => counts,
     }
 }
 
@@ -274,24 +302,25 @@ pub(crate) fn counts_now(
         Some(_) => Some(counts_shown(view, path)?),
         None => None,
     };
-    Ok(counts_after(changes, path, shown))
+    let node = shown_node(alloc, view, path)?;
+    Ok(counts_after(changes, path, counted(&node, shown)))
 }
 
-/// How many nodes the view shows that a session owns. The key of their list was looked up.
-fn owned_shown(view: &View, session: i64) -> Result<usize, Memory>
+/// How many nodes more a session may own, as the view shows it. The key of their list was looked up.
+fn room_shown(view: &View, session: i64) -> Result<usize, Memory>
     requires real { pos 1 ≤ℤ session }
     requires seen { HasSeen view.now (SessionKey (nat_abs session)) }
-    ensures is { IfOk result (λ n. IsOwnedShown (sees view.now (SessionKey (nat_abs session))) (Some n)) }
+    ensures is { IfOk result (λ n. IsRoomShown (sees view.now (SessionKey (nat_abs session))) (Some n)) }
     ensures within { IfOk result (λ n. n < 2 ^ 31) }
 {
     match view.nodes_of(session)? {
-        Some(nodes) => Ok(nodes.paths.len()),
+        Some(nodes) => Ok(nodes.layout.max_owned().saturating_sub(nodes.paths.len())),
         None => Ok(0),
     }
 }
 
-/// How many nodes a session owns after these changes; none where the view does not show it.
-fn owned_now(
+/// How many nodes more a session may own after these changes; none where the view does not show it.
+fn room_now(
     alloc: Global,
     view: &View,
     changes: &[TreeChange],
@@ -299,17 +328,17 @@ fn owned_now(
 ) -> Result<Option<usize>, Memory>
     requires real { pos 1 ≤ℤ session }
     requires few { length changes.now ≤ max_parts }
-    ensures { IfOk result (IsOwnedNow view.now changes.now session) }
+    ensures { IfOk result (IsRoomNow view.now changes.now session) }
 {
     let key = session_key(alloc, session)?;
     if view.found(key.as_slice()).is_none() {
         return Ok(None);
     }
-    Ok(Some(owned_after(changes, session, owned_shown(view, session)?)))
+    Ok(Some(room_after(changes, session, room_shown(view, session)?)))
 }
 
-/// How many nodes the session owns, if a new node is to be one of them; 0 otherwise.
-fn owned_for(
+/// How many nodes more the session may own, if a new node is to be one of them; 1 otherwise.
+fn room_for(
     alloc: Global,
     view: &View,
     changes: &[TreeChange],
@@ -317,12 +346,12 @@ fn owned_for(
 ) -> Result<Option<usize>, Memory>
     requires real { pos 1 ≤ℤ by.now.session }
     requires few { length changes.now ≤ max_parts }
-    ensures { IfOk result (IsOwnedFor view.now changes.now by.now.ephemeral by.now.session) }
+    ensures { IfOk result (IsRoomFor view.now changes.now by.now.ephemeral by.now.session) }
 {
     if !by.ephemeral {
-        return Ok(Some(0));
+        return Ok(Some(1));
     }
-    owned_now(alloc, view, changes, by.session)
+    room_now(alloc, view, changes, by.session)
 }
 
 /// The changes with one more; none where that is none.
@@ -344,9 +373,9 @@ fn create_change(
     up: Option<Option<NodeNow>>,
     counts: Option<Option<CountRec>>,
     there: Option<Option<NodeNow>>,
-    owned: Option<usize>,
+    room: Option<usize>,
 ) -> Option<TreeChange>
-    ensures { result ≡ change_of_create path owner up counts there owned }
+    ensures { result ≡ change_of_create path owner up counts there room }
 {
     let Some(Some(up)) = up else {
         return None;
@@ -357,10 +386,10 @@ fn create_change(
     let Some(None) = there else {
         return None;
     };
-    let Some(owned) = owned else {
+    let Some(room) = room else {
         return None;
     };
-    if up.owner == 0 && (counts.creates != MAX_CREATES && owned < MAX_OWNED) {
+    if up.owner == 0 && (counts.creates != MAX_CREATES && 0 < room) {
         return Some(TreeChange::Created { path, owner });
     }
     None
@@ -387,12 +416,9 @@ pub(crate) fn create_leaves(
         return Ok(None);
     };
     let there = node_now(alloc, view, changes.as_slice(), &node)?;
-    let owned = owned_for(alloc, view, changes.as_slice(), by)?;
+    let room = room_for(alloc, view, changes.as_slice(), by)?;
     let owner = owner_of(by);
-    with_change(
-        changes,
-        create_change(node, owner, up, counts, there, owned),
-    )
+    with_change(changes, create_change(node, owner, up, counts, there, room))
 }
 
 /// Whether a version that was asked for is this one; -1 is any.

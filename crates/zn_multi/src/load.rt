@@ -10,7 +10,7 @@ ghost use Rattle.zn_multi.specs.Deciding.{AreOwnedLoads, IsOwnedLoad};
 use std::alloc::Global;
 use zk_model::Part;
 use zk_model::load::{data_load, distinct, path_load};
-use zn_updates::paths_over;
+use zn_updates::nodes_over;
 use zn_view::View;
 use zx_base::Memory;
 
@@ -26,8 +26,8 @@ fn session_load(
     if session < 1 {
         return Ok(before);
     }
-    match paths_over(alloc, &View::empty(alloc), view, session)? {
-        Some(paths) => Ok(path_load(paths.as_slice(), before)),
+    match nodes_over(alloc, &View::empty(alloc), view, session)? {
+        Some(nodes) => Ok(path_load(nodes.paths.as_slice(), before)),
         None => Ok(before),
     }
 }

@@ -8,10 +8,12 @@ use Rattle.zk_service.specs.States.{State, IsSound}
 use Rattle.zx_base.specs.Maps.{Bytes}
 use Rattle.zn_layout.specs.declared.test.NodeNumbers.{NodeNumbers}
 use Rattle.zn_layout.specs.declared.record.CountRec.{CountRec}
+use Rattle.ev_types.specs.declared.answer.Kv.{Kv}
+use Rattle.zn_layout.specs.Begin.{first_counts}
 use Rattle.zn_layout.specs.Keys.{Key, DataKey}
 use Rattle.zn_layout.specs.Listing.{HasValidPaths}
 use Rattle.zn_layout.specs.StandsFor.{czxid_of}
-use Rattle.zn_view.specs.Lookups.{HasSeen}
+use Rattle.zn_view.specs.Lookups.{HasSeen, IsCountsIn}
 use Rattle.zn_view.specs.Seen.{View, listed}
 use Rattle.zn_view.specs.Views.{IsOf, about_path}
 
@@ -36,6 +38,17 @@ stat_by d content_length data_revision c counts_revision = record {
   num_children = c.children;
   pzxid = counts_revision;
 }
+
+-- the counts of a node and the revision of their last change, by the record that was found of them: without one the node has had no
+-- children since its create
+abbrev pub AreCountsBy : NodeNumbers → ℤ → Option Kv → CountRec → ℤ → Type 0
+AreCountsBy d revision None c changed = (c ≡ first_counts) × (changed ≡ czxid_of d.czxid revision)
+AreCountsBy d revision (Some kv) c changed = IsCountsIn kv c × (changed ≡ kv.mod_revision)
+
+-- a record of counts was found, and it is none
+abbrev pub AreNoCounts : Option Kv → Type 0
+AreNoCounts None = ⊥
+AreNoCounts (Some kv) = (c : CountRec) → IsCountsIn kv c → ⊥
 
 -- what a client is shown of the node at a path
 abbrev pub stat_in : State → Bytes → Option Stat

@@ -1,12 +1,14 @@
 -- What a setWatches found at each of its paths (Programmer's Guide, "ZooKeeper Watches").
-use Rattle.std.specs.Prelude.{◌≡◌, ℤ, List, ◌++◌, map, Option, Some, None, if◌then◌else◌}
+use Rattle.std.specs.Prelude.{◌≡◌, ℤ, List, ◌++◌, drop, map, Option, Some, None, option_and_then, if◌then◌else◌}
 use Rattle.ev_types.specs.declared.answer.Kv.{Kv}
+use Rattle.zk_jute.specs.JuteReading.{front_long}
 use Rattle.zk_model.specs.Paths.{is_path}
 use Rattle.zk_model.specs.Watches.{Watches, set_watches}
 use Rattle.zk_model.specs.declared.request.Request.TheVariants as req
 use Rattle.zk_service.specs.States.{State}
 use Rattle.zx_base.specs.Maps.{Bytes}
 use Rattle.zn_layout.specs.Keys.{Key, DataKey, CountsKey, key_bytes}
+use Rattle.zn_layout.specs.StandsFor.{czxid_of}
 use Rattle.zn_view.specs.declared.plan.Who.{Who}
 use Rattle.zn_view.specs.Seen.{View, found_of, seen}
 use Rattle.zn_view.specs.Views.{IsOf}
@@ -19,28 +21,50 @@ use Rattle.zn_view.specs.Lookups.{found_at}
 
 -- ---- what was found
 
--- the key whose last put tells when what the watch waits for changed last: the node's data, or its children
-abbrev pub changing_key : WatchList → Bytes → Key
-changing_key Datas p = DataKey p
-changing_key Exists p = DataKey p
-changing_key Children p = CountsKey p
-
+-- when the node's data changed last: with the last put of its record
 abbrev pub put_at : Option Kv → Option ℤ
 put_at None = None
 put_at (Some kv) = Some kv.mod_revision
 
--- the bytes of that key; None where the path isn't valid
-abbrev pub key_at : WatchList → Bytes → Option Bytes
-key_at list p = if is_path p then Some (key_bytes (changing_key list p)) else None
+-- when the node was made, by its record, whose first field is the czxid
+abbrev pub made_at : Kv → ℤ
+made_at kv = czxid_of (front_long (drop 1 kv.value)) kv.mod_revision
 
--- the revision at which the key was last put, by what the view found; None where it found nothing, or there is no key
-abbrev pub at_by : View → Option Bytes → Option ℤ
-at_by v None = None
-at_by v (Some k) = put_at (found_of (seen v k))
+-- when the node's children changed last: with the last put of their counts, or, where there is no record of them, with the node's create
+abbrev pub children_changed : Option Kv → Option Kv → Option ℤ
+children_changed node (Some counts) = Some counts.mod_revision
+children_changed None None = None
+children_changed (Some node) None = Some (made_at node)
+
+-- when what the watch waits for changed last, by the node's record and the record of its counts
+abbrev pub changed_at : WatchList → Option Kv → Option Kv → Option ℤ
+changed_at Datas node counts = put_at node
+changed_at Exists node counts = put_at node
+changed_at Children node counts = children_changed node counts
 
 -- what was found at a path; one that isn't valid counts as absent
 abbrev pub seen_path : View → WatchList → Bytes → SeenPath
-seen_path v list p = record { path = p; list = list; at = if is_path p then put_at (found_at v (changing_key list p)) else None }
+seen_path v list p = record { path = p; list = list; at = if is_path p then changed_at list (found_at v (DataKey p)) (found_at v (CountsKey p)) else None }
+
+-- ---- the keys of a path, as the code keeps them: of a node's record, and for its children of its counts
+
+abbrev pub Place : Type 0
+Place = Bytes × Option Bytes
+
+abbrev pub counts_at : WatchList → Bytes → Option Bytes
+counts_at Datas p = None
+counts_at Exists p = None
+counts_at Children p = Some (key_bytes (CountsKey p))
+
+abbrev pub place_at : WatchList → Bytes → Option Place
+place_at list p = if is_path p then Some (key_bytes (DataKey p), counts_at list p) else None
+
+abbrev pub at_place : View → Place → Option ℤ
+at_place v (data, None) = put_at (found_of (seen v data))
+at_place v (data, Some counts) = children_changed (found_of (seen v data)) (found_of (seen v counts))
+
+abbrev pub at_by : View → Option Place → Option ℤ
+at_by v o = option_and_then (at_place v) o
 
 abbrev pub seen_paths : View → List Bytes → List Bytes → List Bytes → List SeenPath
 seen_paths v datas exists children = map (seen_path v Datas) datas ++ map (seen_path v Exists) exists ++ map (seen_path v Children) children

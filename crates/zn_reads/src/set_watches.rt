@@ -13,6 +13,7 @@ ghost use Rattle.zn_view.specs.Indexing.{found_under, IsIndex};
 ghost use Rattle.zn_view.specs.Seen.{View as AnyView};
 
 use crate::keys::{counts_key_of, data_key_of};
+use crate::stat::made_at;
 use ev_types::Kv;
 use std::alloc::Global;
 use zk_model::{Body, Path, Reply};
@@ -30,56 +31,76 @@ pub(crate) fn set_watches() -> Decision
     }
 }
 
-/// The key whose last put tells when what a watch of this list waits for changed last: the node's data, or its children.
-fn changing_key(alloc: Global, list: WatchList, path: &Path) -> Result<Bytes, Memory>
+/// The keys that tell when what a watch waits for changed last: the node's record, and for its children that of its counts.
+#[derive(Drop)]
+struct Place {
+    data: Bytes,
+    counts: Option<Bytes>,
+}
+
+fn counts_at(alloc: Global, list: WatchList, path: &Path) -> Result<Option<Bytes>, Memory>
     requires { IsTrue (is_path path.now) }
-    ensures { IfOk result (λ k. k ≡ key_bytes (changing_key list path.now)) }
+    ensures { IfOk result (λ k. k ≡ counts_at list path.now) }
 {
     match list {
-        WatchList::Datas | WatchList::Exists => data_key_of(alloc, path),
-        WatchList::Children => counts_key_of(alloc, path),
+        WatchList::Datas | WatchList::Exists => Ok(None),
+        WatchList::Children => Ok(Some(counts_key_of(alloc, path)?)),
     }
 }
 
-fn put_at(found: Option<&Kv>) -> Option<i64>
-    ensures { result ≡ put_at (option_copied found.entry) }
-{
-    match found {
-        Some(kv) => Some(kv.mod_revision),
-        None => None,
-    }
-}
-
-/// That key ([`changing_key`]) as its bytes; `None` where the path is not valid.
-fn key_at(alloc: Global, list: WatchList, text: &[u8]) -> Result<Option<Bytes>, Memory>
-    ensures { IfOk result (λ k. k ≡ key_at list text.now) }
+/// These keys; `None` where the path is not valid.
+fn place_at(alloc: Global, list: WatchList, text: &[u8]) -> Result<Option<Place>, Memory>
+    ensures { IfOk result (λ x. option_map place_of x ≡ place_at list text.now) }
 {
     match valid_path(alloc, text)? {
-        Some(path) => Ok(Some(changing_key(alloc, list, &path)?)),
+        Some(path) => Ok(Some(Place {
+            data: data_key_of(alloc, &path)?,
+            counts: counts_at(alloc, list, &path)?,
+        })),
         None => Ok(None),
     }
 }
 
-fn keys_at(alloc: Global, list: WatchList, texts: &[Text]) -> Result<Vec<Option<Bytes>>, Memory>
-    ensures { IfOk result (λ ks. ks.items ≡ map (key_at list) texts.now) }
+fn places_at(alloc: Global, list: WatchList, texts: &[Text]) -> Result<Vec<Option<Place>>, Memory>
+    ensures { IfOk result (λ xs. map (option_map place_of) xs.items ≡ map (place_at list) texts.now) }
 {
-    let mut keys = Vec::new(alloc);
+    let mut places = Vec::new(alloc);
     for text in texts {
-        keys.push(key_at(alloc, list, text.as_slice())?)?;
+        places.push(place_at(alloc, list, text.as_slice())?)?;
     }
-    Ok(keys)
+    Ok(places)
 }
 
-/// The revision at which a key was last put; `None` where it was absent, and for a path that is not valid.
-fn at<'a>(index: &Index<'a>, key: &'a Option<Bytes>) -> Option<i64>
-    ensures { (v : AnyView) → IsIndex v (found_under index.now) → result ≡ at_by v key.now }
+fn found_under<'a>(index: &Index<'a>, key: &'a [u8]) -> Option<&'a Kv>
+    ensures { (v : AnyView) → IsIndex v (found_under index.now) → option_copied result ≡ found_of (seen v key.now) }
 {
-    match key {
-        Some(key) => match found_by(index, key.as_slice()) {
-            Some(found) => put_at(found),
-            None => None,
-        },
+    match found_by(index, key) {
+        Some(found) => found,
         None => None,
+    }
+}
+
+/// When a node's children changed last: with the last put of its counts, or, where there is no record of them, with its create.
+fn children_changed(data: Option<&Kv>, counts: Option<&Kv>) -> Option<i64>
+    ensures { result ≡ children_changed (option_copied data.entry) (option_copied counts.entry) }
+{
+    match counts {
+        Some(counts) => Some(counts.mod_revision),
+        None => made_at(data?),
+    }
+}
+
+/// The revision at which what the watch waits for changed last; `None` where the node is absent, and for a path that is not valid.
+fn at<'a>(index: &Index<'a>, place: &'a Option<Place>) -> Option<i64>
+    ensures { (v : AnyView) → IsIndex v (found_under index.now) → result ≡ at_by v (option_map place_of place.now) }
+{
+    let Some(place) = place else {
+        return None;
+    };
+    let data = found_under(index, place.data.as_slice());
+    match &place.counts {
+        Some(counts) => children_changed(data, found_under(index, counts.as_slice())),
+        None => Some(data?.mod_revision),
     }
 }
 
@@ -88,29 +109,29 @@ fn push_seen<'a>(
     alloc: Global,
     list: WatchList,
     texts: &[Text],
-    keys: &'a [Option<Bytes>],
+    places: &'a [Option<Place>],
     index: &Index<'a>,
     seen: &mut Vec<SeenPath>,
 ) -> Result<(), Memory>
-    requires { keys.now ≡ map (key_at list) texts.now }
+    requires { map (option_map place_of) places.now ≡ map (place_at list) texts.now }
     ensures { (v : AnyView) → IsIndex v (found_under index.now) → OnOk result (seen.new.items ≡ seen.old.items ++ map (seen_path v list) texts.now) }
 {
-    for (place, key) in keys.iter().enumerate() {
+    for (i, place) in places.iter().enumerate() {
         seen.push(SeenPath {
-            path: Seq::copy_of(alloc, texts[place].as_slice())?,
+            path: Seq::copy_of(alloc, texts[i].as_slice())?,
             list,
-            at: at(index, key),
+            at: at(index, place),
         })?;
     }
     Ok(())
 }
 
-/// The keys of the paths of the three lists; `None` for a path that is not valid.
+/// The places of the paths of the three lists; `None` for a path that is not valid.
 #[derive(Drop)]
-struct Keys {
-    datas: Vec<Option<Bytes>>,
-    exists: Vec<Option<Bytes>>,
-    children: Vec<Option<Bytes>>,
+struct Places {
+    datas: Vec<Option<Place>>,
+    exists: Vec<Option<Place>>,
+    children: Vec<Option<Place>>,
 }
 
 /// What was found at the paths of the three lists, one list after the other.
@@ -119,12 +140,12 @@ fn seen_by<'a>(
     datas: &[Text],
     exists: &[Text],
     children: &[Text],
-    keys: &'a Keys,
+    places: &'a Places,
     view: &'a View,
 ) -> Result<Vec<SeenPath>, Memory>
-    requires datas { keys.now.datas.items ≡ map (key_at lists.Datas) datas.now }
-    requires exists { keys.now.exists.items ≡ map (key_at lists.Exists) exists.now }
-    requires children { keys.now.children.items ≡ map (key_at lists.Children) children.now }
+    requires datas { map (option_map place_of) places.now.datas.items ≡ map (place_at lists.Datas) datas.now }
+    requires exists { map (option_map place_of) places.now.exists.items ≡ map (place_at lists.Exists) exists.now }
+    requires children { map (option_map place_of) places.now.children.items ≡ map (place_at lists.Children) children.now }
     ensures { IfOk result (λ xs. xs.items ≡ seen_paths view.now datas.now exists.now children.now) }
 {
     let index = view.index()?;
@@ -133,7 +154,7 @@ fn seen_by<'a>(
         alloc,
         WatchList::Datas,
         datas,
-        &keys.datas,
+        &places.datas,
         &index,
         &mut seen,
     )?;
@@ -141,7 +162,7 @@ fn seen_by<'a>(
         alloc,
         WatchList::Exists,
         exists,
-        &keys.exists,
+        &places.exists,
         &index,
         &mut seen,
     )?;
@@ -149,7 +170,7 @@ fn seen_by<'a>(
         alloc,
         WatchList::Children,
         children,
-        &keys.children,
+        &places.children,
         &index,
         &mut seen,
     )?;
@@ -165,12 +186,12 @@ fn seen_in_turn(
 ) -> Result<Vec<SeenPath>, Memory>
     ensures { IfOk result (λ xs. xs.items ≡ seen_paths view.now datas.now exists.now children.now) }
 {
-    let keys = Keys {
-        datas: keys_at(alloc, WatchList::Datas, datas)?,
-        exists: keys_at(alloc, WatchList::Exists, exists)?,
-        children: keys_at(alloc, WatchList::Children, children)?,
+    let places = Places {
+        datas: places_at(alloc, WatchList::Datas, datas)?,
+        exists: places_at(alloc, WatchList::Exists, exists)?,
+        children: places_at(alloc, WatchList::Children, children)?,
     };
-    seen_by(alloc, datas, exists, children, &keys, view)
+    seen_by(alloc, datas, exists, children, &places, view)
 }
 
 /// What was found at each path of a setWatches: first its data paths, then its exist paths, then its child paths. Where the view

@@ -7,7 +7,7 @@ ghost use Rattle.zk_model.specs.Znodes.{stat};
 ghost use Rattle.zk_model.specs.declared.node.Node.{Node as Znode};
 ghost use Rattle.zn_layout.specs.Records.{IsCountRec};
 ghost use Rattle.zn_layout.specs.StandsFor.{czxid_of, stored_of, DataMeans, CountsMean};
-ghost use Rattle.zn_reads.specs.Found.{stat_by, IsStatAt, IsContentAt, IsVersionAt};
+ghost use Rattle.zn_reads.specs.Found.{stat_by, AreCountsBy, AreNoCounts, IsStatAt, IsContentAt, IsVersionAt};
 
 use crate::found::found;
 use crate::keys::{counts_key_of, data_key_of};
@@ -15,7 +15,8 @@ use ev_types::Kv;
 use std::alloc::Global;
 use zk_model::{Path, Stat};
 use zn_layout::{
-    CountRec, NodeNumbers, RecordFault, counts_in, node_content, node_numbers, read_node,
+    CountRec, FIRST_COUNTS, NodeNumbers, RecordFault, counts_in, node_content, node_numbers,
+    read_node,
 };
 use zn_view::View;
 use zx_base::{Bytes, Memory};
@@ -69,28 +70,30 @@ fn stat_by(
     }
 }
 
-fn stat_of_records(own: &Kv, counts: &Kv) -> Option<Stat>
-    ensures { (n : Znode) (k : ℕ) → DataMeans (Option.Some n) (stored_of (Option.Some own.now)) → CountsMean (Option.Some n) k (stored_of (Option.Some counts.now)) → Option.Some (stat n k) ≡ result }
+/// The counts of a node and the revision of their last change. A node without a record of them has had no children since its create.
+fn counts_by(numbers: &NodeNumbers, revision: i64, counts: Option<&Kv>) -> Option<(CountRec, i64)>
+    ensures { MatchOption result (AreNoCounts (option_copied counts.entry)) (λ x. AreCountsBy numbers.now revision (option_copied counts.entry) x.0 x.1) }
+{
+    match counts {
+        Some(counts) => Some((counts_in(counts.value.as_slice())?, counts.mod_revision)),
+        None => Some((FIRST_COUNTS, czxid(numbers.czxid, revision))),
+    }
+}
+
+fn stat_of_records(own: &Kv, counts: Option<&Kv>) -> Option<Stat>
+    ensures { (n : Znode) (k : ℕ) (b : Bool) → DataMeans (Option.Some n) (stored_of (Option.Some own.now)) → CountsMean (Option.Some n) k b (stored_of (option_copied counts.entry)) → Option.Some (stat n k) ≡ result }
 {
     let numbers = node_numbers(own.value.as_slice())?;
     let content = node_content(own.value.as_slice());
-    let counted = counts_in(counts.value.as_slice())?;
-    Some(stat_by(
-        numbers,
-        content.len(),
-        own.mod_revision,
-        counted,
-        counts.mod_revision,
-    ))
+    let revision = own.mod_revision;
+    let (counted, changed) = counts_by(&numbers, revision, counts)?;
+    Some(stat_by(numbers, content.len(), revision, counted, changed))
 }
 
 fn stat_of_found(own: Option<&Kv>, counts: Option<&Kv>) -> Option<Stat>
-    ensures { (n : Option Znode) (k : ℕ) → DataMeans n (stored_of (option_copied own.entry)) → CountsMean n k (stored_of (option_copied counts.entry)) → option_map (λ (x : Znode). stat x k) n ≡ result }
+    ensures { (n : Option Znode) (k : ℕ) (b : Bool) → DataMeans n (stored_of (option_copied own.entry)) → CountsMean n k b (stored_of (option_copied counts.entry)) → option_map (λ (x : Znode). stat x k) n ≡ result }
 {
-    match (own, counts) {
-        (Some(own), Some(counts)) => stat_of_records(own, counts),
-        _ => None,
-    }
+    stat_of_records(own?, counts)
 }
 
 /// The Stat of the node at a path; `None` where there is no node.
@@ -123,6 +126,14 @@ pub(crate) fn content_at(alloc: Global, path: &Path, view: &View) -> Result<Byte
         Some(own) => content_of(alloc, own),
         None => Ok(Bytes::new(alloc)),
     }
+}
+
+/// The zxid of a node's create, by its record. A view holds no other value.
+pub(crate) fn made_at(own: &Kv) -> Option<i64>
+    ensures { IsSomeValue node_value IsNodeRec own.now.value → result ≡ Some (made_at own.now) }
+{
+    let numbers = node_numbers(own.value.as_slice())?;
+    Some(czxid(numbers.czxid, own.mod_revision))
 }
 
 fn version_of(own: &Kv) -> Option<i32>

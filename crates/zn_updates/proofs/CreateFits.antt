@@ -30,6 +30,7 @@ use Rattle.zn_updates.specs.Seen.{IsSeenCounts, IsSeenPaths}
 use Rattle.zn_updates.proofs.ListBounds.{placed-within}
 use Rattle.zn_updates.proofs.Meanings.{below_most, data_along, data_same, counts_along, nodes_along, int_eq-apart, session_is, session_other, time_within, zero_within}
 use Rattle.zn_updates.proofs.OwnedLists.{owned-create}
+use Rattle.zn_updates.proofs.Telling.{no_counts-within}
 use Rattle.zx_base.proofs.Booleans.{same-int as int_eq-same}
 
 pub one_more-within : (c : CountRec) → IsCountRec c → int_eq c.creates max_creates ≡ false → IsCountRec (one_more c)
@@ -48,9 +49,6 @@ new_record-within content now owner time short owned = record {
   owner = owned;
   content = short;
 }
-
-pub no_counts-within : IsCountRec first_counts
-no_counts-within = record { children = omega (arith, ints); fewer = omega (arith, ints); creates = omega (arith, ints) }
 
 module _ (s : State) (p q content : Bytes) (z : ℤ) (now : ℕ) (up : Node) (above : SeenCounts) (owner : ℤ) (sound : IsSound s)
     (below_q : parent p ≡ Some q) (there : get s.tree q ≡ Some up) (none : get s.tree p ≡ None) (plain : up.owner ≡ pos 0)

@@ -1,5 +1,5 @@
 -- Keys mean the same where look-ups give the same; and the numbers of sessions.
-use Rattle.std.proofs.Common.{◌^◌, ◌<◌, ◌≡◌, ℕ, ℤ, pos, true, false, List, Option, Some, None, refl, sym, ap, ◌∙◌, subst, arith, eqb-true, ◌+ℤ◌}
+use Rattle.std.proofs.Common.{◌^◌, ◌<◌, ◌≡◌, ℕ, ℤ, pos, Bool, true, false, List, Option, Some, None, refl, sym, ap, ◌∙◌, subst, arith, eqb-true, ◌+ℤ◌}
 use Rattle.std.proofs.lemmas.Bool.{eqb-false, true≢false}
 use Rattle.std.specs.Prelude.{◌≤ℤ◌, nat_abs, nat_eq}
 use Rattle.std.specs.Ordering.{int_eq}
@@ -26,13 +26,15 @@ data_same (Some o) x y r c m h = record {
 pub data_along : (o : Option Stored) (a b : Option Node) → b ≡ a → DataMeans a o → DataMeans b o
 data_along o a b e h = subst (λ (x : Option Node). DataMeans x o) (sym e) h
 
-pub counts_along : (o : Option Stored) (a b : Option Node) (m n : ℕ) → b ≡ a → n ≡ m → CountsMean a m o → CountsMean b n o
-counts_along o a b m n e f h = subst (λ (x : Option Node). CountsMean x n o) (sym e) (subst (λ (k : ℕ). CountsMean a k o) (sym f) h)
+pub counts_along : (o : Option Stored) (a b : Option Node) (m n : ℕ) (d e : Bool) → b ≡ a → n ≡ m → e ≡ d → CountsMean a m d o → CountsMean b n e o
+counts_along o a b m n d e f g i h = subst (λ (x : Option Node). CountsMean x n e o) (sym f) (subst (λ (k : ℕ). CountsMean a k e o) (sym g) (subst (λ (t : Bool). CountsMean a m t o) (sym i) h))
 
 -- a node whose counts stay
-pub counts_same : (o : Option Stored) (x y : Node) (n : ℕ) → y.creates ≡ x.creates → y.pzxid ≡ x.pzxid → CountsMean (Some x) n o → CountsMean (Some y) n o
-counts_same None x y n c z h = h
-counts_same (Some o) x y n c z h = record {
+pub counts_same : (o : Option Stored) (x y : Node) (n : ℕ) (b : Bool) → y.creates ≡ x.creates → y.pzxid ≡ x.pzxid → y.czxid ≡ x.czxid → CountsMean (Some x) n b o → CountsMean (Some y) n b o
+counts_same None x y n true c z m h = h
+counts_same None x y n false c z m h = record { creates = c ∙ h.creates; childless = h.childless; pzxid = z ∙ h.pzxid ∙ sym m }
+counts_same (Some o) x y n false c z m h = h
+counts_same (Some o) x y n true c z m h = record {
   fits = subst (λ (k : ℤ). IsCountRec (record { creates = k; children = pos n })) (sym c) h.fits;
   value = h.value ∙ ap (λ (k : ℤ). counts_value (record { creates = k; children = pos n })) (sym c);
   pzxid = z ∙ h.pzxid;

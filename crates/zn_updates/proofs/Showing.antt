@@ -1,5 +1,5 @@
 -- What a view saw under a node's and a session's keys shows what a state has that the view shows.
-use Rattle.std.proofs.Common.{◌≡◌, ℕ, ℤ, pos, List, Option, Some, None, refl, subst}
+use Rattle.std.proofs.Common.{◌≡◌, ℕ, ℤ, pos, Bool, List, Option, Some, None, refl, subst}
 use Rattle.std.specs.Prelude.{is_some}
 use Rattle.std.specs.FinMap.{get}
 use Rattle.ev_types.specs.declared.answer.Kv.{Kv}
@@ -7,16 +7,17 @@ use Rattle.zx_base.specs.Maps.{Bytes}
 use Rattle.zk_model.specs.declared.node.Node.{Node}
 use Rattle.zk_model.specs.Znodes.{num_children, owned}
 use Rattle.zk_service.specs.States.{State, Session, session_at}
+use Rattle.zn_layout.specs.declared.record.SessionRec.{SessionRec}
 use Rattle.zn_layout.specs.Keys.{HeadKey, DataKey, CountsKey, SessionKey}
-use Rattle.zn_layout.specs.StandsFor.{DataMeans, NodesMean}
+use Rattle.zn_layout.specs.StandsFor.{is_counted_in, DataMeans, NodesMean}
 use Rattle.zn_view.specs.Lookups.{sees}
 use Rattle.zn_view.specs.Seen.{View}
 use Rattle.zn_updates.specs.declared.seen.SeenData.{SeenData}
 use Rattle.zn_updates.specs.declared.seen.SeenCounts.{SeenCounts}
 use Rattle.zn_updates.specs.Layers.{stored_own, Shows}
-use Rattle.zn_updates.specs.Making.{IsDataSeen, IsCountsSeen, IsPathsSeen, has_found}
+use Rattle.zn_updates.specs.Making.{IsDataSeen, IsCountsSeen, IsNodesSeen, has_found}
 use Rattle.zn_updates.specs.Seen.{ShowsData, ShowsCounts, ShowsOwned}
-use Rattle.zn_updates.proofs.Telling.{data_shows, counts_shows, paths_shows}
+use Rattle.zn_updates.proofs.Telling.{data_shows, counts_shows, nodes_shows}
 
 data_not_head : (p : Bytes) → DataKey p ≡ HeadKey → ⊥
 data_not_head p e = cc
@@ -34,16 +35,20 @@ module _ (z : ℤ) (v : View) (s : State) (shows : Shows z v s) where
     | Some o ↦ λ e h. let means = shows (DataKey p) (data_not_head p) o e in data_shows z (get s.tree p) o x h means.0 means.1
   ] refl
 
-  pub counts-shown : (p : Bytes) (x : Option SeenCounts) → IsCountsSeen (sees v (CountsKey p)) x → ShowsCounts z x (get s.tree p) (num_children s.tree p)
-  counts-shown p x = elim (sees v (CountsKey p)) as (λ o. sees v (CountsKey p) ≡ o → IsCountsSeen o x → ShowsCounts z x (get s.tree p) (num_children s.tree p)) [
+  -- whether the node has a record of its counts
+  abbrev counted_at : Bytes → Bool
+  counted_at p = is_counted_in s (get s.tree p)
+
+  pub counts-shown : (p : Bytes) (x : Option SeenData) (y : Option SeenCounts) → IsDataSeen (sees v (DataKey p)) x → IsCountsSeen x (sees v (CountsKey p)) y → ShowsCounts z y (get s.tree p) (num_children s.tree p) (counted_at p)
+  counts-shown p x y node = elim (sees v (CountsKey p)) as (λ o. sees v (CountsKey p) ≡ o → IsCountsSeen x o y → ShowsCounts z y (get s.tree p) (num_children s.tree p) (counted_at p)) [
     | None ↦ λ e h. absurd h
-    | Some o ↦ λ e h. counts_shows z (get s.tree p) (num_children s.tree p) o x h (shows (CountsKey p) (counts_not_head p) o e).0
+    | Some o ↦ λ e h. counts_shows z (get s.tree p) (num_children s.tree p) (counted_at p) o x y (data-shown p x node) h (shows (CountsKey p) (counts_not_head p) o e).0
   ] refl
 
-  pub paths-shown : (id : ℕ) (y : Session) (x : Option (List Bytes)) → session_at (pos id) s ≡ Some y → IsPathsSeen (sees v (SessionKey id)) x → ShowsOwned x (owned s.tree (pos id))
-  paths-shown id y x opened = elim (sees v (SessionKey id)) as (λ o. sees v (SessionKey id) ≡ o → IsPathsSeen o x → ShowsOwned x (owned s.tree (pos id))) [
+  pub nodes-shown : (id : ℕ) (y : Session) (x : Option SessionRec) → session_at (pos id) s ≡ Some y → IsNodesSeen (sees v (SessionKey id)) x → ShowsOwned x y (owned s.tree (pos id))
+  nodes-shown id y x opened = elim (sees v (SessionKey id)) as (λ o. sees v (SessionKey id) ≡ o → IsNodesSeen o x → ShowsOwned x y (owned s.tree (pos id))) [
     | None ↦ λ e h. absurd h
-    | Some o ↦ λ e h. paths_shows z y (owned s.tree (pos id)) o x h (subst (λ (w : Option Session). NodesMean w (owned s.tree (pos id)) (stored_own z o)) opened (shows (SessionKey id) (nodes_not_head id) o e).0)
+    | Some o ↦ λ e h. nodes_shows z y (owned s.tree (pos id)) o x h (subst (λ (w : Option Session). NodesMean w (owned s.tree (pos id)) (stored_own z o)) opened (shows (SessionKey id) (nodes_not_head id) o e).0)
   ] refl
 
   same_there : (n : Option Node) (o : Option Kv) → DataMeans n (stored_own z o) → has_found (Some o) ≡ is_some n

@@ -1,5 +1,5 @@
 -- The states that a view shows have what it saw of records; and which states a view shows.
-use Rattle.std.proofs.Common.{◌≡◌, ℕ, ℤ, pos, true, false, cond, List, Option, Some, None, refl, sym, ap, ◌∙◌, subst, arith}
+use Rattle.std.proofs.Common.{◌≡◌, ℕ, ℤ, pos, Bool, true, false, cond, List, Option, Some, None, refl, sym, ap, ◌∙◌, subst, arith}
 use Rattle.std.specs.Prelude.{◌≤ℤ◌}
 use Rattle.std.specs.Ordering.{int_eq}
 use Rattle.std.proofs.lemmas.Int.{ints}
@@ -9,10 +9,14 @@ use Rattle.ev_types.specs.Store.{last_revision}
 use Rattle.zx_base.specs.Maps.{Bytes}
 use Rattle.zk_model.specs.declared.node.Node.{Node}
 use Rattle.zk_service.specs.States.{State, Session}
+use Rattle.zn_layout.specs.declared.record.CountRec.{CountRec}
 use Rattle.zn_layout.specs.declared.record.NodeRec.{NodeRec}
+use Rattle.zn_layout.specs.declared.record.SessionRec.{SessionRec}
+use Rattle.zn_layout.specs.Begin.{first_counts}
+use Rattle.zn_layout.specs.Reading.{IsValueOf}
 use Rattle.zn_layout.specs.Keys.{Key, HeadKey, key_bytes}
-use Rattle.zn_layout.specs.Records.{IsLongCount, IsCountRec}
-use Rattle.zn_layout.specs.StandsFor.{stored_of, at, czxid_of, data_record, DataMeans, CountsMean, Means, NodesMean, StandsFor}
+use Rattle.zn_layout.specs.Records.{counts_value, IsLongCount, IsCountRec}
+use Rattle.zn_layout.specs.StandsFor.{stored_of, at, czxid_of, data_record, nodes_record, IsCounts, IsUncounted, DataMeans, CountsMean, Means, NodesMean, StandsFor}
 use Rattle.zn_layout.proofs.Lookups.{data_read, counts_read}
 use Rattle.zn_layout.proofs.Keys.{key_bytes-injective}
 use Rattle.zn_layout.proofs.ListRecords.{session_value-injective}
@@ -21,8 +25,8 @@ use Rattle.zn_view.specs.Seen.{View, seen}
 use Rattle.zn_view.specs.Views.{AreAsSeen}
 use Rattle.zn_updates.specs.declared.seen.SeenData.{SeenData}
 use Rattle.zn_updates.specs.declared.seen.SeenCounts.{SeenCounts}
-use Rattle.zn_updates.specs.Making.{IsDataSeen, IsCountsSeen, IsPathsSeen, data_of}
-use Rattle.zn_updates.specs.Seen.{IsDataWithin, IsSeenData, ShowsData, ShowsCounts, ShowsOwned}
+use Rattle.zn_updates.specs.Making.{IsDataSeen, IsCountsSeen, IsNodesSeen, counts_of, data_of, uncounted}
+use Rattle.zn_updates.specs.Seen.{IsDataWithin, IsSeenCounts, IsSeenData, ShowsData, ShowsCounts, ShowsOwned}
 use Rattle.zn_updates.specs.Layers.{stored_own, IsPutBelow, Shows}
 use Rattle.zx_base.proofs.Booleans.{same-from_int_eq as int_eq-is}
 
@@ -87,26 +91,53 @@ data_shows z (Some n) (Some kv) (Some x) seen means put =
     } in
     subst (λ (y : SeenData). IsSeenData z y n) (sym is) shown
 
-pub counts_shows : (z : ℤ) (n : Option Node) (children : ℕ) (o : Option Kv) (x : Option SeenCounts) → IsCountsSeen (Some o) x → CountsMean n children (stored_own z o) → ShowsCounts z x n children
-counts_shows z None children None None seen means = tt
-counts_shows z None children None (Some x) seen means = absurd seen
-counts_shows z None children (Some kv) x seen means = absurd means
-counts_shows z (Some n) children None x seen means = absurd means
-counts_shows z (Some n) children (Some kv) None seen means = absurd seen
-counts_shows z (Some n) children (Some kv) (Some x) seen means =
+stored_counts : (z : ℤ) (n : Node) (children : ℕ) (kv : Kv) (y : SeenCounts) → ((r : CountRec) × IsValueOf counts_value IsCountRec kv.value r × (y ≡ counts_of r kv.mod_revision))
+    → IsCounts (record { value = kv.value; revision = own z kv.mod_revision; lease = kv.lease }) n children → IsSeenCounts z y n children true
+stored_counts z n children kv y seen means =
     let is = seen.2 in
     record {
-      within = subst (λ (y : SeenCounts). IsCountRec y.counts) (sym is) seen.1.0;
-      is = ap (λ (y : SeenCounts). y.counts) is ∙ counts_read _ n children seen.0 means seen.1;
-      pzxid = means.pzxid ∙ ap (λ (y : SeenCounts). own z y.pzxid) (sym is);
+      stored = ap (λ (w : SeenCounts). w.is_stored) is;
+      within = subst (λ (w : SeenCounts). IsCountRec w.counts) (sym is) seen.1.0;
+      is = ap (λ (w : SeenCounts). w.counts) is ∙ counts_read _ n children seen.0 means seen.1;
+      pzxid = means.pzxid ∙ ap (λ (w : SeenCounts). own z w.pzxid) (sym is);
     }
 
-pub paths_shows : (z : ℤ) (y : Session) (paths : List Bytes) (o : Option Kv) (x : Option (List Bytes)) → IsPathsSeen (Some o) x → NodesMean (Some y) paths (stored_own z o) → ShowsOwned x paths
-paths_shows z y paths None x seen means = absurd means
-paths_shows z y paths (Some kv) None seen means = absurd seen
-paths_shows z y paths (Some kv) (Some ps) seen means = record {
+pub no_counts-within : IsCountRec first_counts
+no_counts-within = record { children = omega (arith, ints); fewer = omega (arith, ints); creates = omega (arith, ints) }
+
+-- a node without a record of its counts has none, and its pzxid is its czxid
+implied_counts : (z : ℤ) (n : Node) (children : ℕ) (x : SeenData) → IsSeenData z x n → IsUncounted n children → IsSeenCounts z (uncounted x) n children false
+implied_counts z n children x node none = record {
+  stored = refl;
+  within = no_counts-within;
+  is = λ i. record { creates = sym none.creates i; children = pos (sym none.childless i) };
+  pzxid = none.pzxid ∙ node.czxid;
+}
+
+-- the counts of a node whose record was seen too
+pub counts_shows : (z : ℤ) (n : Option Node) (children : ℕ) (b : Bool) (o : Option Kv) (x : Option SeenData) (y : Option SeenCounts) → ShowsData z x n → IsCountsSeen x (Some o) y → CountsMean n children b (stored_own z o) → ShowsCounts z y n children b
+counts_shows z None children b None None y node seen means = subst (λ (c : Option SeenCounts). ShowsCounts z c None children b) (sym seen) tt
+counts_shows z None children b None (Some x) y node seen means = absurd node
+counts_shows z None children b (Some kv) x y node seen means = absurd means
+counts_shows z (Some n) children true None x y node seen means = absurd means
+counts_shows z (Some n) children b (Some kv) x None node seen means = absurd seen
+counts_shows z (Some n) children true (Some kv) x (Some y) node seen means = stored_counts z n children kv y seen means
+counts_shows z (Some n) children false None None y node seen means = absurd node
+counts_shows z (Some n) children false None (Some x) y node seen means = subst (λ (c : Option SeenCounts). ShowsCounts z c (Some n) children false) (sym seen) (implied_counts z n children x node means)
+counts_shows z (Some n) children false (Some kv) x (Some y) node seen means = absurd means
+
+-- the counts of a node that is known to have a record of them
+pub parent_shows : (z : ℤ) (n : Node) (children : ℕ) (o : Option Kv) (y : Option SeenCounts) → IsCountsSeen None (Some o) y → CountsMean (Some n) children true (stored_own z o) → ShowsCounts z y (Some n) children true
+parent_shows z n children None y seen means = absurd means
+parent_shows z n children (Some kv) None seen means = absurd seen
+parent_shows z n children (Some kv) (Some y) seen means = stored_counts z n children kv y seen means
+
+pub nodes_shows : (z : ℤ) (y : Session) (paths : List Bytes) (o : Option Kv) (x : Option SessionRec) → IsNodesSeen (Some o) x → NodesMean (Some y) paths (stored_own z o) → ShowsOwned x y paths
+nodes_shows z y paths None x seen means = absurd means
+nodes_shows z y paths (Some kv) None seen means = absurd seen
+nodes_shows z y paths (Some kv) (Some r) seen means = record {
   within = seen.0;
-  is = session_value-injective ps paths seen.0 means.fits (sym seen.1 ∙ means.value);
+  is = session_value-injective r (nodes_record y paths) seen.0 means.fits (sym seen.1 ∙ means.value);
 }
 
 -- ---- keys that stand for a state show it

@@ -13,11 +13,12 @@ use Rattle.zk_model.specs.Single.{matches}
 use Rattle.zk_model.specs.Znodes.{cversion}
 use Rattle.zn_layout.specs.declared.record.CountRec.{CountRec}
 use Rattle.zn_layout.specs.declared.record.NodeRec.{NodeRec}
+use Rattle.zn_layout.specs.declared.record.SessionRec.{SessionRec}
 use Rattle.zn_layout.specs.Begin.{new_record, first_counts}
 use Rattle.zn_layout.specs.Changes.{KeyChange, put_key, delete_key}
 use Rattle.zn_layout.specs.Keys.{DataKey, CountsKey, SessionKey}
-use Rattle.zn_layout.specs.Records.{node_value, counts_value, session_value}
-use Rattle.zn_updates.specs.OwnedLists.{placed, without}
+use Rattle.zn_layout.specs.Records.{has_counts, node_value, counts_value, session_value}
+use Rattle.zn_updates.specs.OwnedLists.{with_node, without_node}
 use Rattle.zn_updates.specs.declared.seen.SeenData.{SeenData}
 use Rattle.zn_updates.specs.declared.seen.SeenCounts.{SeenCounts}
 
@@ -30,9 +31,9 @@ pub data Choice : Type 0 where
 abbrev pub with_content : NodeRec → Bytes → NodeRec
 with_content r content = record r { content = content }
 
--- puts the list of a session's nodes
-abbrev pub put_owned : ℤ → List Bytes → KeyChange
-put_owned id paths = put_key (SessionKey (nat_abs id)) (session_value paths)
+-- puts the record of a session's nodes
+abbrev pub put_owned : ℤ → SessionRec → KeyChange
+put_owned id nodes = put_key (SessionKey (nat_abs id)) (session_value nodes)
 
 -- ---- setData
 
@@ -74,31 +75,35 @@ set_data_choice p content version now (Some x) (Some c) =
 abbrev pub one_less : CountRec → CountRec
 one_less c = record { creates = c.creates; children = pos (nat_abs c.children - 1) }
 
-abbrev pub delete_changes : Bytes → Bytes → CountRec → List KeyChange
-delete_changes p q above = delete_key (DataKey p) ∷ delete_key (CountsKey p) ∷ put_key (CountsKey q) (counts_value (one_less above)) ∷ []
+-- deletes the record of a node's counts, where there is one
+abbrev pub delete_counts : Bytes → Bool → List KeyChange
+delete_counts p counted = if counted then delete_key (CountsKey p) ∷ [] else []
+
+abbrev pub delete_changes : Bytes → Bytes → Bool → CountRec → List KeyChange
+delete_changes p q counted above = delete_key (DataKey p) ∷ delete_counts p counted ++ put_key (CountsKey q) (counts_value (one_less above)) ∷ []
 
 abbrev pub delete_triggers : Bytes → Bytes → List Trigger
 delete_triggers p q = Deleted p ∷ Children q ∷ []
 
 -- of a node with an owner: it goes from the owner's list; a list that is missing, as in no sound state, is a system error
-abbrev pub delete_owned : Bytes → Bytes → CountRec → ℤ → Option (List Bytes) → Choice
-delete_owned p q above owner None = Refuse system_error
-delete_owned p q above owner (Some paths) = Make (delete_changes p q above ++ put_owned owner (without p paths) ∷ []) (delete_triggers p q) result.Deleted
+abbrev pub delete_owned : Bytes → Bytes → Bool → CountRec → ℤ → Option SessionRec → Choice
+delete_owned p q counted above owner None = Refuse system_error
+delete_owned p q counted above owner (Some nodes) = Make (delete_changes p q counted above ++ put_owned owner (without_node p nodes) ∷ []) (delete_triggers p q) result.Deleted
 
 -- of a node that passed the tests; counts of the parent that are missing, as in no sound state, are a system error
-abbrev pub delete_here : Bytes → Bytes → SeenData → Option SeenCounts → Option (List Bytes) → Choice
-delete_here p q x None paths = Refuse system_error
-delete_here p q x (Some above) paths =
-    if int_eq x.owner (pos 0) then Make (delete_changes p q above.counts) (delete_triggers p q) result.Deleted
-    else delete_owned p q above.counts x.owner paths
+abbrev pub delete_here : Bytes → Bytes → SeenData → Bool → Option SeenCounts → Option SessionRec → Choice
+delete_here p q x counted None nodes = Refuse system_error
+delete_here p q x counted (Some above) nodes =
+    if int_eq x.owner (pos 0) then Make (delete_changes p q counted above.counts) (delete_triggers p q) result.Deleted
+    else delete_owned p q counted above.counts x.owner nodes
 
--- by the node's record and counts, its parent's counts, and the list of its owner's nodes, where it has an owner
-unfoldable pub delete_choice : Bytes → Bytes → ℤ → Option SeenData → Option SeenCounts → Option SeenCounts → Option (List Bytes) → Choice
-delete_choice p q version None counts above paths = Refuse no_node
-delete_choice p q version (Some x) None above paths = Refuse no_node
-delete_choice p q version (Some x) (Some c) above paths =
+-- by the node's record and counts, its parent's counts, and the record of its owner's nodes, where it has an owner
+unfoldable pub delete_choice : Bytes → Bytes → ℤ → Option SeenData → Option SeenCounts → Option SeenCounts → Option SessionRec → Choice
+delete_choice p q version None counts above nodes = Refuse no_node
+delete_choice p q version (Some x) None above nodes = Refuse no_node
+delete_choice p q version (Some x) (Some c) above nodes =
     if not (matches version x.version) then Refuse bad_version
-    else (if not (int_eq c.counts.children (pos 0)) then Refuse not_empty else delete_here p q x above paths)
+    else (if not (int_eq c.counts.children (pos 0)) then Refuse not_empty else delete_here p q x c.is_stored above nodes)
 
 -- ---- create of p below q
 
@@ -106,37 +111,38 @@ delete_choice p q version (Some x) (Some c) above paths =
 abbrev pub one_more : CountRec → CountRec
 one_more c = record { creates = c.creates +ℤ pos 1; children = c.children +ℤ pos 1 }
 
-abbrev pub changes_with : Bytes → Bytes → NodeRec → CountRec → List KeyChange
-changes_with p q node above =
-    put_key (DataKey p) (node_value node)
-    ∷ put_key (CountsKey p) (counts_value first_counts)
-    ∷ put_key (CountsKey q) (counts_value (one_more above)) ∷ []
+-- puts the record of a new node's counts, where it has one
+abbrev pub put_counts : Bytes → Bool → List KeyChange
+put_counts p counted = if counted then put_key (CountsKey p) (counts_value first_counts) ∷ [] else []
 
-abbrev pub create_changes : Bytes → Bytes → Bytes → ℕ → ℤ → CountRec → List KeyChange
-create_changes p q content now owner above = changes_with p q (new_record content now owner) above
+abbrev pub changes_with : Bytes → Bytes → NodeRec → Bool → CountRec → List KeyChange
+changes_with p q node counted above = put_key (DataKey p) (node_value node) ∷ put_counts p counted ++ put_key (CountsKey q) (counts_value (one_more above)) ∷ []
+
+abbrev pub create_changes : Bytes → Bytes → Bytes → ℕ → ℤ → Bool → CountRec → List KeyChange
+create_changes p q content now owner counted above = changes_with p q (new_record content now owner) counted above
 
 abbrev pub create_triggers : Bytes → Bytes → List Trigger
 create_triggers p q = Created p ∷ Children q ∷ []
 
 -- of an ephemeral node: it joins the session's list; a list that is missing or full is a system error
-abbrev pub create_owned : Bytes → Bytes → Bytes → ℕ → CountRec → ℤ → Option (List Bytes) → Choice
+abbrev pub create_owned : Bytes → Bytes → Bytes → ℕ → CountRec → ℤ → Option SessionRec → Choice
 create_owned p q content now above session None = Refuse system_error
-create_owned p q content now above session (Some paths) =
-    if nat_le max_owned (length paths) then Refuse system_error
-    else Make (create_changes p q content now session above ++ put_owned session (placed p paths) ∷ []) (create_triggers p q) (result.Created p)
+create_owned p q content now above session (Some nodes) =
+    if nat_le (max_owned nodes.layout) (length nodes.paths) then Refuse system_error
+    else Make (create_changes p q content now session (has_counts nodes.layout) above ++ put_owned session (with_node p nodes) ∷ []) (create_triggers p q) (result.Created p)
 
 -- of a node that passed the tests of its path and its parent
-abbrev pub create_here : Bytes → Bytes → Bytes → ℕ → CountRec → Bool → ℤ → Option (List Bytes) → Choice
-create_here p q content now above ephemeral session paths =
-    if ephemeral then create_owned p q content now above session paths
-    else Make (create_changes p q content now (pos 0) above) (create_triggers p q) (result.Created p)
+abbrev pub create_here : Bytes → Bytes → Bytes → ℕ → CountRec → Bool → ℤ → Option SessionRec → Choice
+create_here p q content now above ephemeral session nodes =
+    if ephemeral then create_owned p q content now above session nodes
+    else Make (create_changes p q content now (pos 0) true above) (create_triggers p q) (result.Created p)
 
--- by the parent's record and counts, whether the path is taken, and for an ephemeral node the list of the session's nodes
-unfoldable pub create_choice : Bytes → Bytes → Bytes → ℕ → Bool → ℤ → Option SeenData → Option SeenCounts → Bool → Option (List Bytes) → Choice
-create_choice p q content now ephemeral session None counts taken paths = Refuse no_node
-create_choice p q content now ephemeral session (Some up) None taken paths = Refuse no_node
-create_choice p q content now ephemeral session (Some up) (Some above) true paths = Refuse node_exists
-create_choice p q content now ephemeral session (Some up) (Some above) false paths =
+-- by the parent's record and counts, whether the path is taken, and for an ephemeral node the record of the session's nodes
+unfoldable pub create_choice : Bytes → Bytes → Bytes → ℕ → Bool → ℤ → Option SeenData → Option SeenCounts → Bool → Option SessionRec → Choice
+create_choice p q content now ephemeral session None counts taken nodes = Refuse no_node
+create_choice p q content now ephemeral session (Some up) None taken nodes = Refuse no_node
+create_choice p q content now ephemeral session (Some up) (Some above) true nodes = Refuse node_exists
+create_choice p q content now ephemeral session (Some up) (Some above) false nodes =
     if not (int_eq up.owner (pos 0)) then Refuse no_children_for_ephemerals
     else (if int_eq above.counts.creates max_creates then Refuse system_error
-    else create_here p q content now above.counts ephemeral session paths)
+    else create_here p q content now above.counts ephemeral session nodes)

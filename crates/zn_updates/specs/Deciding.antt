@@ -9,6 +9,7 @@ use Rattle.zk_model.specs.declared.node.Trigger.{Trigger}
 use Rattle.zk_model.specs.Watches.{no_watches}
 use Rattle.zk_service.specs.Answers.{plain_request, tree_reply}
 use Rattle.zk_service.specs.States.{State, Session, IsSound, limit_of, response_of, session_at}
+use Rattle.zn_layout.specs.declared.record.SessionRec.{SessionRec}
 use Rattle.zn_layout.specs.Changes.{KeyChange, update_acts}
 use Rattle.zn_layout.specs.Keys.{Key, DataKey, CountsKey, SessionKey, LeaseKey, key_bytes}
 use Rattle.zn_view.specs.declared.plan.Decision.{Decision}
@@ -31,7 +32,7 @@ use Rattle.zn_updates.specs.declared.seen.SeenData.{SeenData}
 use Rattle.zn_updates.specs.declared.seen.SeenCounts.{SeenCounts}
 use Rattle.zn_updates.specs.Choices.{Choice, Refuse, Make, set_data_choice, delete_choice, create_choice}
 use Rattle.zn_updates.specs.KeysRead.{set_data_keys, delete_keys, create_keys}
-use Rattle.zn_updates.specs.Making.{IsDataSeen, IsCountsSeen, IsPathsSeen, has_found}
+use Rattle.zn_updates.specs.Making.{IsDataSeen, IsCountsSeen, IsNodesSeen, has_found}
 
 -- the view saw the record of the session's life, last put at the revision at which this connection was attached
 abbrev pub IsAttached : Who → View → Type 0
@@ -101,7 +102,7 @@ IfMade P (Made u) = P u.triggers
 -- the decision of a setData's choice on the records that the view saw
 abbrev pub IsSetData : View → Bytes → Bytes → ℤ → ℕ → ℤ → Decision → Type 0
 IsSetData v p content version now session d =
-    (x : Option SeenData) × (c : Option SeenCounts) × IsDataSeen (sees v (DataKey p)) x × IsCountsSeen (sees v (CountsKey p)) c
+    (x : Option SeenData) × (c : Option SeenCounts) × IsDataSeen (sees v (DataKey p)) x × IsCountsSeen x (sees v (CountsKey p)) c
     × (d ≡ decision_of (on_keys v (set_data_keys p session)) (set_data_choice p content version now x c))
 
 -- where the node has an owner, the list of the owner's nodes was looked up
@@ -109,10 +110,15 @@ abbrev pub IsOwnerLookedUp : View → Option SeenData → Type 0
 IsOwnerLookedUp v None = Unit {0}
 IsOwnerLookedUp v (Some x) = (x.owner ≡ pos 0 → ⊥) → HasSeen v (SessionKey (nat_abs x.owner))
 
--- where the node has an owner, these are the owner's nodes as the view saw them
-abbrev pub IsOwnerPaths : View → Option SeenData → Option (List Bytes) → Type 0
-IsOwnerPaths v None paths = Unit {0}
-IsOwnerPaths v (Some x) paths = (x.owner ≡ pos 0 → ⊥) → IsPathsSeen (sees v (SessionKey (nat_abs x.owner))) paths
+-- where the node has an owner, this is the record of the owner's nodes as the view saw it
+abbrev pub AreOwnerNodes : View → Option SeenData → Option SessionRec → Type 0
+AreOwnerNodes v None nodes = Unit {0}
+AreOwnerNodes v (Some x) nodes = (x.owner ≡ pos 0 → ⊥) → IsNodesSeen (sees v (SessionKey (nat_abs x.owner))) nodes
+
+-- the node's record as the view saw it, none where it was not looked up
+abbrev pub IsDataFound : Option (Option Kv) → Option SeenData → Type 0
+IsDataFound None x = x ≡ None
+IsDataFound (Some o) x = IsDataSeen (Some o) x
 
 -- the owner of a node, 0 where it has none or is not there
 abbrev pub owner_seen : Option SeenData → ℤ
@@ -123,9 +129,9 @@ owner_seen (Some x) = x.owner
 abbrev pub IsDelete : View → Bytes → ℤ → ℤ → Option Bytes → Decision → Type 0
 IsDelete v p version session None d = d ≡ decision_of v (Refuse no_node)
 IsDelete v p version session (Some q) d =
-    (x : Option SeenData) × (c : Option SeenCounts) × (a : Option SeenCounts) × (paths : Option (List Bytes))
-    × IsDataSeen (sees v (DataKey p)) x × IsCountsSeen (sees v (CountsKey p)) c × IsCountsSeen (sees v (CountsKey q)) a × IsOwnerPaths v x paths
-    × (d ≡ decision_of (on_keys v (delete_keys p (Some q) session (owner_seen x))) (delete_choice p q version x c a paths))
+    (x : Option SeenData) × (c : Option SeenCounts) × (a : Option SeenCounts) × (nodes : Option SessionRec)
+    × IsDataSeen (sees v (DataKey p)) x × IsCountsSeen x (sees v (CountsKey p)) c × IsCountsSeen None (sees v (CountsKey q)) a × AreOwnerNodes v x nodes
+    × (d ≡ decision_of (on_keys v (delete_keys p (Some q) session (owner_seen x))) (delete_choice p q version x c a nodes))
 
 -- the creates that a node counts, 0 where it is not there
 abbrev pub creates_in : Option SeenCounts → ℕ
@@ -141,18 +147,18 @@ creates_seen (Some c) = Some (nat_abs c.counts.creates)
 abbrev pub path_for : Bool → Bytes → Option SeenCounts → Bytes
 path_for sequential path c = if sequential then sequence_path path (creates_in c) else path
 
--- for an ephemeral node, these are the session's nodes as the view saw them
-abbrev pub IsOwnPaths : View → Bool → ℤ → Option (List Bytes) → Type 0
-IsOwnPaths v ephemeral session paths = ephemeral ≡ true → IsPathsSeen (sees v (SessionKey (nat_abs session))) paths
+-- for an ephemeral node, this is the record of the session's nodes as the view saw it
+abbrev pub AreOwnNodes : View → Bool → ℤ → Option SessionRec → Type 0
+AreOwnNodes v ephemeral session nodes = ephemeral ≡ true → IsNodesSeen (sees v (SessionKey (nat_abs session))) nodes
 
 -- the decision of a create below q
 abbrev pub IsCreateBelow : View → Bytes → Bytes → ℕ → Bool → Bool → ℤ → Bytes → Decision → Type 0
 IsCreateBelow v path content now sequential ephemeral session q d =
-    (x : Option SeenData) × (c : Option SeenCounts) × (paths : Option (List Bytes))
-    × IsDataSeen (sees v (DataKey q)) x × IsCountsSeen (sees v (CountsKey q)) c × IsOwnPaths v ephemeral session paths
+    (x : Option SeenData) × (c : Option SeenCounts) × (nodes : Option SessionRec)
+    × IsDataSeen (sees v (DataKey q)) x × IsCountsSeen x (sees v (CountsKey q)) c × AreOwnNodes v ephemeral session nodes
     × (d ≡ decision_of (on_keys v (create_keys sequential ephemeral path (Some q) session (creates_seen c)))
     (create_choice (path_for sequential path c) q content now ephemeral session x c
-    (has_found (sees v (DataKey (path_for sequential path c)))) paths))
+    (has_found (sees v (DataKey (path_for sequential path c)))) nodes))
 
 -- the decision of a create: below a parent, or of the root, which is there
 abbrev pub IsCreate : View → Bytes → Bytes → ℕ → Bool → Bool → ℤ → Option Bytes → Decision → Type 0

@@ -38,7 +38,7 @@ delete_keys p q id owner = start_keys id ++ ((about_path p ++ counts_of_parent q
 -- the creates that a view saw of a node's parent, none where the node has no parent or the view saw none
 abbrev pub IsParentCreates : View → Option Bytes → Option ℕ → Type 0
 IsParentCreates v None creates = creates ≡ None
-IsParentCreates v (Some q) creates = IsCreatesSeen (seen v (key_bytes (CountsKey q))) creates
+IsParentCreates v (Some q) creates = IsCreatesSeen v q creates
 
 -- the key of a sequence node's record, once the creates of its parent are known
 abbrev pub numbered_at : Bytes → Option ℕ → List Key

@@ -3,9 +3,8 @@ use Rattle.std.specs.Prelude.{◌<◌, ◌^◌, ◌≡◌, ℕ, ℤ, pos, ◌≤
 use Rattle.ev_types.specs.declared.answer.Kv.{Kv}
 use Rattle.ev_types.specs.Store.{last_revision}
 use Rattle.zk_model.specs.declared.request.Part.{Part}
-use Rattle.zk_model.specs.Limits.{max_owned}
 use Rattle.zk_model.specs.Single.{single}
-use Rattle.zk_service.specs.States.{State, Session, IsSound, session_at}
+use Rattle.zk_service.specs.States.{State, Session, IsSound, limit_of, session_at}
 use Rattle.zn_layout.specs.Keys.{Key, HeadKey, key_bytes}
 use Rattle.zn_layout.specs.StandsFor.{Stored, Means}
 use Rattle.zn_view.specs.declared.plan.Who.{Who}
@@ -40,5 +39,5 @@ code_of (Make cs ts draft) = None
 -- 2^62 milliseconds. At every time it has the same code, or none.
 pub record IsChosen (p : Part) (who : Who) (v : View) (choice : ℕ → Choice) : Type 0 where
   pub right : (s : State) (z : ℤ) (now : ℕ) → now < 2 ^ 62 → IsSound s → Shows z v s → (x : Session) → session_at who.session s ≡ Some x
-      → IsRight z s (choice now) (single s.tree max_owned who.session p z now)
+      → IsRight z s (choice now) (single s.tree (limit_of x) who.session p z now)
   pub same_code : (now : ℕ) → code_of (choice now) ≡ code_of (choice 0)

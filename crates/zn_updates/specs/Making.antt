@@ -1,11 +1,13 @@
 -- A choice as the code makes it: the changes are operations.
-use Rattle.std.specs.Prelude.{◌≡◌, ℤ, pos, ◌≤ℤ◌, Bool, true, false, List, Option, Some, None}
+use Rattle.std.specs.Prelude.{◌≡◌, ℤ, pos, ◌≤ℤ◌, Bool, true, false, List, Option, Some, None, option_map}
 use Rattle.ev_types.specs.declared.answer.Kv.{Kv}
 use Rattle.zx_base.specs.Maps.{Bytes}
 use Rattle.zk_model.specs.declared.node.Trigger.{Trigger}
 use Rattle.zk_model.specs.declared.reply.PartResult.{PartResult}
+use Rattle.zn_layout.specs.declared.record.SessionRec.{SessionRec}
 use Rattle.zn_layout.specs.declared.record.CountRec.{CountRec}
 use Rattle.zn_layout.specs.declared.record.NodeRec.{NodeRec}
+use Rattle.zn_layout.specs.Begin.{first_counts}
 use Rattle.zn_layout.specs.Changes.{KeyChange, acts_of}
 use Rattle.zn_layout.specs.Reading.{IsValueOf}
 use Rattle.zn_layout.specs.Records.{node_value, counts_value, session_value, IsNodeRec, IsCountRec, IsSessionRec}
@@ -40,23 +42,26 @@ IsDataSeen (Some (Some kv)) None = ⊥
 IsDataSeen (Some (Some kv)) (Some x) = (r : NodeRec) × IsValueOf node_value IsNodeRec kv.value r × (x ≡ data_of r x.czxid) × (pos 0 ≤ℤ kv.mod_revision → x.czxid ≡ czxid_of r.czxid kv.mod_revision)
 
 abbrev pub counts_of : CountRec → ℤ → SeenCounts
-counts_of r revision = record { counts = r; pzxid = revision }
+counts_of r revision = record { counts = r; pzxid = revision; is_stored = true }
 
--- a node's counts, with their revision
-abbrev pub IsCountsSeen : Option (Option Kv) → Option SeenCounts → Type 0
-IsCountsSeen None x = ⊥
-IsCountsSeen (Some None) None = Unit {0}
-IsCountsSeen (Some None) (Some x) = ⊥
-IsCountsSeen (Some (Some kv)) None = ⊥
-IsCountsSeen (Some (Some kv)) (Some x) = (r : CountRec) × IsValueOf counts_value IsCountRec kv.value r × (x ≡ counts_of r kv.mod_revision)
+-- the counts of a node without a record of them: it has had no children since its create
+abbrev pub uncounted : SeenData → SeenCounts
+uncounted x = record { counts = first_counts; pzxid = x.czxid; is_stored = false }
 
--- the list of a session's nodes
-abbrev pub IsPathsSeen : Option (Option Kv) → Option (List Bytes) → Type 0
-IsPathsSeen None x = ⊥
-IsPathsSeen (Some None) None = Unit {0}
-IsPathsSeen (Some None) (Some ps) = ⊥
-IsPathsSeen (Some (Some kv)) None = ⊥
-IsPathsSeen (Some (Some kv)) (Some ps) = IsValueOf session_value IsSessionRec kv.value ps
+-- the counts of the node with this record, with their revision
+abbrev pub IsCountsSeen : Option SeenData → Option (Option Kv) → Option SeenCounts → Type 0
+IsCountsSeen x None c = ⊥
+IsCountsSeen x (Some None) c = c ≡ option_map uncounted x
+IsCountsSeen x (Some (Some kv)) None = ⊥
+IsCountsSeen x (Some (Some kv)) (Some c) = (r : CountRec) × IsValueOf counts_value IsCountRec kv.value r × (c ≡ counts_of r kv.mod_revision)
+
+-- the record of a session's nodes
+abbrev pub IsNodesSeen : Option (Option Kv) → Option SessionRec → Type 0
+IsNodesSeen None x = ⊥
+IsNodesSeen (Some None) None = Unit {0}
+IsNodesSeen (Some None) (Some r) = ⊥
+IsNodesSeen (Some (Some kv)) None = ⊥
+IsNodesSeen (Some (Some kv)) (Some r) = IsValueOf session_value IsSessionRec kv.value r
 
 -- whether the key was looked up and was there
 abbrev pub has_found : Option (Option Kv) → Bool

@@ -5,6 +5,7 @@ use Rattle.std.specs.Cmp.Lexicographic.{slice_cmp}
 use Rattle.std.specs.FinMap.Entries.{by_order}
 use Rattle.ev_types.specs.Ranges.{comes_before}
 use Rattle.zx_base.specs.Maps.{Bytes, same}
+use Rattle.zn_layout.specs.declared.record.SessionRec.{SessionRec}
 
 -- the list with p in its place; p stands there once, also where it was there
 abbrev pub placed : Bytes → List Bytes → List Bytes
@@ -13,6 +14,13 @@ placed p (q ∷ qs) = by_order (slice_cmp nat_cmp p q) (p ∷ q ∷ qs) (q ∷ q
 
 abbrev pub without : Bytes → List Bytes → List Bytes
 without p = filter (λ q. not (same p q))
+
+-- a session's nodes with p among them, and without it
+abbrev pub with_node : Bytes → SessionRec → SessionRec
+with_node p r = record r { paths = placed p r.paths }
+
+abbrev pub without_node : Bytes → SessionRec → SessionRec
+without_node p r = record r { paths = without p r.paths }
 
 -- all paths before this place are before the path, and the one there isn't
 pub record IsPlaceOf (p : Bytes) (ps : List Bytes) (place : ℕ) : Type 0 where

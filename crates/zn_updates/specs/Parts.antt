@@ -9,6 +9,7 @@ use Rattle.zk_model.specs.Codes.{no_node, bad_version}
 use Rattle.zk_model.specs.Paths.{parent}
 use Rattle.zk_model.specs.Single.{form_refusal, is_ephemeral, is_sequential, matches, named}
 use Rattle.zx_base.specs.Maps.{Bytes}
+use Rattle.zn_layout.specs.declared.record.SessionRec.{SessionRec}
 use Rattle.zn_layout.specs.Changes.{KeyChange, Put, put_size}
 use Rattle.zn_layout.specs.Keys.{Key, HeadKey, DataKey, CountsKey, SessionKey, LeaseKey, key_bytes}
 use Rattle.zn_layout.specs.Records.{IsCountRec, IsHeadRec, IsSessionRec}
@@ -23,7 +24,7 @@ use Rattle.zn_updates.specs.declared.seen.SeenCounts.{SeenCounts}
 use Rattle.zn_updates.specs.Choices.{Choice, Refuse, Make, create_choice, delete_choice}
 use Rattle.zn_updates.specs.Deciding.{IsOwnerLookedUp, path_for}
 use Rattle.zn_updates.specs.Layers.{IsChosen}
-use Rattle.zn_updates.specs.Making.{IsDataSeen, IsCountsSeen, IsPathsSeen, chosen_of, has_found}
+use Rattle.zn_updates.specs.Making.{IsDataSeen, IsCountsSeen, IsNodesSeen, chosen_of, has_found}
 
 -- the data of a create or a setData; other parts have none
 abbrev pub part_content : Part → Bytes
@@ -44,7 +45,7 @@ pub record IsCreateSeen (id : ℤ) (v : View) (path : Bytes) (flags : ℤ) (q : 
   pub up : HasSeen v (DataKey q)
   pub counts : HasSeen v (CountsKey q)
   pub nodes : is_ephemeral flags ≡ true → HasSeen v (SessionKey (nat_abs id))
-  pub own : (w : SeenCounts) → IsCountsSeen (sees v (CountsKey q)) (Some w) → HasSeen v (DataKey (path_for (is_sequential flags) path (Some w)))
+  pub own : (x : Option SeenData) (w : SeenCounts) → IsDataSeen (sees v (DataKey q)) x → IsCountsSeen x (sees v (CountsKey q)) (Some w) → HasSeen v (DataKey (path_for (is_sequential flags) path (Some w)))
 
 -- of a delete: the node's record and counts, the parent's counts, and the list of the owner's nodes
 pub record IsDeleteSeen (v : View) (p : Bytes) : Type 0 where
@@ -137,13 +138,13 @@ pub record IsPartChoice (p : Part) (who : Who) (now : ℕ) (v : View) (c : Chose
 
 -- ---- what the code chose on
 
--- these are the node's counts as the view saw them, if they were looked up
-abbrev pub IfCounts : View → Bytes → Option SeenCounts → Type 0
-IfCounts v p x = HasSeen v (CountsKey p) → IsCountsSeen (sees v (CountsKey p)) x
+-- these are the counts of the node with this record as the view saw them, if they were looked up
+abbrev pub IfCounts : View → Bytes → Option SeenData → Option SeenCounts → Type 0
+IfCounts v p x c = HasSeen v (CountsKey p) → IsCountsSeen x (sees v (CountsKey p)) c
 
--- these are the session's nodes as the view saw them, if they were looked up
-abbrev pub IfPaths : View → ℤ → Option (List Bytes) → Type 0
-IfPaths v id ps = HasSeen v (SessionKey (nat_abs id)) → IsPathsSeen (sees v (SessionKey (nat_abs id))) ps
+-- this is the record of the session's nodes as the view saw it, if it was looked up
+abbrev pub IfNodes : View → ℤ → Option SessionRec → Type 0
+IfNodes v id nodes = HasSeen v (SessionKey (nat_abs id)) → IsNodesSeen (sees v (SessionKey (nat_abs id))) nodes
 
 abbrev pub AreCountsWithin : Option SeenCounts → Type 0
 AreCountsWithin x = IfSome x (λ (w : SeenCounts). IsCountRec w.counts)
@@ -152,24 +153,24 @@ AreCountsWithin x = IfSome x (λ (w : SeenCounts). IsCountRec w.counts)
 pub record IsCreatedBelow (v : View) (path content : Bytes) (now : ℕ) (sequential ephemeral : Bool) (session : ℤ) (q : Bytes) (c : Chosen) : Type 0 where
   pub up : Option SeenData
   pub above : Option SeenCounts
-  pub paths : Option (List Bytes)
+  pub nodes : Option SessionRec
   pub up_is : IfData v q up
-  pub above_is : IfCounts v q above
+  pub above_is : IfCounts v q up above
   pub above_within : AreCountsWithin above
-  pub paths_are : ephemeral ≡ true → IfPaths v session paths
-  pub paths_within : IfSome paths IsSessionRec
-  pub is : c ≡ chosen_of (create_choice (path_for sequential path above) q content now ephemeral session up above (has_found (sees v (DataKey (path_for sequential path above)))) paths)
+  pub nodes_are : ephemeral ≡ true → IfNodes v session nodes
+  pub nodes_within : IfSome nodes IsSessionRec
+  pub is : c ≡ chosen_of (create_choice (path_for sequential path above) q content now ephemeral session up above (has_found (sees v (DataKey (path_for sequential path above)))) nodes)
 
 -- what was chosen for a delete of p below q, by records that are what the view saw where it saw them
 pub record IsDeletedBelow (v : View) (p : Bytes) (version : ℤ) (q : Bytes) (c : Chosen) : Type 0 where
   pub node : Option SeenData
   pub counts : Option SeenCounts
   pub above : Option SeenCounts
-  pub paths : Option (List Bytes)
+  pub nodes : Option SessionRec
   pub node_is : IfData v p node
-  pub counts_are : IfCounts v p counts
-  pub above_is : IfCounts v q above
+  pub counts_are : IfCounts v p node counts
+  pub above_is : IfCounts v q None above
   pub above_within : AreCountsWithin above
-  pub paths_are : IfSome node (λ (x : SeenData). (x.owner ≡ pos 0 → ⊥) → IfPaths v x.owner paths)
-  pub paths_within : IfSome paths IsSessionRec
-  pub is : c ≡ chosen_of (delete_choice p q version node counts above paths)
+  pub nodes_are : IfSome node (λ (x : SeenData). (x.owner ≡ pos 0 → ⊥) → IfNodes v x.owner nodes)
+  pub nodes_within : IfSome nodes IsSessionRec
+  pub is : c ≡ chosen_of (delete_choice p q version node counts above nodes)

@@ -11,7 +11,7 @@ use ev_types::Act;
 use std::alloc::Global;
 use zk_model::Path;
 use zn_layout::{NodeRec, SessionRec, data_key, put, session_key, write_node, write_session};
-use zx_base::{Memory, Seq};
+use zx_base::Memory;
 
 /// Puts a node's record with this content, which is copied once. The record that is given has no content.
 pub(crate) fn put_data(
@@ -30,12 +30,12 @@ pub(crate) fn put_data(
     Ok(put(data_key(alloc, path.bytes())?, value))
 }
 
-/// Puts the list of a session's nodes. The session's number is at least 1.
-pub(crate) fn put_owned(alloc: Global, session: i64, paths: Seq<Path>) -> Result<Act, Memory>
+/// Puts the record of a session's nodes. The session's number is at least 1.
+pub(crate) fn put_owned(alloc: Global, session: i64, nodes: &SessionRec) -> Result<Act, Memory>
     requires real { pos 1 ≤ℤ session }
-    requires bounded { IsSessionRec paths }
-    ensures { IfOk result (λ a. a ≡ act_of (owned_put session paths)) }
+    requires bounded { IsSessionRec nodes.now }
+    ensures { IfOk result (λ a. a ≡ act_of (owned_put session nodes.now)) }
 {
-    let value = write_session(alloc, &SessionRec { paths })?;
+    let value = write_session(alloc, nodes)?;
     Ok(put(session_key(alloc, session)?, value))
 }

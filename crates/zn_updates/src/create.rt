@@ -9,14 +9,14 @@ ghost use Rattle.zk_model.specs.declared.reply.PartResult.TheVariants as results
 ghost use Rattle.zn_layout.specs.Begin.{new_record as record_of_new};
 ghost use Rattle.zn_layout.specs.Changes.{acts_of};
 ghost use Rattle.zn_layout.specs.Records.{IsCountRec, IsLongCount, IsNodeRec, IsSessionRec};
-ghost use Rattle.zn_updates.specs.Choices.{changes_with, with_content, create_choice, create_here as creates_here, create_owned as creates_owned, create_changes as changes_of_create, create_triggers as triggers_of_create, one_more as one_more_of};
+ghost use Rattle.zn_updates.specs.Choices.{changes_with, with_content, create_choice, create_here as creates_here, create_owned as creates_owned, create_triggers as triggers_of_create, one_more as one_more_of};
 ghost use Rattle.zn_updates.specs.Making.{IsMade, chosen_of};
 ghost use Rattle.std.specs.Prelude.{nat_abs, IsFalse};
 ghost use Rattle.zk_model.specs.Paths.{is_sequence_prefix};
 ghost use Rattle.zn_layout.specs.Keys.{CountsKey, DataKey, SessionKey};
 ghost use Rattle.zn_view.specs.Lookups.{HasSeen};
 ghost use Rattle.zn_view.specs.Deciding.{IfPlanned, IsToldByForm, is_by_tree};
-ghost use Rattle.zn_updates.specs.Deciding.{IsBySound, IsCreate, IsCreateBelow, IsGuarded, IsOwnPaths, IsUpLookedUp, creates_seen, path_for};
+ghost use Rattle.zn_updates.specs.Deciding.{IsBySound, IsCreate, IsCreateBelow, IsGuarded, AreOwnNodes, IsUpLookedUp, creates_seen, path_for};
 ghost use Rattle.zn_updates.specs.Writing.{WritesAs};
 ghost use Rattle.zk_model.specs.Paths.{parent as parent_of};
 ghost use Rattle.zk_model.specs.declared.request.Request.TheVariants as req;
@@ -28,23 +28,18 @@ use crate::changes::{put_data, put_owned};
 use crate::chosen::{Chosen, Update};
 use crate::form::{Form, create_form};
 use crate::keys::{create_keys, create_wants};
-use crate::owned::placed;
+use crate::owned::with_node;
 use crate::plan::decision;
-use crate::seen::{SeenCounts, SeenNode, counts_seen, data_seen, is_there, paths_seen};
+use crate::seen::{SeenCounts, SeenNode, counts_seen, data_seen, is_there, nodes_seen};
 use ev_types::Act;
 use std::alloc::Global;
 use zk_model::code::{NO_CHILDREN_FOR_EPHEMERALS, NO_NODE, NODE_EXISTS, SYSTEM_ERROR};
 use zk_model::flags::{is_ephemeral, is_sequential};
-use zk_model::limit::{MAX_CREATES, MAX_OWNED};
+use zk_model::limit::MAX_CREATES;
 use zk_model::{Acl, PartResult, Path, Trigger};
-use zn_layout::{CountRec, NodeRec, put_counts};
+use zn_layout::{CountRec, FIRST_COUNTS, NodeRec, SessionRec, has_counts, put_counts};
 use zn_view::{Decision, View, Want, Who, refused};
 use zx_base::{Memory, Seq};
-
-const NO_COUNTS: CountRec = CountRec {
-    creates: 0,
-    children: 0,
-};
 
 /// The parent's counts after the create.
 fn one_more(above: &CountRec) -> CountRec
@@ -76,13 +71,14 @@ fn new_record(alloc: Global, now: u64, owner: i64) -> NodeRec
     }
 }
 
-/// Puts the node's keys, and the parent's counts with one child and one create more.
+/// Puts the node's record, that of its counts where it `has_counts`, and the parent's counts with one child and one create more.
 fn create_acts(
     alloc: Global,
     path: &Path,
     parent: &Path,
     content: &[u8],
     node: &NodeRec,
+    has_counts: bool,
     above: &CountRec,
 ) -> Result<Seq<Act>, Memory>
     requires valid { IsTrue (is_path path.now) }
@@ -91,11 +87,13 @@ fn create_acts(
     requires empty { length node.now.content ≡ 0 }
     requires counted { IsCountRec above.now }
     requires room { int_eq above.now.creates max_creates ≡ false }
-    ensures { IfOk result (λ acts. acts ≡ acts_of (changes_with path.now parent.now (with_content node.now content.now) above.now)) }
+    ensures { IfOk result (λ acts. acts ≡ acts_of (changes_with path.now parent.now (with_content node.now content.now) has_counts above.now)) }
 {
     let mut acts = Seq::new(alloc);
     acts.push(put_data(alloc, path, node, content)?)?;
-    acts.push(put_counts(alloc, path.bytes(), &NO_COUNTS)?)?;
+    if has_counts {
+        acts.push(put_counts(alloc, path.bytes(), &FIRST_COUNTS)?)?;
+    }
     acts.push(put_counts(alloc, parent.bytes(), &one_more(above))?)?;
     Ok(acts)
 }
@@ -110,28 +108,26 @@ fn create_triggers(alloc: Global, path: &Path, parent: &Path) -> Result<Seq<Trig
     Ok(triggers)
 }
 
-/// Creates a node of this owner, 0 for none.
+/// Creates a node with this record.
 fn create_node(
     alloc: Global,
     path: &Path,
     parent: &Path,
     content: &[u8],
-    now: u64,
-    owner: i64,
+    node: &NodeRec,
+    has_counts: bool,
     above: &CountRec,
 ) -> Result<Update, Memory>
     requires valid { IsTrue (is_path path.now) }
     requires parent { IsTrue (is_path parent.now) }
-    requires time { now < 2 ^ 62 }
-    requires short { length content.now ≤ max_frame }
-    requires owned { IsLongCount owner }
+    requires within { IsNodeRec node.now }
+    requires empty { length node.now.content ≡ 0 }
     requires counted { IsCountRec above.now }
     requires room { int_eq above.now.creates max_creates ≡ false }
-    ensures { IfOk result (IsMade (changes_of_create path.now parent.now content.now now owner above.now) (triggers_of_create path.now parent.now) (results.Created path.now)) }
+    ensures { IfOk result (IsMade (changes_with path.now parent.now (with_content node.now content.now) has_counts above.now) (triggers_of_create path.now parent.now) (results.Created path.now)) }
 {
-    let node = new_record(alloc, now, owner);
     Ok(Update {
-        acts: create_acts(alloc, path, parent, content, &node, above)?,
+        acts: create_acts(alloc, path, parent, content, node, has_counts, above)?,
         triggers: create_triggers(alloc, path, parent)?,
         draft: PartResult::Created(Seq::copy_of(alloc, path.bytes())?),
     })
@@ -144,7 +140,7 @@ fn create_owned(
     parent: &Path,
     new: &NewNode<'_>,
     above: &CountRec,
-    paths: Option<Seq<Path>>,
+    nodes: Option<SessionRec>,
 ) -> Result<Chosen, Memory>
     requires valid { IsTrue (is_path path.now) }
     requires parent { IsTrue (is_path parent.now) }
@@ -154,25 +150,20 @@ fn create_owned(
     requires owned { IsLongCount new.now.session }
     requires counted { IsCountRec above.now }
     requires room { int_eq above.now.creates max_creates ≡ false }
-    requires listed { IfSome paths IsSessionRec }
-    ensures { IfOk result (λ c. c ≡ chosen_of (creates_owned path.now parent.now new.now.content.now new.now.time above.now new.now.session paths)) }
+    requires listed { IfSome nodes IsSessionRec }
+    ensures { IfOk result (λ c. c ≡ chosen_of (creates_owned path.now parent.now new.now.content.now new.now.time above.now new.now.session nodes)) }
 {
-    let Some(paths) = paths else {
+    let Some(nodes) = nodes else {
         return Ok(Chosen::Refused(SYSTEM_ERROR));
     };
-    if paths.len() >= MAX_OWNED {
+    if nodes.paths.len() >= nodes.layout.max_owned() {
         return Ok(Chosen::Refused(SYSTEM_ERROR));
     }
-    let mut update = create_node(
-        alloc,
-        path,
-        parent,
-        new.content,
-        new.time,
-        new.session,
-        above,
-    )?;
-    update.acts.push(put_owned(alloc, new.session, placed(alloc, paths, path)?)?)?;
+    let node = new_record(alloc, new.time, new.session);
+    let counted = has_counts(nodes.layout);
+    let mut update = create_node(alloc, path, parent, new.content, &node, counted, above)?;
+    let nodes = with_node(alloc, nodes, path)?;
+    update.acts.push(put_owned(alloc, new.session, &nodes)?)?;
     Ok(Chosen::Made(update))
 }
 
@@ -182,7 +173,7 @@ fn create_here(
     parent: &Path,
     new: &NewNode<'_>,
     above: &CountRec,
-    paths: Option<Seq<Path>>,
+    nodes: Option<SessionRec>,
 ) -> Result<Chosen, Memory>
     requires valid { IsTrue (is_path path.now) }
     requires parent { IsTrue (is_path parent.now) }
@@ -192,16 +183,17 @@ fn create_here(
     requires owned { IsLongCount new.now.session }
     requires counted { IsCountRec above.now }
     requires room { int_eq above.now.creates max_creates ≡ false }
-    requires listed { IfSome paths IsSessionRec }
-    ensures { IfOk result (λ c. c ≡ chosen_of (creates_here path.now parent.now new.now.content.now new.now.time above.now new.now.ephemeral new.now.session paths)) }
+    requires listed { IfSome nodes IsSessionRec }
+    ensures { IfOk result (λ c. c ≡ chosen_of (creates_here path.now parent.now new.now.content.now new.now.time above.now new.now.ephemeral new.now.session nodes)) }
 {
     if new.ephemeral {
-        return create_owned(alloc, path, parent, new, above, paths);
+        return create_owned(alloc, path, parent, new, above, nodes);
     }
-    Ok(Chosen::Made(create_node(alloc, path, parent, new.content, new.time, 0, above)?))
+    let node = new_record(alloc, new.time, 0);
+    Ok(Chosen::Made(create_node(alloc, path, parent, new.content, &node, true, above)?))
 }
 
-/// Decides a create at `path` by what was seen of the parent, by whether the path is `taken`, and for an ephemeral node by the paths
+/// Decides a create at `path` by what was seen of the parent, by whether the path is `taken`, and for an ephemeral node by the record
 /// of the session's nodes. Refused with NoNode, NodeExists or NoChildrenForEphemerals, and with SystemError where the parent or the
 /// session can have no more, or the paths are missing.
 #[tactic(auto, unfolding(crate::specs::Choices::create_choice))]
@@ -212,7 +204,7 @@ pub fn choose_create(
     new: &NewNode<'_>,
     up: &SeenNode,
     taken: bool,
-    paths: Option<Seq<Path>>,
+    nodes: Option<SessionRec>,
 ) -> Result<Chosen, Memory>
     requires valid { IsTrue (is_path path.now) }
     requires parent { IsTrue (is_path parent.now) }
@@ -221,8 +213,8 @@ pub fn choose_create(
     requires real { pos 1 ≤ℤ new.now.session }
     requires owned { IsLongCount new.now.session }
     requires counted { IfSome up.now.counts (λ c. IsCountRec c.counts) }
-    requires listed { IfSome paths IsSessionRec }
-    ensures { IfOk result (λ c. c ≡ chosen_of (create_choice path.now parent.now new.now.content.now new.now.time new.now.ephemeral new.now.session up.now.data up.now.counts taken paths)) }
+    requires listed { IfSome nodes IsSessionRec }
+    ensures { IfOk result (λ c. c ≡ chosen_of (create_choice path.now parent.now new.now.content.now new.now.time new.now.ephemeral new.now.session up.now.data up.now.counts taken nodes)) }
 {
     let Some(data) = &up.data else {
         return Ok(Chosen::Refused(NO_NODE));
@@ -239,7 +231,7 @@ pub fn choose_create(
     if above.counts.creates == MAX_CREATES {
         return Ok(Chosen::Refused(SYSTEM_ERROR));
     }
-    create_here(alloc, path, parent, new, &above.counts, paths)
+    create_here(alloc, path, parent, new, &above.counts, nodes)
 }
 
 /// The path of the new node: a sequence node's ends in the parent's count of creates, 0 where the parent is not there.
@@ -274,15 +266,15 @@ fn creates_of(above: &Option<SeenCounts>) -> Option<u32>
     }
 }
 
-/// The paths of the session's nodes, for an ephemeral node.
-fn own_paths(view: &View, session: i64, ephemeral: bool) -> Result<Option<Seq<Path>>, Memory>
+/// The record of the session's nodes, for an ephemeral node.
+fn own_nodes(view: &View, session: i64, ephemeral: bool) -> Result<Option<SessionRec>, Memory>
     requires real { pos 1 ≤ℤ session }
     requires seen { IsTrue ephemeral → HasSeen view.now (SessionKey (nat_abs session)) }
-    ensures is { IfOk result (IsOwnPaths view.now ephemeral session) }
+    ensures is { IfOk result (AreOwnNodes view.now ephemeral session) }
     ensures within { IfOk result (λ o. IfSome o IsSessionRec) }
 {
     if ephemeral {
-        paths_seen(view, session)
+        nodes_seen(view, session)
     } else {
         Ok(None)
     }
@@ -309,7 +301,7 @@ fn create_at(
     ensures { IfOk result (IsCreateBelow view.now new.now.path.now new.now.content.now new.now.time new.now.sequential new.now.ephemeral new.now.session parent.now) }
 {
     let up = data_seen(view, parent)?;
-    let above = counts_seen(view, parent)?;
+    let above = counts_seen(view, parent, up.as_ref())?;
     let keys = create_keys(
         alloc,
         new.session,
@@ -321,12 +313,12 @@ fn create_at(
     )?;
     let path = path_of(alloc, new.path, named, new.sequential, &above)?;
     let taken = is_there(alloc, view, &path)?;
-    let paths = own_paths(view, new.session, new.ephemeral)?;
+    let nodes = own_nodes(view, new.session, new.ephemeral)?;
     let seen = SeenNode {
         data: up,
         counts: above,
     };
-    let chosen = choose_create(alloc, &path, parent, new, &seen, taken, paths)?;
+    let chosen = choose_create(alloc, &path, parent, new, &seen, taken, nodes)?;
     decision(alloc, view, keys.as_slice(), chosen)
 }
 

@@ -15,7 +15,7 @@ ghost use Rattle.zn_layout.specs.Keys.{CountsKey, DataKey};
 ghost use Rattle.zn_view.specs.Lookups.{HasSeen, sees};
 ghost use Rattle.zn_view.specs.Needs.{AreNeeds, IsWhole};
 ghost use Rattle.zn_view.specs.Deciding.{IfPlanned, IsToldByForm, is_by_tree};
-ghost use Rattle.zn_updates.specs.Deciding.{IsBySound, IsDelete, IsGuarded, IsOwnerLookedUp, IsOwnerPaths, owner_seen};
+ghost use Rattle.zn_updates.specs.Deciding.{IsBySound, IsDelete, IsGuarded, IsOwnerLookedUp, AreOwnerNodes, owner_seen};
 ghost use Rattle.zn_updates.specs.Making.{IsDataSeen};
 ghost use Rattle.zn_updates.specs.declared.seen.SeenData.{SeenData as AnySeenData};
 ghost use Rattle.zn_updates.specs.Writing.{WritesAs};
@@ -24,15 +24,15 @@ use crate::changes::put_owned;
 use crate::chosen::{Chosen, Update};
 use crate::form::inner_path;
 use crate::keys::{delete_keys, delete_wants};
-use crate::owned::without;
+use crate::owned::without_node;
 use crate::plan::decision;
-use crate::seen::{SeenCounts, SeenData, SeenNode, counts_seen, data_seen, paths_seen};
+use crate::seen::{SeenCounts, SeenData, SeenNode, counts_seen, data_seen, nodes_seen};
 use ev_types::Act;
 use std::alloc::Global;
 use zk_model::code::{BAD_ARGUMENTS, BAD_VERSION, NO_NODE, NOT_EMPTY, SYSTEM_ERROR};
 use zk_model::version::matches;
 use zk_model::{PartResult, Path, Trigger};
-use zn_layout::{CountRec, delete_counts, delete_node, put_counts};
+use zn_layout::{CountRec, SessionRec, delete_counts, delete_node, put_counts};
 use zn_view::{Decision, View, Want, Who, refused};
 use zx_base::{Memory, Seq};
 
@@ -48,21 +48,24 @@ fn one_less(above: &CountRec) -> CountRec
     }
 }
 
-/// Deletes the node's keys, and puts the parent's counts with one child less.
+/// Deletes the node's record, that of its counts where it `has_counts`, and puts the parent's counts with one child less.
 fn delete_acts(
     alloc: Global,
     path: &Path,
     parent: &Path,
+    has_counts: bool,
     above: &CountRec,
 ) -> Result<Seq<Act>, Memory>
     requires valid { IsTrue (is_path path.now) }
     requires parent { IsTrue (is_path parent.now) }
     requires counted { IsCountRec above.now }
-    ensures { IfOk result (λ acts. acts ≡ acts_of (changes_of_delete path.now parent.now above.now)) }
+    ensures { IfOk result (λ acts. acts ≡ acts_of (changes_of_delete path.now parent.now has_counts above.now)) }
 {
     let mut acts = Seq::new(alloc);
     acts.push(delete_node(alloc, path.bytes())?)?;
-    acts.push(delete_counts(alloc, path.bytes())?)?;
+    if has_counts {
+        acts.push(delete_counts(alloc, path.bytes())?)?;
+    }
     acts.push(put_counts(alloc, parent.bytes(), &one_less(above))?)?;
     Ok(acts)
 }
@@ -82,15 +85,16 @@ fn delete_plain(
     alloc: Global,
     path: &Path,
     parent: &Path,
+    has_counts: bool,
     above: &CountRec,
 ) -> Result<Update, Memory>
     requires valid { IsTrue (is_path path.now) }
     requires parent { IsTrue (is_path parent.now) }
     requires counted { IsCountRec above.now }
-    ensures { IfOk result (λ u. Chosen.Made u ≡ chosen_of (Make (changes_of_delete path.now parent.now above.now) (triggers_of_delete path.now parent.now) results.Deleted)) }
+    ensures { IfOk result (λ u. Chosen.Made u ≡ chosen_of (Make (changes_of_delete path.now parent.now has_counts above.now) (triggers_of_delete path.now parent.now) results.Deleted)) }
 {
     Ok(Update {
-        acts: delete_acts(alloc, path, parent, above)?,
+        acts: delete_acts(alloc, path, parent, has_counts, above)?,
         triggers: delete_triggers(alloc, path, parent)?,
         draft: PartResult::Deleted,
     })
@@ -101,24 +105,24 @@ fn delete_owned(
     alloc: Global,
     path: &Path,
     parent: &Path,
+    has_counts: bool,
     above: &CountRec,
     owner: i64,
-    paths: Option<Seq<Path>>,
+    nodes: Option<SessionRec>,
 ) -> Result<Chosen, Memory>
     requires valid { IsTrue (is_path path.now) }
     requires parent { IsTrue (is_path parent.now) }
     requires counted { IsCountRec above.now }
     requires real { pos 1 ≤ℤ owner }
-    requires listed { IfSome paths IsSessionRec }
-    ensures { IfOk result (λ c. c ≡ chosen_of (deletes_owned path.now parent.now above.now owner paths)) }
+    requires listed { IfSome nodes IsSessionRec }
+    ensures { IfOk result (λ c. c ≡ chosen_of (deletes_owned path.now parent.now has_counts above.now owner nodes)) }
 {
-    let Some(paths) = paths else {
+    let Some(nodes) = nodes else {
         return Ok(Chosen::Refused(SYSTEM_ERROR));
     };
-    let mut update = delete_plain(alloc, path, parent, above)?;
-    update
-        .acts
-        .push(put_owned(alloc, owner, without(paths, path))?)?;
+    let mut update = delete_plain(alloc, path, parent, has_counts, above)?;
+    let nodes = without_node(nodes, path);
+    update.acts.push(put_owned(alloc, owner, &nodes)?)?;
     Ok(Chosen::Made(update))
 }
 
@@ -127,23 +131,32 @@ fn delete_here(
     path: &Path,
     parent: &Path,
     node: &SeenData,
+    has_counts: bool,
     above: Option<&SeenCounts>,
-    paths: Option<Seq<Path>>,
+    nodes: Option<SessionRec>,
 ) -> Result<Chosen, Memory>
     requires valid { IsTrue (is_path path.now) }
     requires parent { IsTrue (is_path parent.now) }
     requires within { IsDataWithin node.now }
     requires counted { IfSome (option_copied above) (λ c. IsCountRec c.counts) }
-    requires listed { IfSome paths IsSessionRec }
-    ensures { IfOk result (λ c. c ≡ chosen_of (deletes_here path.now parent.now node.now (option_copied above.entry) paths)) }
+    requires listed { IfSome nodes IsSessionRec }
+    ensures { IfOk result (λ c. c ≡ chosen_of (deletes_here path.now parent.now node.now has_counts (option_copied above.entry) nodes)) }
 {
     let Some(above) = above else {
         return Ok(Chosen::Refused(SYSTEM_ERROR));
     };
     if node.owner == 0 {
-        return Ok(Chosen::Made(delete_plain(alloc, path, parent, &above.counts)?));
+        return Ok(Chosen::Made(delete_plain(alloc, path, parent, has_counts, &above.counts)?));
     }
-    delete_owned(alloc, path, parent, &above.counts, node.owner, paths)
+    delete_owned(
+        alloc,
+        path,
+        parent,
+        has_counts,
+        &above.counts,
+        node.owner,
+        nodes,
+    )
 }
 
 /// Decides a delete by the node's record and counts, by its parent's counts, and where it has an owner by the paths of the owner's
@@ -157,14 +170,14 @@ pub fn choose_delete(
     version: i32,
     node: &SeenNode,
     above: Option<&SeenCounts>,
-    paths: Option<Seq<Path>>,
+    nodes: Option<SessionRec>,
 ) -> Result<Chosen, Memory>
     requires valid { IsTrue (is_path path.now) }
     requires parent { IsTrue (is_path parent.now) }
     requires within { IfSome node.now.data IsDataWithin }
     requires counted { IfSome (option_copied above) (λ c. IsCountRec c.counts) }
-    requires listed { IfSome paths IsSessionRec }
-    ensures { IfOk result (λ c. c ≡ chosen_of (delete_choice path.now parent.now version node.now.data node.now.counts (option_copied above.entry) paths)) }
+    requires listed { IfSome nodes IsSessionRec }
+    ensures { IfOk result (λ c. c ≡ chosen_of (delete_choice path.now parent.now version node.now.data node.now.counts (option_copied above.entry) nodes)) }
 {
     let Some(data) = &node.data else {
         return Ok(Chosen::Refused(NO_NODE));
@@ -178,18 +191,18 @@ pub fn choose_delete(
     if counts.counts.children != 0 {
         return Ok(Chosen::Refused(NOT_EMPTY));
     }
-    delete_here(alloc, path, parent, data, above, paths)
+    delete_here(alloc, path, parent, data, counts.is_stored, above, nodes)
 }
 
-/// The paths of the nodes of a node's owner, none where it has no owner.
-fn owner_paths(view: &View, node: &Option<SeenData>) -> Result<Option<Seq<Path>>, Memory>
+/// The record of the nodes of a node's owner, none where it has no owner.
+fn owner_nodes(view: &View, node: &Option<SeenData>) -> Result<Option<SessionRec>, Memory>
     requires within { IfSome node.now IsDataWithin }
     requires seen { IsOwnerLookedUp view.now node.now }
-    ensures is { IfOk result (IsOwnerPaths view.now node.now) }
+    ensures is { IfOk result (AreOwnerNodes view.now node.now) }
     ensures within { IfOk result (λ o. IfSome o IsSessionRec) }
 {
     match node {
-        Some(node) if node.owner != 0 => paths_seen(view, node.owner),
+        Some(node) if node.owner != 0 => nodes_seen(view, node.owner),
         Some(_) | None => Ok(None),
     }
 }
@@ -225,12 +238,12 @@ fn delete_at(
     ensures { IfOk result (IsDelete view.now path.now version session (Some parent.now)) }
 {
     let node = data_seen(view, path)?;
-    let counts = counts_seen(view, path)?;
-    let above = counts_seen(view, parent)?;
-    let paths = owner_paths(view, &node)?;
+    let counts = counts_seen(view, path, node.as_ref())?;
+    let above = counts_seen(view, parent, None)?;
+    let nodes = owner_nodes(view, &node)?;
     let keys = delete_keys(alloc, session, path, parent, owner_of(&node))?;
     let here = SeenNode { data: node, counts };
-    let chosen = choose_delete(alloc, path, parent, version, &here, above.as_ref(), paths)?;
+    let chosen = choose_delete(alloc, path, parent, version, &here, above.as_ref(), nodes)?;
     decision(alloc, view, keys.as_slice(), chosen)
 }
 

@@ -7,10 +7,12 @@ ghost use Rattle.zn_layout.specs.Keys.{CountsKey, DataKey, key_bytes};
 ghost use Rattle.zn_view.specs.Lacking.{lacking};
 ghost use Rattle.zn_view.specs.Lookups.{sees};
 ghost use Rattle.zn_view.specs.Needs.{IsCreatesSeen};
+ghost use Rattle.zn_updates.specs.Deciding.{IsDataFound};
+ghost use Rattle.zn_updates.specs.Seen.{IsDataWithin};
 ghost use Rattle.zn_view.specs.Views.{about_path};
 ghost use Rattle.zn_updates.specs.KeysRead.{create_keys as keys_of_create, numbered, plain_data, session_nodes, with_own, AreCreateWants, IsParentCreates, start_keys as keys_of_each, owner_nodes, set_data_keys as keys_of_set_data, delete_keys as keys_of_delete, IsOwnerSeen};
 
-use crate::seen::{counts_seen, data_seen};
+use crate::seen::{SeenData, counts_seen, data_seen};
 use std::alloc::Global;
 use zk_model::Path;
 use zn_layout::{counts_key, data_key, head_key, lease_key, session_key};
@@ -124,17 +126,26 @@ fn delete_keys_of(
     }
 }
 
+/// The node's record that the view saw: none where the node is not there or its record was not looked up.
+fn data_found(alloc: Global, view: &View, path: &Path) -> Result<Option<SeenData>, Memory>
+    requires { IsTrue (is_path path.now) }
+    ensures is { IfOk result (IsDataFound (sees view.now (DataKey path.now))) }
+    ensures within { IfOk result (λ o. IfSome o IsDataWithin) }
+{
+    let key = data_key(alloc, path.bytes())?;
+    if view.found(key.as_slice()).is_none() {
+        return Ok(None);
+    }
+    data_seen(view, path)
+}
+
 /// The owner that the view saw of a node: 0 where the node has none, is not there, or was not looked up.
 pub fn owner_seen(alloc: Global, view: &View, path: &Path) -> Result<i64, Memory>
     requires { IsTrue (is_path path.now) }
     ensures is { IfOk result (IsOwnerSeen (sees view.now (DataKey path.now))) }
     ensures least { IfOk result (λ owner. pos 0 ≤ℤ owner) }
 {
-    let key = data_key(alloc, path.bytes())?;
-    if view.found(key.as_slice()).is_none() {
-        return Ok(0);
-    }
-    match data_seen(view, path)? {
+    match data_found(alloc, view, path)? {
         Some(node) => Ok(node.owner),
         None => Ok(0),
     }
@@ -190,16 +201,18 @@ pub fn push_session(
     keys.push(session_key(alloc, session)?)
 }
 
-/// How many creates of children the view saw of a node: none where the node is not there, or its counts were not looked up.
+/// How many creates of children the view saw of a node: none where the node is not there, or its record or its counts were not
+/// looked up.
 pub fn creates_seen(alloc: Global, view: &View, path: &Path) -> Result<Option<u32>, Memory>
     requires { IsTrue (is_path path.now) }
-    ensures { IfOk result (IsCreatesSeen (sees view.now (CountsKey path.now))) }
+    ensures { IfOk result (IsCreatesSeen view.now path.now) }
 {
-    let key = counts_key(alloc, path.bytes())?;
-    if view.found(key.as_slice()).is_none() {
+    let counts = counts_key(alloc, path.bytes())?;
+    if view.found(counts.as_slice()).is_none() {
         return Ok(None);
     }
-    match counts_seen(view, path)? {
+    let node = data_found(alloc, view, path)?;
+    match counts_seen(view, path, node.as_ref())? {
         Some(seen) => Ok(Some(seen.counts.creates.unsigned_abs())),
         None => Ok(None),
     }

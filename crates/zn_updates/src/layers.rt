@@ -1,21 +1,21 @@
 //! What a view shows of a node and of a session, with another view laid over it: the keys that the earlier parts of a multi wrote.
 
-ghost use Rattle.std.specs.Prelude.{◌≡◌, ◌≤ℤ◌, None, pos, nat_abs, IfOk, IfSome, IsTrue, MatchOption};
+ghost use Rattle.std.specs.Prelude.{◌≡◌, ◌≤ℤ◌, None, pos, nat_abs, option_copied, IfOk, IfSome, IsTrue, MatchOption};
 ghost use Rattle.zk_model.specs.Paths.{is_path};
 ghost use Rattle.zn_layout.specs.Keys.{DataKey, CountsKey, SessionKey};
 ghost use Rattle.zn_layout.specs.Records.{IsCountRec, IsSessionRec};
 ghost use Rattle.zn_view.specs.Lookups.{HasSeen, sees};
 ghost use Rattle.zn_view.specs.Seen.{seen};
 ghost use Rattle.zn_updates.specs.Layers.{layered};
-ghost use Rattle.zn_updates.specs.Making.{IsDataSeen, IsCountsSeen, IsPathsSeen, has_found};
+ghost use Rattle.zn_updates.specs.Making.{IsDataSeen, IsCountsSeen, IsNodesSeen, has_found};
 ghost use Rattle.zn_updates.specs.Seen.{IsDataWithin};
 
-use crate::seen::{SeenCounts, SeenData, counts_seen, data_seen, is_there, paths_seen};
+use crate::seen::{SeenCounts, SeenData, counts_seen, data_seen, is_there, nodes_seen};
 use std::alloc::Global;
 use zk_model::Path;
-use zn_layout::{counts_key, data_key, session_key};
+use zn_layout::{SessionRec, counts_key, data_key, session_key};
 use zn_view::View;
-use zx_base::{Memory, Seq};
+use zx_base::Memory;
 
 /// The view that shows a key: the upper one where that saw it, otherwise the lower one; none where neither did.
 fn showing<'a>(over: &'a View, view: &'a View, key: &[u8]) -> Option<&'a View>
@@ -48,39 +48,40 @@ pub fn data_over(
     }
 }
 
-/// A node's counts: none where the node is not there, or neither view saw their key.
+/// The counts of this node: none where neither it nor a record of its counts is there, or neither view saw their key.
 pub fn counts_over(
     alloc: Global,
     over: &View,
     view: &View,
     path: &Path,
+    node: Option<&SeenData>,
 ) -> Result<Option<SeenCounts>, Memory>
     requires valid { IsTrue (is_path path.now) }
-    ensures is { IfOk result (λ o. HasSeen (layered over.now view.now) (CountsKey path.now) → IsCountsSeen (sees (layered over.now view.now) (CountsKey path.now)) o) }
+    ensures is { IfOk result (λ o. HasSeen (layered over.now view.now) (CountsKey path.now) → IsCountsSeen (option_copied node.entry) (sees (layered over.now view.now) (CountsKey path.now)) o) }
     ensures within { IfOk result (λ o. IfSome o (λ x. IsCountRec x.counts)) }
 {
     let key = counts_key(alloc, path.bytes())?;
     match showing(over, view, key.as_slice()) {
-        Some(view) => counts_seen(view, path),
+        Some(view) => counts_seen(view, path, node),
         None => Ok(None),
     }
 }
 
-/// The paths of a session's nodes, as `view` shows them with `over` laid over it: none where the session has no list of them, or
-/// neither view saw its key. The session's number is at least 1.
-pub fn paths_over(
+/// The record of a session's nodes, as `view` shows it with `over` laid over it: none where it is not there, or neither view saw its
+/// key. The session's number is at least 1.
+pub fn nodes_over(
     alloc: Global,
     over: &View,
     view: &View,
     session: i64,
-) -> Result<Option<Seq<Path>>, Memory>
+) -> Result<Option<SessionRec>, Memory>
     requires real { pos 1 ≤ℤ session }
-    ensures is { IfOk result (λ o. HasSeen (layered over.now view.now) (SessionKey (nat_abs session)) → IsPathsSeen (sees (layered over.now view.now) (SessionKey (nat_abs session))) o) }
+    ensures is { IfOk result (λ o. HasSeen (layered over.now view.now) (SessionKey (nat_abs session)) → IsNodesSeen (sees (layered over.now view.now) (SessionKey (nat_abs session))) o) }
     ensures within { IfOk result (λ o. IfSome o IsSessionRec) }
 {
     let key = session_key(alloc, session)?;
     match showing(over, view, key.as_slice()) {
-        Some(view) => paths_seen(view, session),
+        Some(view) => nodes_seen(view, session),
         None => Ok(None),
     }
 }

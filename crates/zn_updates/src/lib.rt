@@ -42,7 +42,7 @@ pub use form::{Form, create_form, inner_path};
 pub use keys::{
     creates_seen, owner_seen, push_data, push_node, push_owner, push_session, start_keys,
 };
-pub use layers::{data_over, paths_over};
+pub use layers::{data_over, nodes_over};
 pub use part::choose_part;
 pub use requests::{decide_update, update_needs};
 pub use seen::{SeenCounts, SeenData, SeenNode};

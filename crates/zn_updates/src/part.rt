@@ -6,7 +6,7 @@ ghost use Rattle.zk_model.specs.Paths.{is_path, is_sequence_prefix};
 ghost use Rattle.zk_model.specs.declared.request.Part.TheVariants as parts;
 ghost use Rattle.zn_updates.specs.Layers.{layered};
 ghost use Rattle.zn_updates.specs.Making.{chosen_of};
-ghost use Rattle.zn_updates.specs.Parts.{check_choice, part_content, IsCreatedBelow, IsDeletedBelow, IsPartChoice, IfPaths};
+ghost use Rattle.zn_updates.specs.Parts.{check_choice, part_content, IsCreatedBelow, IsDeletedBelow, IsPartChoice, IfNodes};
 ghost use Rattle.zn_updates.specs.Seen.{IsDataWithin};
 ghost use Rattle.zn_layout.specs.Records.{IsSessionRec};
 ghost use Rattle.zn_view.specs.declared.plan.Who.{Who as AnyWho};
@@ -17,7 +17,7 @@ use crate::chosen::{Chosen, Update};
 use crate::create::{choose_create, path_of};
 use crate::delete::choose_delete;
 use crate::form::{Form, create_form, inner_path};
-use crate::layers::{counts_over, data_over, is_there_over, paths_over};
+use crate::layers::{counts_over, data_over, is_there_over, nodes_over};
 use crate::seen::{SeenData, SeenNode};
 use crate::set_data::choose_set_data;
 use std::alloc::Global;
@@ -25,23 +25,24 @@ use zk_model::code::{BAD_ARGUMENTS, BAD_VERSION, NO_NODE, NODE_EXISTS};
 use zk_model::flags::{is_ephemeral, is_sequential};
 use zk_model::version::matches;
 use zk_model::{Part, PartResult, Path, read_path};
+use zn_layout::SessionRec;
 use zn_view::{View, Who};
 use zx_base::{Memory, Seq};
 
-/// The paths of the session's nodes, for an ephemeral node.
-fn own_paths_over(
+/// The record of the session's nodes, for an ephemeral node.
+fn own_nodes_over(
     alloc: Global,
     over: &View,
     view: &View,
     session: i64,
     ephemeral: bool,
-) -> Result<Option<Seq<Path>>, Memory>
+) -> Result<Option<SessionRec>, Memory>
     requires real { pos 1 ≤ℤ session }
-    ensures is { IfOk result (λ o. ephemeral ≡ true → IfPaths (layered over.now view.now) session o) }
+    ensures is { IfOk result (λ o. ephemeral ≡ true → IfNodes (layered over.now view.now) session o) }
     ensures within { IfOk result (λ o. IfSome o IsSessionRec) }
 {
     if ephemeral {
-        paths_over(alloc, over, view, session)
+        nodes_over(alloc, over, view, session)
     } else {
         Ok(None)
     }
@@ -65,15 +66,15 @@ fn created_below(
     ensures { IfOk result (IsCreatedBelow (layered over.now view.now) new.now.path.now new.now.content.now new.now.time new.now.sequential new.now.ephemeral new.now.session parent.now) }
 {
     let up = data_over(alloc, over, view, parent)?;
-    let above = counts_over(alloc, over, view, parent)?;
+    let above = counts_over(alloc, over, view, parent, up.as_ref())?;
     let path = path_of(alloc, new.path, named, new.sequential, &above)?;
     let taken = is_there_over(alloc, over, view, &path)?;
-    let paths = own_paths_over(alloc, over, view, new.session, new.ephemeral)?;
+    let nodes = own_nodes_over(alloc, over, view, new.session, new.ephemeral)?;
     let seen = SeenNode {
         data: up,
         counts: above,
     };
-    choose_create(alloc, &path, parent, new, &seen, taken, paths)
+    choose_create(alloc, &path, parent, new, &seen, taken, nodes)
 }
 
 fn created(
@@ -109,19 +110,19 @@ fn created(
     }
 }
 
-/// The paths of the nodes of a node's owner, none where it has no owner.
-fn owner_paths_over(
+/// The record of the nodes of a node's owner, none where it has no owner.
+fn owner_nodes_over(
     alloc: Global,
     over: &View,
     view: &View,
     node: &Option<SeenData>,
-) -> Result<Option<Seq<Path>>, Memory>
+) -> Result<Option<SessionRec>, Memory>
     requires within { IfSome node.now IsDataWithin }
-    ensures is { IfOk result (λ o. IfSome node.now (λ x. (x.owner ≡ pos 0 → ⊥) → IfPaths (layered over.now view.now) x.owner o)) }
+    ensures is { IfOk result (λ o. IfSome node.now (λ x. (x.owner ≡ pos 0 → ⊥) → IfNodes (layered over.now view.now) x.owner o)) }
     ensures within { IfOk result (λ o. IfSome o IsSessionRec) }
 {
     match node {
-        Some(node) if node.owner != 0 => paths_over(alloc, over, view, node.owner),
+        Some(node) if node.owner != 0 => nodes_over(alloc, over, view, node.owner),
         Some(_) | None => Ok(None),
     }
 }
@@ -139,11 +140,11 @@ fn deleted_below(
     ensures { IfOk result (IsDeletedBelow (layered over.now view.now) path.now version parent.now) }
 {
     let node = data_over(alloc, over, view, path)?;
-    let counts = counts_over(alloc, over, view, path)?;
-    let above = counts_over(alloc, over, view, parent)?;
-    let paths = owner_paths_over(alloc, over, view, &node)?;
+    let counts = counts_over(alloc, over, view, path, node.as_ref())?;
+    let above = counts_over(alloc, over, view, parent, None)?;
+    let nodes = owner_nodes_over(alloc, over, view, &node)?;
     let here = SeenNode { data: node, counts };
-    choose_delete(alloc, path, parent, version, &here, above.as_ref(), paths)
+    choose_delete(alloc, path, parent, version, &here, above.as_ref(), nodes)
 }
 
 fn deleted(
@@ -183,7 +184,7 @@ fn set(
     match read_path(alloc, path, false)? {
         Some(path) => {
             let node = data_over(alloc, over, view, &path)?;
-            let counts = counts_over(alloc, over, view, &path)?;
+            let counts = counts_over(alloc, over, view, &path, node.as_ref())?;
             choose_set_data(
                 alloc,
                 &path,

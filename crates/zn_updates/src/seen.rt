@@ -2,20 +2,20 @@
 //!
 //! A zxid of 0 is that of the update itself: a multi decides a part on what the parts before it left.
 
-ghost use Rattle.std.specs.Prelude.{◌≡◌, ◌≤◌, ◌≤ℤ◌, pos, nat_abs, IfOk, IfSome, IsTrue};
+ghost use Rattle.std.specs.Prelude.{◌≡◌, ◌≤◌, ◌≤ℤ◌, pos, nat_abs, option_copied, IfOk, IfSome, IsTrue};
 ghost use Rattle.zk_model.specs.Paths.{is_path};
 ghost use Rattle.zn_layout.specs.Keys.{DataKey, CountsKey, SessionKey};
 ghost use Rattle.zn_layout.specs.Records.{IsCountRec, IsLongCount, IsSessionRec};
 ghost use Rattle.zn_layout.specs.StandsFor.{czxid_of};
 ghost use Rattle.zn_view.specs.Lookups.{HasSeen, sees};
-ghost use Rattle.zn_updates.specs.Making.{IsDataSeen, IsCountsSeen, IsPathsSeen, has_found};
+ghost use Rattle.zn_updates.specs.Making.{IsDataSeen, IsCountsSeen, IsNodesSeen, has_found, uncounted};
 ghost use Rattle.zn_updates.specs.Seen.{IsDataWithin};
 
 use std::alloc::Global;
 use zk_model::Path;
-use zn_layout::{CountRec, data_key};
+use zn_layout::{CountRec, FIRST_COUNTS, SessionRec, data_key};
 use zn_view::View;
-use zx_base::{Memory, Seq};
+use zx_base::Memory;
 
 /// A node's record without its content and the time of its last change.
 #[derive(Clone, Copy)]
@@ -36,6 +36,8 @@ pub struct SeenCounts {
     pub counts: CountRec,
     /// 0 is the zxid of the update itself.
     pub pzxid: i64,
+    /// Whether there is a record of them. A node without one has had no children since its create.
+    pub is_stored: bool,
 }
 
 /// A node's record and its counts, each none where the node is not there.
@@ -74,34 +76,47 @@ pub fn data_seen(view: &View, path: &Path) -> Result<Option<SeenData>, Memory>
     }))
 }
 
-/// The node's counts that the view saw: none where the node is not there. Their key was looked up.
-pub fn counts_seen(view: &View, path: &Path) -> Result<Option<SeenCounts>, Memory>
-    requires valid { IsTrue (is_path path.now) }
-    requires seen { HasSeen view.now (CountsKey path.now) }
-    ensures is { IfOk result (λ o. IsCountsSeen (sees view.now (CountsKey path.now)) o) }
-    ensures within { IfOk result (λ o. IfSome o (λ x. IsCountRec x.counts)) }
+/// The counts of a node without a record of them.
+fn no_counts(node: &SeenData) -> SeenCounts
+    ensures { result ≡ uncounted node.now }
 {
-    let Some((counts, kv)) = view.counts_at(path.bytes())? else {
-        return Ok(None);
-    };
-    Ok(Some(SeenCounts {
-        counts,
-        pzxid: kv.mod_revision,
-    }))
+    SeenCounts {
+        counts: FIRST_COUNTS,
+        pzxid: node.czxid,
+        is_stored: false,
+    }
 }
 
-/// The paths of a session's nodes that the view saw: none where the session has no list of them. The key of the list was looked
-/// up; the session's number is at least 1.
-pub fn paths_seen(view: &View, session: i64) -> Result<Option<Seq<Path>>, Memory>
+/// The counts that the view saw of this node: none where neither it nor a record of its counts is there. Their key was looked up.
+pub fn counts_seen(
+    view: &View,
+    path: &Path,
+    node: Option<&SeenData>,
+) -> Result<Option<SeenCounts>, Memory>
+    requires valid { IsTrue (is_path path.now) }
+    requires seen { HasSeen view.now (CountsKey path.now) }
+    ensures is { IfOk result (λ o. IsCountsSeen (option_copied node.entry) (sees view.now (CountsKey path.now)) o) }
+    ensures within { IfOk result (λ o. IfSome o (λ x. IsCountRec x.counts)) }
+{
+    match view.counts_at(path.bytes())? {
+        Some((counts, kv)) => Ok(Some(SeenCounts {
+            counts,
+            pzxid: kv.mod_revision,
+            is_stored: true,
+        })),
+        None => Ok(node.map(no_counts)),
+    }
+}
+
+/// The record of a session's nodes that the view saw: none where it is not there. Its key was looked up; the session's number is
+/// at least 1.
+pub fn nodes_seen(view: &View, session: i64) -> Result<Option<SessionRec>, Memory>
     requires real { pos 1 ≤ℤ session }
     requires seen { HasSeen view.now (SessionKey (nat_abs session)) }
-    ensures is { IfOk result (λ o. IsPathsSeen (sees view.now (SessionKey (nat_abs session))) o) }
+    ensures is { IfOk result (λ o. IsNodesSeen (sees view.now (SessionKey (nat_abs session))) o) }
     ensures within { IfOk result (λ o. IfSome o IsSessionRec) }
 {
-    match view.nodes_of(session)? {
-        None => Ok(None),
-        Some(nodes) => Ok(Some(nodes.paths)),
-    }
+    view.nodes_of(session)
 }
 
 /// Whether the view saw that a node is there: `false` too where its record was not looked up.

@@ -183,7 +183,7 @@ fn set_data_at(
     ensures { IfOk result (IsSetData view.now path.now content.now version now session) }
 {
     let node = data_seen(view, path)?;
-    let counts = counts_seen(view, path)?;
+    let counts = counts_seen(view, path, node.as_ref())?;
     let chosen = choose_set_data(
         alloc,
         path,

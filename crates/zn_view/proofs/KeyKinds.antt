@@ -8,7 +8,7 @@ use Rattle.zx_base.proofs.MapLaws.{same-true}
 use Rattle.zn_layout.specs.Keys.{Key, HeadKey, DataKey, CountsKey, SessionKey, LeaseKey, key_bytes}
 use Rattle.zn_layout.specs.declared.record.HeadRec.{HeadRec}
 use Rattle.zn_layout.specs.declared.record.SessionRec.{SessionRec}
-use Rattle.zn_layout.specs.Reading.{IsSomeValue, IsReadAs, head_bytes, IsHeadWithin, session_bytes, IsSessionWithin}
+use Rattle.zn_layout.specs.Reading.{IsSomeValue, IsReadAs, head_bytes, IsHeadWithin}
 use Rattle.zn_layout.specs.Records.{session_value, IsSessionRec}
 use Rattle.zn_view.specs.declared.snapshot.SeenKey.{SeenKey}
 use Rattle.zn_view.specs.Lookups.{IsNodesIn}
@@ -57,11 +57,11 @@ layout-found k key None e h = tt
 layout-found k key (Some kv) e h = found-of_kind k kv (subst (λ (l : Bytes). IsFound l kv) e h)
 
 -- the nodes of a session, read from the value that was found
-pub nodes-read : (o : Option Kv) (kv : Kv) (r : Option SessionRec) → o ≡ Some kv → IfSome o (λ (x : Kv). IsSomeValue session_value IsSessionRec x.value) → IsReadAs session_bytes IsSessionWithin kv.value r
-    → MatchOption r (o ≡ None) (λ n. (x : Kv) × (o ≡ Some x) × IsNodesIn x n.paths)
+pub nodes-read : (o : Option Kv) (kv : Kv) (r : Option SessionRec) → o ≡ Some kv → IfSome o (λ (x : Kv). IsSomeValue session_value IsSessionRec x.value) → IsReadAs session_value IsSessionRec kv.value r
+    → MatchOption r (o ≡ None) (λ n. (x : Kv) × (o ≡ Some x) × IsNodesIn x n)
 nodes-read o kv None e h none =
     let some : IsSomeValue session_value IsSessionRec kv.value = subst (λ (p : Option Kv). IfSome p (λ (x : Kv). IsSomeValue session_value IsSessionRec x.value)) e h in
-    absurd (none (record { paths = some.0 }) some.1.0 some.1.1)
+    absurd (none some.0 some.1.0 some.1.1)
 nodes-read o kv (Some n) e h is = (kv, e, is)
 
 -- ---- whether a value is a record of a kind
@@ -76,6 +76,6 @@ pub head-told : (v : Bytes) (o : Option HeadRec) (b : Bool) → b ≡ is_some o 
 head-told v (Some r) b e h = subst (λ (x : Bool). IsTrue x ↔ IsOfKind (Some Head) v) (sym e) (yes (r.triggers, h))
 head-told v None b e h = subst (λ (x : Bool). IsTrue x ↔ IsOfKind (Some Head) v) (sym e) (no (λ s. h (record { triggers = s.0 }) s.1.0 s.1.1))
 
-pub nodes-told : (v : Bytes) (o : Option SessionRec) (b : Bool) → b ≡ is_some o → IsReadAs session_bytes IsSessionWithin v o → IsTrue b ↔ IsOfKind (Some Nodes) v
-nodes-told v (Some r) b e h = subst (λ (x : Bool). IsTrue x ↔ IsOfKind (Some Nodes) v) (sym e) (yes (r.paths, h))
-nodes-told v None b e h = subst (λ (x : Bool). IsTrue x ↔ IsOfKind (Some Nodes) v) (sym e) (no (λ s. h (record { paths = s.0 }) s.1.0 s.1.1))
+pub nodes-told : (v : Bytes) (o : Option SessionRec) (b : Bool) → b ≡ is_some o → IsReadAs session_value IsSessionRec v o → IsTrue b ↔ IsOfKind (Some Nodes) v
+nodes-told v (Some r) b e h = subst (λ (x : Bool). IsTrue x ↔ IsOfKind (Some Nodes) v) (sym e) (yes (r, h))
+nodes-told v None b e h = subst (λ (x : Bool). IsTrue x ↔ IsOfKind (Some Nodes) v) (sym e) (no (λ s. h s.0 s.1.0 s.1.1))

@@ -1,23 +1,26 @@
 -- What the parts of a multi leave on a view, they leave on every view that sees more. So a view determines it.
-use Rattle.std.proofs.Common.{◌≡◌, ℕ, ℤ, pos, Bool, true, false, List, [], ◌∷◌, length, Option, Some, None, refl, sym, ap, ◌∙◌, subst, ◌⊎◌, inl, inr}
+use Rattle.std.proofs.Common.{◌≡◌, ℕ, ℤ, pos, Bool, true, false, List, [], ◌∷◌, length, Option, Some, None, refl, sym, ap, ◌∙◌, subst, ◌-◌, ◌⊎◌, inl, inr}
 use Rattle.std.specs.Prelude.{MatchOption, int_lt, is_some, nat_abs, option_map, if◌then◌else◌}
 use Rattle.std.proofs.lemmas.Bool.{and_from, and_parts, true≢false}
 use Rattle.ev_types.specs.declared.answer.Kv.{Kv}
 use Rattle.zk_model.specs.declared.request.Part.{Part}
 use Rattle.zk_model.specs.declared.request.Part.TheVariants as part
+use Rattle.zk_model.specs.Limits.{max_owned}
 use Rattle.zk_model.specs.Paths.{is_child, parent}
 use Rattle.zk_model.specs.Single.{form_refusal, is_ephemeral, is_sequential, named}
 use Rattle.zx_base.specs.Maps.{Bytes, same}
 use Rattle.zx_base.proofs.Options.{some_is, some_none}
 use Rattle.zn_layout.specs.declared.record.CountRec.{CountRec}
 use Rattle.zn_layout.specs.declared.record.NodeRec.{NodeRec}
+use Rattle.zn_layout.specs.declared.record.SessionRec.{SessionRec}
+use Rattle.zn_layout.specs.Begin.{first_counts}
 use Rattle.zn_layout.specs.Keys.{Key, CountsKey, DataKey, SessionKey, key_bytes}
 use Rattle.zn_layout.proofs.ListRecords.{session_value-injective}
 use Rattle.zn_layout.proofs.Nodes.{counts_value-injective, node_value-injective}
 use Rattle.zn_view.specs.declared.leaving.NodeNow.{NodeNow}
 use Rattle.zn_view.specs.declared.leaving.TreeChange.{TreeChange}
 use Rattle.zn_view.specs.declared.leaving.TreeChange.TheVariants.{Created, Deleted, DataSet}
-use Rattle.zn_view.specs.Leaving.{are_seen, counts_after, counts_with, create_change, delete_change, is_checked, is_owner_seen, node_after, node_now, node_path, node_with, one_child_less, one_child_more, owned_after, owner_of, set_change, set_once, with_change, AreCountsNow, AreCountsShown, CheckLeaves, CreateLeaves, DeleteLeaves, IsLeft, IsLeftBy, IsNodeNow, IsNodeShown, IsOwnedFor, IsOwnedNow, IsOwnedShown, NodeLeaves, PartLeaves, SetLeaves}
+use Rattle.zn_view.specs.Leaving.{are_seen, counted, counts_after, counts_with, create_change, delete_change, is_checked, is_owner_seen, node_after, node_now, node_path, node_with, one_child_less, one_child_more, room_after, owner_of, set_change, set_once, with_change, AreCountsNow, AreCountsShown, CheckLeaves, CreateLeaves, DeleteLeaves, IsLeft, IsLeftBy, IsNodeNow, IsNodeShown, IsRoomFor, IsRoomNow, IsRoomShown, NodeLeaves, PartLeaves, SetLeaves}
 use Rattle.zn_view.specs.Seen.{View, seen}
 use Rattle.zn_view.specs.Views.{counts_of_parent}
 
@@ -66,6 +69,15 @@ counts_after_sooner : (p : Bytes) (changes : List TreeChange) (a b : Option (Opt
 counts_after_sooner p [] a b h = h
 counts_after_sooner p (e ∷ changes) a b h = counts_after_sooner p changes (counts_with p a e) (counts_with p b e) (counts_with_sooner p e a b h)
 
+counted_sooner : (n m : Option (Option NodeNow)) (c d : Option (Option CountRec)) → Sooner n m → Sooner c d → Sooner (counted n c) (counted m d)
+counted_sooner n m c d h (inl e) = inl (ap (counted n) e)
+counted_sooner n m c d h (inr e) = subst (λ (x : Option (Option CountRec)). Sooner (counted n c) (counted m x)) e (same_counts c)
+  where
+    same_counts : (x : Option (Option CountRec)) → Sooner (counted n x) (counted m x)
+    same_counts None = inl refl
+    same_counts (Some None) = map_sooner (option_map (λ (k : NodeNow). first_counts)) n m h
+    same_counts (Some (Some x)) = inr refl
+
 -- ---- what is shown is one
 
 node_shown_same : (o : Option Kv) (a b : Option (Option NodeNow)) → IsNodeShown (Some o) a → IsNodeShown (Some o) b → a ≡ b
@@ -76,9 +88,9 @@ counts_shown_same : (o : Option Kv) (a b : Option (Option CountRec)) → AreCoun
 counts_shown_same None a b h g = h ∙ sym g
 counts_shown_same (Some kv) a b (r, i, e) (t, j, f) = e ∙ ap (λ (y : CountRec). Some (Some y)) (counts_value-injective r t i.0 j.0 (sym i.1 ∙ j.1)) ∙ sym f
 
-owned_shown_same : (o : Option Kv) (a b : Option ℕ) → IsOwnedShown (Some o) a → IsOwnedShown (Some o) b → a ≡ b
-owned_shown_same None a b h g = h ∙ sym g
-owned_shown_same (Some kv) a b (r, i, e) (t, j, f) = e ∙ ap (λ (y : List Bytes). Some (length y)) (session_value-injective r t i.0 j.0 (sym i.1 ∙ j.1)) ∙ sym f
+room_shown_same : (o : Option Kv) (a b : Option ℕ) → IsRoomShown (Some o) a → IsRoomShown (Some o) b → a ≡ b
+room_shown_same None a b h g = h ∙ sym g
+room_shown_same (Some kv) a b (r, i, e) (t, j, f) = e ∙ ap (λ (y : SessionRec). Some (max_owned y.layout - length y.paths)) (session_value-injective r t i.0 j.0 (sym i.1 ∙ j.1)) ∙ sym f
 
 -- ---- changes, by what was looked up
 
@@ -99,20 +111,20 @@ module _ (p : Bytes) (owner : ℤ) where
   no_node (Some (Some up)) (Some None) d = refl
   no_node (Some (Some up)) (Some (Some counts)) d = refl
 
-  no_owned : (a : Option (Option NodeNow)) (b : Option (Option CountRec)) (c : Option (Option NodeNow)) → create_change p owner a b c None ≡ None
-  no_owned None b c = refl
-  no_owned (Some None) b c = refl
-  no_owned (Some (Some up)) None c = refl
-  no_owned (Some (Some up)) (Some None) c = refl
-  no_owned (Some (Some up)) (Some (Some counts)) None = refl
-  no_owned (Some (Some up)) (Some (Some counts)) (Some None) = refl
-  no_owned (Some (Some up)) (Some (Some counts)) (Some (Some n)) = refl
+  no_room : (a : Option (Option NodeNow)) (b : Option (Option CountRec)) (c : Option (Option NodeNow)) → create_change p owner a b c None ≡ None
+  no_room None b c = refl
+  no_room (Some None) b c = refl
+  no_room (Some (Some up)) None c = refl
+  no_room (Some (Some up)) (Some None) c = refl
+  no_room (Some (Some up)) (Some (Some counts)) None = refl
+  no_room (Some (Some up)) (Some (Some counts)) (Some None) = refl
+  no_room (Some (Some up)) (Some (Some counts)) (Some (Some n)) = refl
 
   create_sooner : (a x : Option (Option NodeNow)) (b y : Option (Option CountRec)) (c z : Option (Option NodeNow)) (d w : Option ℕ) → Sooner a x → Sooner b y → Sooner c z → Sooner d w → Sooner (create_change p owner a b c d) (create_change p owner x y z w)
   create_sooner a x b y c z d w (inl e) f g h = inl (ap (λ (o : Option (Option NodeNow)). create_change p owner o b c d) e)
   create_sooner a x b y c z d w (inr e) (inl f) g h = inl (ap (λ (o : Option (Option CountRec)). create_change p owner a o c d) f ∙ no_counts a c d)
   create_sooner a x b y c z d w (inr e) (inr f) (inl g) h = inl (ap (λ (o : Option (Option NodeNow)). create_change p owner a b o d) g ∙ no_node a b d)
-  create_sooner a x b y c z d w (inr e) (inr f) (inr g) (inl h) = inl (ap (λ (o : Option ℕ). create_change p owner a b c o) h ∙ no_owned a b c)
+  create_sooner a x b y c z d w (inr e) (inr f) (inr g) (inl h) = inl (ap (λ (o : Option ℕ). create_change p owner a b c o) h ∙ no_room a b c)
   create_sooner a x b y c z d w (inr e) (inr f) (inr g) (inr h) = inr (λ i. create_change p owner (e i) (f i) (g i) (h i))
 
 path_sooner : (sequential : Bool) (path : Bytes) (a b : Option (Option CountRec)) → Sooner a b → Sooner (node_path sequential path a) (node_path sequential path b)
@@ -135,13 +147,14 @@ module _ (v u : View) (grows : (k : Bytes) (o : Option Kv) → seen v k ≡ Some
   node_sooner changes p a b (x, s, e) (y, t, f) = moved a b _ _ e f (node_after_sooner p changes x y (by_seen IsNodeShown (λ c h. h) node_shown_same (key_bytes (DataKey p)) x y s t))
 
   pub counts_sooner : (changes : List TreeChange) (p : Bytes) (a b : Option (Option CountRec)) → AreCountsNow v changes p a → AreCountsNow u changes p b → Sooner a b
-  counts_sooner changes p a b (x, s, e) (y, t, f) = moved a b _ _ e f (counts_after_sooner p changes x y (by_seen AreCountsShown (λ c h. h) counts_shown_same (key_bytes (CountsKey p)) x y s t))
+  counts_sooner changes p a b (n, x, r, s, e) (m, y, q, t, f) = moved a b _ _ e f (counts_after_sooner p changes (counted n x) (counted m y)
+      (counted_sooner n m x y (by_seen IsNodeShown (λ c h. h) node_shown_same (key_bytes (DataKey p)) n m r q) (by_seen AreCountsShown (λ c h. h) counts_shown_same (key_bytes (CountsKey p)) x y s t)))
 
-  owned_sooner : (changes : List TreeChange) (id : ℤ) (a b : Option ℕ) → IsOwnedNow v changes id a → IsOwnedNow u changes id b → Sooner a b
-  owned_sooner changes id a b (x, s, e) (y, t, f) = moved a b _ _ e f (map_sooner (owned_after changes id) x y (by_seen IsOwnedShown (λ c h. h) owned_shown_same (key_bytes (SessionKey (nat_abs id))) x y s t))
+  room_sooner : (changes : List TreeChange) (id : ℤ) (a b : Option ℕ) → IsRoomNow v changes id a → IsRoomNow u changes id b → Sooner a b
+  room_sooner changes id a b (x, s, e) (y, t, f) = moved a b _ _ e f (map_sooner (room_after changes id) x y (by_seen IsRoomShown (λ c h. h) room_shown_same (key_bytes (SessionKey (nat_abs id))) x y s t))
 
-  for_sooner : (changes : List TreeChange) (ephemeral : Bool) (id : ℤ) (a b : Option ℕ) → IsOwnedFor v changes ephemeral id a → IsOwnedFor u changes ephemeral id b → Sooner a b
-  for_sooner changes true id a b h g = owned_sooner changes id a b h g
+  for_sooner : (changes : List TreeChange) (ephemeral : Bool) (id : ℤ) (a b : Option ℕ) → IsRoomFor v changes ephemeral id a → IsRoomFor u changes ephemeral id b → Sooner a b
+  for_sooner changes true id a b h g = room_sooner changes id a b h g
   for_sooner changes false id a b h g = inr (h ∙ sym g)
 
   still_seen : (k : Bytes) → is_some (seen v k) ≡ true → is_some (seen u k) ≡ true

@@ -1,5 +1,5 @@
 -- A plan puts no key that is there and not guarded, where each of its changes is accounted for.
-use Rattle.std.proofs.Common.{◌≡◌, ℕ, true, false, List, [], ◌∷◌, ◌++◌, Option, Some, None, refl, sym, ap, ◌∙◌, subst, inl, inr, map}
+use Rattle.std.proofs.Common.{◌≡◌, ℕ, Bool, true, false, List, [], ◌∷◌, ◌++◌, Option, Some, None, refl, sym, ap, ◌∙◌, subst, inl, inr, map}
 use Rattle.std.specs.Prelude.{All, ◌⊎◌, fold, if◌then◌else◌}
 use Rattle.std.specs.FinMap.{get}
 use Rattle.std.proofs.lemmas.List.Elements.{All-nil, All-cons, All-append, All-map, All-weaker}
@@ -18,7 +18,7 @@ use Rattle.zx_base.proofs.MapLaws.{same-true}
 use Rattle.zx_base.proofs.Options.{none_some, some_none}
 use Rattle.zn_layout.specs.Changes.{KeyChange, Put, act_at, act_of, acts_of, head_put, update_acts}
 use Rattle.zn_layout.specs.Keys.{CountsKey, DataKey, HeadKey, Key, key_bytes}
-use Rattle.zn_layout.specs.StandsFor.{CountsMean, DataMeans, StandsFor, at, stored_of}
+use Rattle.zn_layout.specs.StandsFor.{is_counted_in, CountsMean, DataMeans, StandsFor, at, stored_of}
 use Rattle.zn_layout.proofs.Keys.{key_bytes-injective}
 use Rattle.zn_view.specs.declared.plan.Plan.{Plan}
 use Rattle.zn_view.specs.declared.snapshot.SeenKey.{SeenKey}
@@ -80,11 +80,11 @@ guard-known v (g ∷ gs) xs k o (inl is) saw = still-known v gs (guard_seen v xs
 
 -- ---- a node without a record has no counts
 
-no_counts : (n : Option Node) (children : ℕ) (d c : Option Kv) → d ≡ None → DataMeans n (stored_of d) → CountsMean n children (stored_of c) → c ≡ None
-no_counts None children d None e record_is counts = refl
-no_counts None children d (Some kv) e record_is counts = absurd counts
-no_counts (Some n) children None c e record_is counts = absurd record_is
-no_counts (Some n) children (Some kv) c e record_is counts = absurd (some_none e)
+no_counts : (n : Option Node) (children : ℕ) (b : Bool) (d c : Option Kv) → d ≡ None → DataMeans n (stored_of d) → CountsMean n children b (stored_of c) → c ≡ None
+no_counts None children b d None e record_is counts = refl
+no_counts None children b d (Some kv) e record_is counts = absurd counts
+no_counts (Some n) children b None c e record_is counts = absurd record_is
+no_counts (Some n) children b (Some kv) c e record_is counts = absurd (some_none e)
 
 -- ---- each change
 
@@ -109,7 +109,7 @@ module _ (v : View) (ks : List Key) (p : Plan) (guards : p.guards ≡ guards_of 
 
     counts-absent : (q : Bytes) → In (DataKey q) ks → seen v (key_bytes (DataKey q)) ≡ Some None → at m (CountsKey q) ≡ None
     counts-absent q there saw =
-        no_counts (get s.tree q) (num_children s.tree q) (at m (DataKey q)) (at m (CountsKey q))
+        no_counts (get s.tree q) (num_children s.tree q) (is_counted_in s (get s.tree q)) (at m (DataKey q)) (at m (CountsKey q))
         (near (key_bytes (DataKey q)) None (data_apart q) (picked-told v (map key_bytes ks) (key_bytes (DataKey q)) None (in_mapped key_bytes (DataKey q) ks there) saw))
         (stands.each (DataKey q)) (stands.each (CountsKey q))
 

@@ -17,6 +17,7 @@ use Rattle.zk_model.specs.Paths.{is_path}
 use Rattle.zk_jute.proofs.Lengths.{length-int_bytes, length-long_bytes, length-string_bytes, length-vector_bytes}
 use Rattle.zk_jute.specs.JuteWriting.{int_bytes, long_bytes, string_bytes}
 use Rattle.zx_base.specs.Maps.{Bytes, same}
+use Rattle.zn_layout.specs.declared.record.SessionRec.{SessionRec}
 use Rattle.zn_layout.specs.declared.record.CountRec.{CountRec}
 use Rattle.zn_layout.specs.declared.record.NodeRec.{NodeRec}
 use Rattle.zn_layout.specs.Changes.{head_put, change_size}
@@ -106,13 +107,13 @@ node_value-size r = omega (
 path-size : (p : Bytes) → IsTrue (is_path p) → length (string_bytes p) ≤ 1028
 path-size p h = omega (arith, length-string_bytes p, path_short p h)
 
-pub session_value-size : (ps : List Bytes) → All (λ p. IsTrue (is_path p)) ps → length (session_value ps) ≤ 5 + 1028 * length ps
+pub session_value-size : (r : SessionRec) → All (λ p. IsTrue (is_path p)) r.paths → length (session_value r) ≤ 5 + 1028 * length r.paths
 unfolding session_value
-session_value-size ps valid = omega (
+session_value-size r valid = omega (
   arith,
-  length-vector_bytes string_bytes ps,
-  length-flat_map string_bytes ps,
-  sum_by-most (λ p. length (string_bytes p)) 1028 ps (All-weaker (λ p. IsTrue (is_path p)) (λ p. length (string_bytes p) ≤ 1028) path-size ps valid),
+  length-vector_bytes string_bytes r.paths,
+  length-flat_map string_bytes r.paths,
+  sum_by-most (λ p. length (string_bytes p)) 1028 r.paths (All-weaker (λ p. IsTrue (is_path p)) (λ p. length (string_bytes p) ≤ 1028) path-size r.paths valid),
 )
 
 -- ---- the guards, and what is read again

@@ -1,5 +1,5 @@
 -- What the parts of a multi leave, as far as later parts look at it: which nodes are there, with their versions, owners and counts,
--- and how many nodes the session owns. A view shows what was before; each part that is carried out changes the tree in turn.
+-- and how many nodes more the session may own. A view shows what was before; each part that is carried out changes the tree in turn.
 use Rattle.std.specs.Prelude.{◌≡◌, ℕ, ℤ, pos, nat_abs, ◌+ℤ◌, ◌+◌, ◌-◌, Bool, true, false, not, ◌&&◌, int_lt, List, [], ◌∷◌, ◌++◌, fold, length, nat_lt, Option, Some, None, option_map, is_some, MatchBool, MatchOption, if◌then◌else◌}
 use Rattle.std.specs.List.{list_all}
 use Rattle.std.specs.Ordering.{int_eq}
@@ -12,6 +12,7 @@ use Rattle.zk_model.specs.Single.{form_refusal, is_ephemeral, is_sequential, mat
 use Rattle.zx_base.specs.Maps.{Bytes, same}
 use Rattle.zn_layout.specs.declared.record.CountRec.{CountRec}
 use Rattle.zn_layout.specs.declared.record.NodeRec.{NodeRec}
+use Rattle.zn_layout.specs.declared.record.SessionRec.{SessionRec}
 use Rattle.zn_layout.specs.Begin.{first_counts}
 use Rattle.zn_layout.specs.Keys.{Key, CountsKey, DataKey, SessionKey, key_bytes}
 use Rattle.zn_layout.specs.Reading.{IsValueOf}
@@ -49,11 +50,11 @@ counts_with p c (Created q owner) = if same q p then Some (Some first_counts) el
 counts_with p c (Deleted q owner) = if same q p then Some None else (if is_child p q then option_map (option_map one_child_less) c else c)
 counts_with p c (DataSet q) = c
 
--- how many nodes a session owns
-abbrev pub owned_with : ℤ → ℕ → TreeChange → ℕ
-owned_with id n (Created q owner) = if int_eq owner id then n + 1 else n
-owned_with id n (Deleted q owner) = if int_eq owner id then n - 1 else n
-owned_with id n (DataSet q) = n
+-- how many nodes more a session may own
+abbrev pub room_with : ℤ → ℕ → TreeChange → ℕ
+room_with id n (Created q owner) = if int_eq owner id then n - 1 else n
+room_with id n (Deleted q owner) = if int_eq owner id then n + 1 else n
+room_with id n (DataSet q) = n
 
 -- ---- and after several, one after the other
 
@@ -63,8 +64,8 @@ node_after changes p n = fold (node_with p) n changes
 abbrev pub counts_after : List TreeChange → Bytes → Option (Option CountRec) → Option (Option CountRec)
 counts_after changes p c = fold (counts_with p) c changes
 
-abbrev pub owned_after : List TreeChange → ℤ → ℕ → ℕ
-owned_after changes id n = fold (owned_with id) n changes
+abbrev pub room_after : List TreeChange → ℤ → ℕ → ℕ
+room_after changes id n = fold (room_with id) n changes
 
 -- ---- what a view shows: None where the key was not looked up, Some None where it is absent
 
@@ -78,11 +79,17 @@ AreCountsShown None c = c ≡ None
 AreCountsShown (Some None) c = c ≡ Some None
 AreCountsShown (Some (Some kv)) c = (r : CountRec) × IsValueOf counts_value IsCountRec kv.value r × (c ≡ Some (Some r))
 
--- a session without a list of its nodes owns none
-abbrev pub IsOwnedShown : Option (Option Kv) → Option ℕ → Type 0
-IsOwnedShown None n = n ≡ None
-IsOwnedShown (Some None) n = n ≡ Some 0
-IsOwnedShown (Some (Some kv)) n = (ps : List Bytes) × IsValueOf session_value IsSessionRec kv.value ps × (n ≡ Some (length ps))
+-- the counts of a node, by the record of them that was found: without one it has none, if it is there
+abbrev pub counted : Option (Option NodeNow) → Option (Option CountRec) → Option (Option CountRec)
+counted n None = None
+counted n (Some None) = option_map (option_map (λ (m : NodeNow). first_counts)) n
+counted n (Some (Some c)) = Some (Some c)
+
+-- how many nodes more a session may own, by its layout; without a list of its nodes it is not open, and may own none
+abbrev pub IsRoomShown : Option (Option Kv) → Option ℕ → Type 0
+IsRoomShown None n = n ≡ None
+IsRoomShown (Some None) n = n ≡ Some 0
+IsRoomShown (Some (Some kv)) n = (r : SessionRec) × IsValueOf session_value IsSessionRec kv.value r × (n ≡ Some (max_owned r.layout - length r.paths))
 
 -- ---- what there is on a view after these changes
 
@@ -90,10 +97,12 @@ abbrev pub IsNodeNow : View → List TreeChange → Bytes → Option (Option Nod
 IsNodeNow v changes p n = (before : Option (Option NodeNow)) × IsNodeShown (seen v (key_bytes (DataKey p))) before × (n ≡ node_after changes p before)
 
 abbrev pub AreCountsNow : View → List TreeChange → Bytes → Option (Option CountRec) → Type 0
-AreCountsNow v changes p c = (before : Option (Option CountRec)) × AreCountsShown (seen v (key_bytes (CountsKey p))) before × (c ≡ counts_after changes p before)
+AreCountsNow v changes p c =
+    (n : Option (Option NodeNow)) × (before : Option (Option CountRec)) × IsNodeShown (seen v (key_bytes (DataKey p))) n × AreCountsShown (seen v (key_bytes (CountsKey p))) before
+    × (c ≡ counts_after changes p (counted n before))
 
-abbrev pub IsOwnedNow : View → List TreeChange → ℤ → Option ℕ → Type 0
-IsOwnedNow v changes id n = (before : Option ℕ) × IsOwnedShown (seen v (key_bytes (SessionKey (nat_abs id)))) before × (n ≡ option_map (owned_after changes id) before)
+abbrev pub IsRoomNow : View → List TreeChange → ℤ → Option ℕ → Type 0
+IsRoomNow v changes id n = (before : Option ℕ) × IsRoomShown (seen v (key_bytes (SessionKey (nat_abs id)))) before × (n ≡ option_map (room_after changes id) before)
 
 -- ---- one part, on what the parts before it left. It is not carried out where it is refused, and not before all that it looks at or
 -- ---- writes was looked up.
@@ -102,11 +111,11 @@ abbrev pub with_change : List TreeChange → Option TreeChange → Option (List 
 with_change changes None = None
 with_change changes (Some c) = Some (changes ++ c ∷ [])
 
--- a create of a node, by its parent and the parent's counts, by what is at its path, and by how many nodes its owner owns: the
--- parent is there, is not ephemeral and can count one create more, nothing is at the path, and the owner owns less than the most
+-- a create of a node, by its parent and the parent's counts, by what is at its path, and by how many nodes more its owner may own: the
+-- parent is there, is not ephemeral and can count one create more, nothing is at the path, and the owner may own one node more
 abbrev pub create_change : Bytes → ℤ → Option (Option NodeNow) → Option (Option CountRec) → Option (Option NodeNow) → Option ℕ → Option TreeChange
-create_change p owner (Some (Some up)) (Some (Some counts)) (Some None) (Some owned) =
-    if int_eq up.owner (pos 0) && (not (int_eq counts.creates max_creates) && nat_lt owned max_owned) then Some (Created p owner) else None
+create_change p owner (Some (Some up)) (Some (Some counts)) (Some None) (Some room) =
+    if int_eq up.owner (pos 0) && (not (int_eq counts.creates max_creates) && nat_lt 0 room) then Some (Created p owner) else None
 create_change p owner _ _ _ _ = None
 
 -- the path that a create's node gets: a sequence node's ends in the creates of its parent
@@ -119,15 +128,15 @@ node_path true path _ = None
 abbrev pub owner_of : Bool → ℤ → ℤ
 owner_of ephemeral id = if ephemeral then id else pos 0
 
--- how many nodes the session owns, if the new node is to be one of them
-abbrev pub IsOwnedFor : View → List TreeChange → Bool → ℤ → Option ℕ → Type 0
-IsOwnedFor v changes ephemeral id owned = MatchBool ephemeral (IsOwnedNow v changes id owned) (owned ≡ Some 0)
+-- how many nodes more the session may own, if the new node is to be one of them; any other has room
+abbrev pub IsRoomFor : View → List TreeChange → Bool → ℤ → Option ℕ → Type 0
+IsRoomFor v changes ephemeral id room = MatchBool ephemeral (IsRoomNow v changes id room) (room ≡ Some 1)
 
 abbrev pub NodeLeaves : View → List TreeChange → Bool → ℤ → Option (Option NodeNow) → Option (Option CountRec) → Option Bytes → Option (List TreeChange) → Type 0
 NodeLeaves v changes ephemeral id up counts None next = next ≡ None
 NodeLeaves v changes ephemeral id up counts (Some p) next =
-    (there : Option (Option NodeNow)) × (owned : Option ℕ) × IsNodeNow v changes p there × IsOwnedFor v changes ephemeral id owned
-    × (next ≡ with_change changes (create_change p (owner_of ephemeral id) up counts there owned))
+    (there : Option (Option NodeNow)) × (room : Option ℕ) × IsNodeNow v changes p there × IsRoomFor v changes ephemeral id room
+    × (next ≡ with_change changes (create_change p (owner_of ephemeral id) up counts there room))
 
 abbrev pub CreateLeaves : View → List TreeChange → Bytes → Bool → Bool → ℤ → Option Bytes → Option (List TreeChange) → Type 0
 CreateLeaves v changes path sequential ephemeral id None next = next ≡ None

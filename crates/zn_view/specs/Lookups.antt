@@ -1,9 +1,9 @@
 -- What a view shows of a node and of a session.
-use Rattle.std.specs.Prelude.{◌≡◌, drop, List, Option, Some, None}
+use Rattle.std.specs.Prelude.{◌≡◌, drop, Option, Some, None}
 use Rattle.ev_types.specs.declared.answer.Kv.{Kv}
-use Rattle.zx_base.specs.Maps.{Bytes}
 use Rattle.zn_layout.specs.declared.record.CountRec.{CountRec}
 use Rattle.zn_layout.specs.declared.record.LeaseRec.{LeaseRec}
+use Rattle.zn_layout.specs.declared.record.SessionRec.{SessionRec}
 use Rattle.zn_layout.specs.declared.test.NodeNumbers.{NodeNumbers}
 use Rattle.zn_layout.specs.Keys.{Key, key_bytes}
 use Rattle.zn_layout.specs.Reading.{IsValueOf, node_record}
@@ -27,12 +27,12 @@ IsNodeIn kv n = IsValueOf node_value IsNodeRec kv.value (node_record n (drop 37 
 abbrev pub IsCountsIn : Kv → CountRec → Type 0
 IsCountsIn kv r = IsValueOf counts_value IsCountRec kv.value r
 
-abbrev pub IsNodesIn : Kv → List Bytes → Type 0
-IsNodesIn kv ps = IsValueOf session_value IsSessionRec kv.value ps
+abbrev pub IsNodesIn : Kv → SessionRec → Type 0
+IsNodesIn kv r = IsValueOf session_value IsSessionRec kv.value r
 
--- the key was found, and its value has these paths
-abbrev pub HasNodesIn : View → Key → List Bytes → Type 0
-HasNodesIn v k ps = (kv : Kv) × (sees v k ≡ Some (Some kv)) × IsNodesIn kv ps
+-- the key was found, and its value is this record
+abbrev pub HasNodesIn : View → Key → SessionRec → Type 0
+HasNodesIn v k r = (kv : Kv) × (sees v k ≡ Some (Some kv)) × IsNodesIn kv r
 
 abbrev pub IsLifeIn : Kv → LeaseRec → Type 0
 IsLifeIn kv r = IsValueOf lease_value IsLeaseRec kv.value r

@@ -19,6 +19,7 @@ use Rattle.zk_model.specs.Watches.{no_watches}
 use Rattle.zk_service.specs.Answers.{Told, plain_request}
 use Rattle.zx_base.specs.Maps.{Bytes}
 use Rattle.zn_layout.specs.declared.record.NodeRec.{NodeRec}
+use Rattle.zn_layout.specs.declared.record.SessionRec.{SessionRec}
 use Rattle.zn_layout.specs.declared.record.CountRec.{CountRec}
 use Rattle.zn_layout.specs.Keys.{Key, DataKey, CountsKey, SessionKey, LeaseKey, key_bytes}
 use Rattle.zn_layout.specs.Reading.{IsValueOf}
@@ -48,8 +49,8 @@ SawNode v p r = IsNodeRec r × SawValue v (DataKey p) (node_value r)
 abbrev pub SawCounts : View → Bytes → CountRec → Type 0
 SawCounts v p r = IsCountRec r × SawValue v (CountsKey p) (counts_value r)
 
-abbrev pub SawNodes : View → ℤ → List Bytes → Type 0
-SawNodes v id ps = IsSessionRec ps × SawValue v (SessionKey (nat_abs id)) (session_value ps)
+abbrev pub SawNodes : View → ℤ → SessionRec → Type 0
+SawNodes v id r = IsSessionRec r × SawValue v (SessionKey (nat_abs id)) (session_value r)
 
 abbrev pub IsLacking : View → Want → Type 0
 IsLacking v (want.Key k) = seen v k ≡ None
@@ -61,11 +62,17 @@ IsLacking v (want.Children p) = listed v p ≡ None
 abbrev pub FollowsOwner : View → Bytes → Want → Type 0
 FollowsOwner v p w = (r : NodeRec) × SawNode v p r × (r.owner ≡ pos 0 → ⊥) × (w ≡ key_want (SessionKey (nat_abs r.owner)))
 
--- the creates that a view saw below a node: None where it did not look, or saw no node
-abbrev pub IsCreatesSeen : Option (Option Kv) → Option ℕ → Type 0
-IsCreatesSeen None creates = creates ≡ None
-IsCreatesSeen (Some None) creates = creates ≡ None
-IsCreatesSeen (Some (Some kv)) creates = (r : CountRec) × IsValueOf counts_value IsCountRec kv.value r × (creates ≡ Some (nat_abs r.creates))
+-- The creates that a view saw below a node, by what it saw of the node's record and of its counts: None where it did not look for the
+-- counts, or saw neither. A node without a record of its counts has none.
+abbrev pub AreCreatesSeen : Option (Option Kv) → Option (Option Kv) → Option ℕ → Type 0
+AreCreatesSeen seen_node None creates = creates ≡ None
+AreCreatesSeen seen_node (Some (Some kv)) creates = (r : CountRec) × IsValueOf counts_value IsCountRec kv.value r × (creates ≡ Some (nat_abs r.creates))
+AreCreatesSeen (Some (Some kv)) (Some None) creates = creates ≡ Some 0
+AreCreatesSeen (Some None) (Some None) creates = creates ≡ None
+AreCreatesSeen None (Some None) creates = creates ≡ None
+
+abbrev pub IsCreatesSeen : View → Bytes → Option ℕ → Type 0
+IsCreatesSeen v p creates = AreCreatesSeen (seen v (key_bytes (DataKey p))) (seen v (key_bytes (CountsKey p))) creates
 
 -- what follows for a part from the view and from the parts before it, the latest first: the nodes of the owner of a node that is
 -- deleted; and the key of a sequence node, once all parts before it are carried out and its parent is there on what they leave
@@ -87,13 +94,13 @@ FollowsFrom id v before (p ∷ parts) w = ((form_refusal p ≡ None) × FollowsP
 -- sequence node, the nodes of an owner, the counts of the parents of a session's nodes, and what follows for a multi's parts
 abbrev pub Follows : Request → ℤ → View → Want → Type 0
 Follows (req.Create p d a f) id v w =
-    IsTrue (is_sequential f) × (q : Bytes) × (parent (with_one p) ≡ Some q) × (r : CountRec) × SawCounts v q r × (w ≡ key_want (DataKey (sequence_path p (nat_abs r.creates))))
+    IsTrue (is_sequential f) × (q : Bytes) × (parent (with_one p) ≡ Some q) × (n : ℕ) × IsCreatesSeen v q (Some n) × (w ≡ key_want (DataKey (sequence_path p n)))
 Follows (req.Create2 p d a f) id v w =
-    IsTrue (is_sequential f) × (q : Bytes) × (parent (with_one p) ≡ Some q) × (r : CountRec) × SawCounts v q r × (w ≡ key_want (DataKey (sequence_path p (nat_abs r.creates))))
+    IsTrue (is_sequential f) × (q : Bytes) × (parent (with_one p) ≡ Some q) × (n : ℕ) × IsCreatesSeen v q (Some n) × (w ≡ key_want (DataKey (sequence_path p n)))
 Follows (req.Delete p x) id v w = FollowsOwner v p w
 Follows (req.GetChildren p x) id v w = w ≡ want.Children p
 Follows (req.GetChildren2 p x) id v w = w ≡ want.Children p
-Follows req.Close id v w = (ps : List Bytes) × (p q : Bytes) × SawNodes v id ps × Contains ps p × (parent p ≡ Some q) × (w ≡ key_want (CountsKey q))
+Follows req.Close id v w = (r : SessionRec) × (p q : Bytes) × SawNodes v id r × Contains r.paths p × (parent p ≡ Some q) × (w ≡ key_want (CountsKey q))
 Follows (req.Multi parts) id v w = FollowsFrom id v [] parts w
 Follows _ id v w = ⊥
 

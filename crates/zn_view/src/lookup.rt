@@ -87,7 +87,7 @@ fn life_in(found: Option<&Kv>) -> Option<(LeaseRec, &Kv)>
 /// The record of a session's nodes that was found.
 fn nodes_in(alloc: Global, found: Option<&Kv>) -> Result<Option<SessionRec>, Memory>
     requires { IfSome (option_copied found) (λ kv. IsSomeValue session_value IsSessionRec kv.value) }
-    ensures { IfOk result (λ o. MatchOption o (option_copied found.entry ≡ None) (λ r. (kv : KeyValue) × (option_copied found.entry ≡ Some kv) × IsNodesIn kv r.paths)) }
+    ensures { IfOk result (λ o. MatchOption o (option_copied found.entry ≡ None) (λ r. (kv : KeyValue) × (option_copied found.entry ≡ Some kv) × IsNodesIn kv r)) }
 {
     match found {
         Some(kv) => session_in(alloc, kv.value.as_slice()),
@@ -141,8 +141,8 @@ impl View {
         Ok(node_in(self.found_there(key.as_slice())))
     }
 
-    /// The counts of a node's children, and their key with its value: `None` where the node is not there. The counts key was
-    /// looked up.
+    /// The counts of a node's children, and their key with its value: `None` where there is no record of them, as where the node
+    /// is not there. The counts key was looked up.
     pub fn counts_at(&self, path: &[u8]) -> Result<Option<(CountRec, &Kv)>, Memory>
         requires short { length path.now ≤ max_path }
         requires seen { HasSeen self.now (CountsKey path.now) }
@@ -152,11 +152,11 @@ impl View {
         Ok(counts_of(self.found_there(key.as_slice())))
     }
 
-    /// The paths of the nodes that a session owns: `None` where the session is not open. Their key was looked up.
+    /// The record of the nodes that a session owns: `None` where the session is not open. Their key was looked up.
     pub fn nodes_of(&self, session: i64) -> Result<Option<SessionRec>, Memory>
         requires least { pos 1 ≤ℤ session }
         requires seen { HasSeen self.now (SessionKey (nat_abs session)) }
-        ensures { IfOk result (λ o. MatchOption o (sees self.now (SessionKey (nat_abs session)) ≡ Some None) (λ r. HasNodesIn self.now (SessionKey (nat_abs session)) r.paths)) }
+        ensures { IfOk result (λ o. MatchOption o (sees self.now (SessionKey (nat_abs session)) ≡ Some None) (λ r. HasNodesIn self.now (SessionKey (nat_abs session)) r)) }
     {
         let key = session_key(self.allocator(), session)?;
         nodes_in(self.allocator(), self.found_there(key.as_slice()))

@@ -6,7 +6,7 @@ use Rattle.ev_types.specs.declared.answer.Answer.{Answer}
 use Rattle.zk_service.specs.declared.cause.Cause.{Cause}
 use Rattle.zk_service.specs.declared.cause.Cause.TheVariants as cause
 use Rattle.zn_view.specs.declared.plan.Who.{Who}
-use Rattle.zs_session.specs.declared.connect.Fresh.{Fresh}
+use Rattle.zk_service.specs.declared.fresh.Fresh.{Fresh}
 use Rattle.zp_step.specs.Replies.{Is, closed_by}
 use Rattle.zp_step.specs.Stages.{Core, Stage, Unconnected, Connecting, Ready, KeepingAlive, Checking, Reading, Committing, Waiting, Shut, asked_of, is_shut, new_core}
 use Rattle.zp_step.specs.Steps.{Handles, MayTake, Steps}

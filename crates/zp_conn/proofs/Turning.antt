@@ -18,7 +18,7 @@ use Rattle.zk_model.specs.Limits.{max_frame}
 use Rattle.zk_service.specs.declared.cause.Cause.{Cause}
 use Rattle.zk_service.specs.declared.cause.Cause.TheVariants as cause
 use Rattle.zn_layout.specs.declared.entry.Entry.{Entry}
-use Rattle.zs_session.specs.declared.connect.Fresh.{Fresh}
+use Rattle.zk_service.specs.declared.fresh.Fresh.{Fresh}
 use Rattle.zw_hub.specs.Feeds.{IsFed, IsOneRead, if_closed, if_lagged}
 use Rattle.zw_hub.specs.Lists.{Extends, IsAt}
 use Rattle.zw_hub.specs.declared.feed.Fed.{Fed}

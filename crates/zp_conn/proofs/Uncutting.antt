@@ -2,7 +2,7 @@
 use Rattle.std.proofs.Common.{◌≡◌, ℕ, ◌+◌, true, refl, inl, inr, arith}
 use Rattle.zk_service.specs.declared.cause.Cause.{Cause}
 use Rattle.zk_service.specs.declared.cause.Cause.TheVariants as cause
-use Rattle.zs_session.specs.declared.connect.Fresh.{Fresh}
+use Rattle.zk_service.specs.declared.fresh.Fresh.{Fresh}
 use Rattle.zp_conn.specs.Serving.{IsEndedFor, Rose, Serves, Told}
 use Rattle.zp_conn.specs.Uncut.{IsFedOn, IsStill, IsUncut, is_own, is_own_or_fed}
 

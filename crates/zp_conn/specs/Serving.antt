@@ -11,7 +11,7 @@ use Rattle.zk_jute.specs.Frames.{Framed, bad_length}
 use Rattle.zk_service.specs.declared.cause.Cause.{Cause}
 use Rattle.zk_service.specs.declared.cause.Cause.TheVariants as cause
 use Rattle.zn_layout.specs.declared.entry.Entry.{Entry}
-use Rattle.zs_session.specs.declared.connect.Fresh.{Fresh}
+use Rattle.zk_service.specs.declared.fresh.Fresh.{Fresh}
 use Rattle.zw_hub.specs.Lists.{IsAt, floor as floor_of}
 use Rattle.zw_hub.specs.declared.published.Published.{Published}
 use Rattle.zx_outside.specs.Counts.{OutputCounts}

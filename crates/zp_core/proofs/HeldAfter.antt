@@ -35,7 +35,7 @@ use Rattle.zs_session.specs.Connecting.{IsConnectHeld as IsHeldConnect}
 use Rattle.zs_session.specs.declared.connect.Connect.{Connect}
 use Rattle.zs_session.specs.declared.connect.ConnectStep.{ConnectStep}
 use Rattle.zs_session.specs.declared.connect.ConnectStep.TheVariants as steps
-use Rattle.zs_session.specs.declared.connect.Fresh.{Fresh}
+use Rattle.zk_service.specs.declared.fresh.Fresh.{Fresh}
 use Rattle.zs_session.proofs.Holding.{IsRealStep, step-held, step-real}
 use Rattle.zs_session.specs.Sessions.{attach_wants, life_key}
 use Rattle.zp_step.specs.declared.action.Action.{Action}

@@ -60,7 +60,7 @@ pub record IsAttached (lines : List TranscriptLine) (conn : ℕ) (who : Who) (lo
 -- an attachment is an update
 shown-update : (c : ℕ) (l : TranscriptLine) (a : Attachment) → attach_shown c l ≡ Some a → (u : UpdateRec) × (l ≡ Update u)
 shown-update c (Update u) a h = (u, refl)
-shown-update c (Open a b d e) x h = absurd (none_some h)
+shown-update c (Open a b d e layout) x h = absurd (none_some h)
 shown-update c (FrameLine a b d e) x h = absurd (none_some h)
 shown-update c (Send a b) x h = absurd (none_some h)
 shown-update c (Lapse a b) x h = absurd (none_some h)

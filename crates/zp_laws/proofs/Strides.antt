@@ -197,7 +197,7 @@ in-kind c i u (Reaped id) n h = refl
 
 below-now : (c i : ℕ) (l : TranscriptLine) → is_below_place (i + 1) (index_shown c l) ≡ true → own_update_shown c i l ≡ None → is_below_place i (index_shown c l) ≡ true
 below-now c i (Update u) h n = in-kind c i u u.kind n h
-below-now c i (Open a b d e) h n = refl
+below-now c i (Open a b d e layout) h n = refl
 below-now c i (FrameLine a b d e) h n = refl
 below-now c i (Send a b) h n = refl
 below-now c i (Lapse a b) h n = refl

@@ -71,7 +71,7 @@ last-update lines (suc m) h some =
     by : (o : Option TranscriptLine) → slice_get lines m ≡ o → (1 ≤ (state_at lines m).updates → IsLast lines m) → 1 ≤ (state_at lines (m + 1)).updates → IsLast lines (m + 1)
     by None at was up = still-last lines m (subst (λ s. SameCount (state_at lines m) s) (sym (state_at-end lines m at)) (refl, refl)) was up
     by (Some (Update u)) at was up = record { place = m; update = u; shown = at; before = omega arith; zxid = (at-line lines m u h at).zxid; count = refl }
-    by (Some (Open a b c d)) at was up = still-last lines m (line-last lines m (Open a b c d) at (refl, refl)) was up
+    by (Some (Open a b c d layout)) at was up = still-last lines m (line-last lines m (Open a b c d layout) at (refl, refl)) was up
     by (Some (FrameLine a b c d)) at was up = still-last lines m (line-last lines m (FrameLine a b c d) at (refl, refl)) was up
     by (Some (Send a b)) at was up = still-last lines m (line-last lines m (Send a b) at (refl, refl)) was up
     by (Some (Lapse r id)) at was up = still-last lines m (line-last lines m (Lapse r id) at (lapse-still (state_at lines m) id (session_at id (state_at lines m)))) was up
@@ -125,7 +125,7 @@ when-some false x y h = absurd (cc)
 
 above-is : (p : ℤ) (l : TranscriptLine) (z : ℤ) → above_shown p l ≡ Some z → (u : UpdateRec) × (l ≡ Update u) × (p <ℤ u.zxid) × (u.zxid ≡ z)
 above-is p (Update u) z h = let w = when-some (int_lt p u.zxid) u.zxid z h in (u, refl, grind (arith, nat_tests, ints, w.0), w.1)
-above-is p (Open a b c d) z h = absurd (cc)
+above-is p (Open a b c d layout) z h = absurd (cc)
 above-is p (FrameLine a b c d) z h = absurd (cc)
 above-is p (Send a b) z h = absurd (cc)
 above-is p (Lapse a b) z h = absurd (cc)

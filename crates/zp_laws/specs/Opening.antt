@@ -13,7 +13,7 @@ use Rattle.zn_layout.specs.declared.record.LeaseRec.{LeaseRec}
 use Rattle.ev_types.specs.declared.answer.Kv.{Kv}
 use Rattle.zk_model.specs.declared.connect.ConnectRequest.{ConnectRequest}
 use Rattle.zn_layout.specs.Records.{IsLeaseRec, lease_value}
-use Rattle.zs_session.specs.declared.connect.Fresh.{Fresh}
+use Rattle.zk_service.specs.declared.fresh.Fresh.{Fresh}
 use Rattle.zs_session.specs.Sessions.{attach_guards, attach_txn, life_key, new_session_guards, new_session_txn}
 
 -- the session wasn't open, and after the transaction the keys stand for the state after the line of the new session
@@ -35,11 +35,11 @@ pub record IsAttachedAnew (before : List TranscriptLine) (s : State) (z id : ℤ
 -- ---- the laws
 
 -- Where the guards of a new session's transaction hold in keys that stand for a sound state, the session isn't open there, and
--- after the transaction the keys stand for the state after the session's line. The connection was opened with this number and
--- password, and sent this connect.
+-- after the transaction the keys stand for the state after the session's line. The connection was opened with this offer, and sent
+-- this connect.
 abbrev pub ANewSessionCommits : Type 0
 ANewSessionCommits = (f : Fresh) (r : ConnectRequest) (before : List TranscriptLine) (c : ℕ) (m : Keys) (s : State) (z : ℤ)
-    → pos 1 ≤ℤ f.id → length f.passwd ≡ 16 → opening c before ≡ Some (f.id, f.passwd) → connect c before ≡ Some r → IsSound s
+    → pos 1 ≤ℤ f.id → length f.passwd ≡ 16 → opening c before ≡ Some f → connect c before ≡ Some r → IsSound s
     → StandsFor m s → list_all (holds m) (new_session_guards f.id) ≡ true → s.zxid <ℤ z → z ≤ℤ last_revision
     → IsOpened before s z f.id c m (new_session_txn f (granted_timeout r.timeout))
 

@@ -172,11 +172,13 @@ fn copy_of(alloc: Global, line: &TranscriptLine) -> Result<TranscriptLine, Memor
             proxy,
             id,
             passwd,
+            layout,
         } => Ok(TranscriptLine::Open {
             connection: *connection,
             proxy: *proxy,
             id: *id,
             passwd: *passwd,
+            layout: *layout,
         }),
         TranscriptLine::Frame {
             connection,

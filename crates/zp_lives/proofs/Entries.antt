@@ -39,7 +39,7 @@ one-still lines m h same = by (slice_get lines m) refl
     by : (o : Option TranscriptLine) → slice_get lines m ≡ o → (state_at lines (m + 1)).triggers ≡ (state_at lines m).triggers
     by None at = ap (λ (s : State). s.triggers) (state_at-end lines m at)
     by (Some (Update u)) at = let r = at-line lines m u h at in absurd (omega (arith, r.updates, same))
-    by (Some (Open a b c d)) at = line (Open a b c d) at refl
+    by (Some (Open a b c d layout)) at = line (Open a b c d layout) at refl
     by (Some (FrameLine a b c d)) at = line (FrameLine a b c d) at refl
     by (Some (Send a b)) at = line (Send a b) at refl
     by (Some (Lapse r id)) at = line (Lapse r id) at (lapse-triggers (state_at lines m) id (session_at id (state_at lines m)))

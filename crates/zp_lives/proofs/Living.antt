@@ -34,7 +34,7 @@ use Rattle.zp_world_laws.proofs.Accounts.{open-accounted}
 use Rattle.zp_world_laws.proofs.Numbers.{conn-here}
 use Rattle.zp_world_laws.proofs.Running.{first-accounted}
 use Rattle.zp_world_laws.specs.Accounting.{IsAccounted}
-use Rattle.zs_session.specs.declared.connect.Fresh.{Fresh}
+use Rattle.zk_service.specs.declared.fresh.Fresh.{Fresh}
 use Rattle.zx_base.proofs.Options.{none_some, some_is}
 use Rattle.zx_base.proofs.Booleans.{true-not_false as true-false}
 
@@ -176,8 +176,8 @@ module _ (w : World) (c p : ℕ) (fresh : Fresh) (steps : List Step) (core : Cor
       r.ran (record { after = (r.fed).after; answers = (r.fed).answers; entries = (r.fed).entries }) (omega (arith, r.few))
 
   -- its `open` line and the lines before show nothing of it
-  nothing : shown_of c (w.lines ++ Open c p fresh.id fresh.passwd ∷ []) ≡ []
-  nothing = shown-append c w.lines (Open c p fresh.id fresh.passwd ∷ []) ∙ append-nil (shown_of c w.lines) ∙ unnamed-shows c w.lines ((k.known).unused c free)
+  nothing : shown_of c (w.lines ++ Open c p fresh.id fresh.passwd fresh.layout ∷ []) ≡ []
+  nothing = shown-append c w.lines (Open c p fresh.id fresh.passwd fresh.layout ∷ []) ∙ append-nil (shown_of c w.lines) ∙ unnamed-shows c w.lines ((k.known).unused c free)
 
   alone : IsAlone (opened w c p fresh.id fresh.passwd) c steps
   alone = record {
@@ -187,7 +187,7 @@ module _ (w : World) (c p : ℕ) (fresh : Fresh) (steps : List Step) (core : Cor
     store = lived.store;
     more = lived.more;
     lines = lived.lines;
-    shown = ap (shown_of c) lived.lines ∙ shown-append c (w.lines ++ Open c p fresh.id fresh.passwd ∷ []) lived.more ∙ ap (λ l. l ++ shown_of c lived.more) nothing ∙ lived.shown;
+    shown = ap (shown_of c) lived.lines ∙ shown-append c (w.lines ++ Open c p fresh.id fresh.passwd fresh.layout ∷ []) lived.more ∙ ap (λ l. l ++ shown_of c lived.more) nothing ∙ lived.shown;
     served = accounted-served lived.after c lived.accounted;
   }
 

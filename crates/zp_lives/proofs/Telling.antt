@@ -56,7 +56,7 @@ updates-show c old new kind = go (int_eq (zxid_at old) (zxid_at new)) kind
 
 unnamed-line : (c : ℕ) (l : TranscriptLine) → not (names_conn c l) ≡ true → shown_by c l ≡ None
 unnamed-line c (Update u) h = refl
-unnamed-line c (Open d p id passwd) h = refl
+unnamed-line c (Open d p id passwd layout) h = refl
 unnamed-line c (Lapse r id) h = refl
 unnamed-line c (FrameLine d i z bytes) h = go (c == d) h
   where

@@ -3,7 +3,7 @@ use Rattle.std.proofs.Common.{◌≡◌, ◌∙◌, ap, ℕ, List, [], ◌∷◌
 use Rattle.std.specs.Prelude.{None, Some}
 use Rattle.zk_service.specs.declared.cause.Cause.{Cause}
 use Rattle.zx_base.proofs.Options.{none_some}
-use Rattle.zs_session.specs.declared.connect.Fresh.{Fresh}
+use Rattle.zk_service.specs.declared.fresh.Fresh.{Fresh}
 use Rattle.zp_step.specs.Stages.{Core, is_shut, new_core}
 use Rattle.zp_step.specs.Steps.{MayTake, Steps}
 use Rattle.zp_step.specs.declared.action.Action.{Action}

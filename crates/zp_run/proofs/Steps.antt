@@ -43,7 +43,7 @@ use Rattle.zs_session.specs.Sessions.{attach_txn, attach_wants, first_wants, lif
 use Rattle.zs_session.specs.declared.connect.Connect.{Connect}
 use Rattle.zs_session.specs.declared.connect.ConnectStep.{ConnectStep}
 use Rattle.zs_session.specs.declared.connect.ConnectStep.TheVariants as steps
-use Rattle.zs_session.specs.declared.connect.Fresh.{Fresh}
+use Rattle.zk_service.specs.declared.fresh.Fresh.{Fresh}
 use Rattle.zs_session.specs.declared.connect.Phase.{Phase}
 use Rattle.zs_session.specs.declared.connect.Phase.TheVariants.{Unasked, Looking, Granting, Creating, Keeping, LookingAgain, Attaching, Over}
 use Rattle.zs_session.specs.declared.fault.StepFault.TheVariants as faults

@@ -6,12 +6,12 @@ use Rattle.zk_transcript.specs.declared.transcript.TranscriptLine.{TranscriptLin
 use Rattle.zk_transcript.specs.declared.transcript.TranscriptLine.TheVariants.{Open, Frame, Send, Close}
 
 abbrev pub opened_by : TranscriptLine → Option ℕ
-opened_by (Open c p id passwd) = Some c
+opened_by (Open c p id passwd layout) = Some c
 opened_by _ = None
 
 -- a line of connection c, its updates left out
 abbrev pub is_line_of : ℕ → TranscriptLine → Bool
-is_line_of c (Open d p id passwd) = c == d
+is_line_of c (Open d p id passwd layout) = c == d
 is_line_of c (Frame d i zxid bytes) = c == d
 is_line_of c (Send d bytes) = c == d
 is_line_of c (Close d end) = c == d

@@ -6,6 +6,7 @@ use Rattle.ev_types.specs.Store.{Store, revision}
 use Rattle.ev_types.specs.Lapses.{lapse, foreign}
 use Rattle.zk_jute.specs.JuteWriting.{with_length}
 use Rattle.zk_service.specs.declared.cause.Cause.TheVariants as cause
+use Rattle.zk_service.specs.declared.fresh.Fresh.{Fresh}
 use Rattle.zk_transcript.specs.declared.transcript.TranscriptLine.TheVariants.{Open, Lapse as LapseLine}
 use Rattle.zk_wire.specs.Cutting.{unread}
 use Rattle.zn_layout.specs.declared.entry.Entry.{Entry}
@@ -31,8 +32,8 @@ use Rattle.zp_script.specs.Arriving.{Arrives}
 abbrev pub new_conn : ℕ → Actor → Conn
 new_conn p actor = record { proxy = p; actor = actor; stream = unread; frames = 0; flight = None }
 
-abbrev pub opened : World → ℕ → ℕ → ℤ → List ℕ → World
-opened w c p id passwd = record (with_conn w c (new_conn p (Connection (new_core (record { id = id; passwd = passwd }))))) { lines = w.lines ++ Open c p id passwd ∷ [] }
+abbrev pub opened : World → ℕ → ℕ → Fresh → World
+opened w c p fresh = record (with_conn w c (new_conn p (Connection (new_core fresh)))) { lines = w.lines ++ Open c p fresh.id fresh.passwd fresh.layout ∷ [] }
 
 -- a reaper of this session, which has asked nothing
 abbrev pub new_reap : ℤ → Reap
@@ -91,7 +92,7 @@ PutTo w w' (Some s) = w' ≡ record w { store = s }
 -- ---- each line
 
 abbrev pub Does : World → Happening → World → Type 0
-Does w (line.Open c p id passwd) w' = w' ≡ opened w c p id passwd
+Does w (line.Open c p id passwd layout) w' = w' ≡ opened w c p (record { id = id; passwd = passwd; layout = layout })
 Does w (line.Frame c bytes) w' = Arrives c w (with_length bytes) w'
 Does w (line.Arrive c bytes) w' = Arrives c w bytes w'
 Does w (line.Exec c) w' = Executes c w w'

@@ -82,7 +82,7 @@ is_kept_key k = same k [] || starts_with nat_eq k front
 -- ---- each line
 
 unfoldable pub fault : World → Happening → Option Why
-fault w (line.Open c p id passwd) = new_fault c w None
+fault w (line.Open c p id passwd layout) = new_fault c w None
 fault w (line.Frame c bytes) = connection_fault c w (if_fails (has_part (conn_at c w)) why.FrameOpen (if_fails (nat_lt max_frame (length bytes)) why.TooLong None))
 fault w (line.Arrive c bytes) = connection_fault c w None
 fault w (line.Exec c) = carry_fault c w

@@ -12,7 +12,7 @@ use Rattle.ev_types.specs.declared.answer.Answer.{Answer}
 use Rattle.ev_types.specs.declared.ask.Ask.{Ask}
 use Rattle.zk_service.specs.declared.cause.Cause.{Cause}
 use Rattle.zn_layout.specs.Begin.{begin_ask}
-use Rattle.zs_session.specs.declared.connect.Fresh.{Fresh}
+use Rattle.zk_service.specs.declared.fresh.Fresh.{Fresh}
 use Rattle.zp_conn.specs.Serving.{Serves, Told, with_calls}
 use Rattle.zp_served.proofs.Alone.{first}
 use Rattle.zp_served.specs.Begun.{IsBegun, ServesAlone}

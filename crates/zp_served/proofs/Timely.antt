@@ -13,7 +13,7 @@ use Rattle.zk_service.specs.declared.cause.Cause.{Cause}
 use Rattle.zn_layout.specs.Keys.{HeadKey}
 use Rattle.zn_layout.specs.StandsFor.{at}
 use Rattle.zn_layout.specs.declared.entry.Entry.{Entry}
-use Rattle.zs_session.specs.declared.connect.Fresh.{Fresh}
+use Rattle.zk_service.specs.declared.fresh.Fresh.{Fresh}
 use Rattle.zw_hub.specs.Lists.{IsAt}
 use Rattle.zp_run.specs.Runs.{Step, entries_of, entry_in}
 use Rattle.zp_conn.proofs.Turning.{filter_map-push}

@@ -6,7 +6,7 @@ use Rattle.ev_types.specs.Store.{Store, new_store}
 use Rattle.ev_types.specs.declared.answer.Answer.{Answer}
 use Rattle.zk_service.specs.declared.cause.Cause.{Cause}
 use Rattle.zn_layout.specs.Begin.{begin_ask}
-use Rattle.zs_session.specs.declared.connect.Fresh.{Fresh}
+use Rattle.zk_service.specs.declared.fresh.Fresh.{Fresh}
 use Rattle.zp_step.specs.Stages.{max_count}
 use Rattle.zp_run.specs.Runs.{frames_of}
 use Rattle.zp_conn.specs.Serving.{Serves, Told}

@@ -4,7 +4,7 @@ use Rattle.ev_call.specs.Calls.{Call}
 use Rattle.ev_call.specs.Honest.{CarriesAll}
 use Rattle.ev_types.specs.Store.{Store}
 use Rattle.zn_layout.specs.declared.entry.Entry.{Entry}
-use Rattle.zs_session.specs.declared.connect.Fresh.{Fresh}
+use Rattle.zk_service.specs.declared.fresh.Fresh.{Fresh}
 use Rattle.zw_hub.specs.declared.published.Published.{Published}
 use Rattle.zp_step.specs.Stages.{max_count}
 use Rattle.zp_run.specs.Runs.{Step, answers_of, asks_of, entry_in, frames_of}

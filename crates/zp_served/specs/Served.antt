@@ -5,7 +5,7 @@ use Rattle.ev_types.specs.Store.{Store, new_store}
 use Rattle.ev_types.specs.declared.answer.Answer.{Answer}
 use Rattle.zk_service.specs.declared.cause.Cause.{Cause}
 use Rattle.zn_layout.specs.Begin.{begin_ask}
-use Rattle.zs_session.specs.declared.connect.Fresh.{Fresh}
+use Rattle.zk_service.specs.declared.fresh.Fresh.{Fresh}
 use Rattle.zp_conn.specs.Serving.{Serves, Told}
 use Rattle.zp_script.specs.Effects.{opened}
 use Rattle.zp_script.specs.Runs.{world_over}

@@ -7,7 +7,7 @@ use Rattle.ev_types.specs.declared.answer.Answer.{Answer}
 use Rattle.ev_types.specs.declared.ask.Ask.{Ask}
 use Rattle.zk_service.specs.declared.cause.Cause.{Cause}
 use Rattle.zk_service.specs.declared.cause.Cause.TheVariants as cause
-use Rattle.zs_session.specs.declared.connect.Fresh.{Fresh}
+use Rattle.zk_service.specs.declared.fresh.Fresh.{Fresh}
 use Rattle.zx_history.specs.declared.ghost_history.GhostHistory.{GhostHistory}
 use Rattle.zx_net.specs.Nets.{IsFreshSink, IsFreshSource}
 use Rattle.zx_outside.specs.Counts.{InputCounts, OutputCounts}

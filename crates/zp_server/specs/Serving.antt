@@ -1,7 +1,7 @@
 -- What a worker that served a connection hands back.
 use Rattle.std.specs.Prelude.{◌≡◌, ℕ, false, List, [], Option, Some, IfSome}
 use Rattle.zk_service.specs.declared.cause.Cause.{Cause}
-use Rattle.zs_session.specs.declared.connect.Fresh.{Fresh}
+use Rattle.zk_service.specs.declared.fresh.Fresh.{Fresh}
 use Rattle.zx_net.specs.Nets.{IsNoneYet}
 use Rattle.zp_run.specs.Notes.{Noted}
 use Rattle.zp_conn.specs.Serving.{FeedTold, LinkTold, Serves, SinkTold, SourceTold, Told}

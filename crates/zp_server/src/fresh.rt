@@ -2,6 +2,7 @@
 
 ghost use Rattle.std.specs.Prelude.{pos, ◌≤ℤ◌};
 
+use zk_model::Layout;
 use zp_core::Fresh;
 use zx_words::Random;
 
@@ -25,5 +26,9 @@ pub fn fresh<R: Random>(random: &mut R) -> Fresh
     let mut passwd = [0u8; 16];
     passwd[..8].copy_from_slice(&random.word().to_be_bytes());
     passwd[8..].copy_from_slice(&random.word().to_be_bytes());
-    Fresh { id, passwd }
+    Fresh {
+        id,
+        passwd,
+        layout: Layout::Two,
+    }
 }

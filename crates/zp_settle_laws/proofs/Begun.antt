@@ -86,7 +86,7 @@ module _ (s : Store) (lines : List TranscriptLine) (c : ℕ) (core : Core) (flig
   line-not : (i place : ℕ) (l : TranscriptLine) (u : UpdateRec) → slice_get lines place ≡ Some l → own_update_shown c i l ≡ Some u → closes_session u.kind ≡ false
   line-not i place (Update v) u at h = own-not i place v.zxid v.kind u at h
   line-not i place (FrameLine d j z b) u at h = absurd (none_some h)
-  line-not i place (Open d p id pw) u at h = absurd (none_some h)
+  line-not i place (Open d p id pw layout) u at h = absurd (none_some h)
   line-not i place (Send d b) u at h = absurd (none_some h)
   line-not i place (Lapse r id) u at h = absurd (none_some h)
   line-not i place (Close d e) u at h = absurd (none_some h)

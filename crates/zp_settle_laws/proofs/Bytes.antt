@@ -430,9 +430,9 @@ number-free (Some x) h = absurd (none_some (sym h))
 
 does-counts : (w w' : World) (h : Happening) → fault w h ≡ None → Does w h w' → CountsBytes w → CountsBytes w'
 unfolding fault
-does-counts w w' (line.Open c p id passwd) free h k =
-    let v : Conn = new_conn p (Connection (new_core (record { id = id; passwd = passwd }))) in
-    counts-quiet w w' (quiet-to w (opened w c p id passwd) w' h (lines-quiet w (opened w c p id passwd) c v (Open c p id passwd ∷ []) (free-place w c v (number-free (conn_at c w) free)) refl refl (λ d. refl))) k
+does-counts w w' (line.Open c p id passwd layout) free h k =
+    let v : Conn = new_conn p (Connection (new_core (record { id = id; passwd = passwd; layout = layout }))) in
+    counts-quiet w w' (quiet-to w (opened w c p (record { id = id; passwd = passwd; layout = layout })) w' h (lines-quiet w (opened w c p (record { id = id; passwd = passwd; layout = layout })) c v (Open c p id passwd layout ∷ []) (free-place w c v (number-free (conn_at c w) free)) refl refl (λ d. refl))) k
 does-counts w w' (line.Frame c bytes) free h k = arrives-counts c w w' (with_length bytes) h k
 does-counts w w' (line.Arrive c bytes) free h k = arrives-counts c w w' bytes h k
 does-counts w w' (line.Exec c) free h k = counts-quiet w w' (exec-quiet w w' c h) k
@@ -470,7 +470,7 @@ settles-quiet (suc n) c w w' h = go (settling c w) refl (λ mid. settles-quiet n
 
 effect-counts : (w w' : World) (h : Happening) → fault w h ≡ None → Effect w h w' → CountsBytes w → CountsBytes w'
 effect-counts w w' (line.Settle c) free h k = counts-quiet w w' (settles-quiet (max_settling c w) c w w' h) k
-effect-counts w w' (line.Open c p id passwd) free h k = does-counts w w' (line.Open c p id passwd) free h k
+effect-counts w w' (line.Open c p id passwd layout) free h k = does-counts w w' (line.Open c p id passwd layout) free h k
 effect-counts w w' (line.Frame c bytes) free h k = does-counts w w' (line.Frame c bytes) free h k
 effect-counts w w' (line.Arrive c bytes) free h k = does-counts w w' (line.Arrive c bytes) free h k
 effect-counts w w' (line.Exec c) free h k = does-counts w w' (line.Exec c) free h k

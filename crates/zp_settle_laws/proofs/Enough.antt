@@ -72,7 +72,7 @@ sizes-most : (c i n : ℕ) (lines : List TranscriptLine) → sizes_of c i n line
 sizes-most c i n [] = omega (arith, none-sized c i n)
 sizes-most c i n (FrameLine d k z bytes ∷ ls) = omega (arith, frame-line c i n d k z bytes ls, sizes-most c i n ls)
 sizes-most c i n (Update u ∷ ls) = omega (arith, other-sized c i n (Update u) ls (λ j. refl), sizes-most c i n ls)
-sizes-most c i n (Open d p id passwd ∷ ls) = omega (arith, other-sized c i n (Open d p id passwd) ls (λ j. refl), sizes-most c i n ls)
+sizes-most c i n (Open d p id passwd layout ∷ ls) = omega (arith, other-sized c i n (Open d p id passwd layout) ls (λ j. refl), sizes-most c i n ls)
 sizes-most c i n (Send d bytes ∷ ls) = omega (arith, other-sized c i n (Send d bytes) ls (λ j. refl), sizes-most c i n ls)
 sizes-most c i n (LapseLine z id ∷ ls) = omega (arith, other-sized c i n (LapseLine z id) ls (λ j. refl), sizes-most c i n ls)
 sizes-most c i n (Close d end ∷ ls) = omega (arith, other-sized c i n (Close d end) ls (λ j. refl), sizes-most c i n ls)

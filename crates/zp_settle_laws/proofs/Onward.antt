@@ -10,6 +10,7 @@ use Rattle.std.proofs.Common.{Bool, List, [], ap, append-nil, append_assoc, fals
 use Rattle.std.specs.FinMap.{entries, entries_sorted, find, get, get-entries, is_sorted}
 use Rattle.std.specs.Ordering.{nat_cmp}
 use Rattle.std.specs.Prelude.{MatchBool, None, Option, Some, fold, if◌then◌else◌, not, slice_set, ◌||◌, ◌⊎◌}
+use Rattle.zk_model.specs.declared.layout.Layout.{Layout}
 use Rattle.zk_jute.specs.JuteWriting.{with_length}
 use Rattle.zk_transcript.specs.Legal.{Tick}
 use Rattle.zk_service.specs.declared.cause.Cause.TheVariants as cause
@@ -305,8 +306,8 @@ put-onward c w w' k v (Some s) e h = let u : World = record w { store = s } in o
 tick-onward : (c : ℕ) (w w' : World) (n : ℕ) → w' ≡ record w { clock = n } → Onward c w w'
 tick-onward c w w' n e = onward-to c w (record w { clock = n }) w' e (stored-onward c w (record w { clock = n }) [] (later-self w.store) (sym (append-nil w.lines)) refl)
 
-open-onward : (w : World) (c p : ℕ) (id : ℤ) (passwd : List ℕ) → Onward c w (opened w c p id passwd)
-open-onward w c p id passwd = with-onward w c (new_conn p (Connection (new_core (record { id = id; passwd = passwd })))) (Open c p id passwd ∷ []) (opened w c p id passwd) refl refl refl
+open-onward : (w : World) (c p : ℕ) (id : ℤ) (passwd : List ℕ) (layout : Layout) → Onward c w (opened w c p (record { id = id; passwd = passwd; layout = layout }))
+open-onward w c p id passwd layout = with-onward w c (new_conn p (Connection (new_core (record { id = id; passwd = passwd; layout = layout })))) (Open c p id passwd layout ∷ []) (opened w c p (record { id = id; passwd = passwd; layout = layout })) refl refl refl
 
 -- ---- settle
 
@@ -327,7 +328,7 @@ settles-onward (suc n) c w w' h = go (settling c w) refl (λ mid. settles-onward
 
 -- it moves the number that it names; a restart moves those of its proxy
 abbrev pub EffectOn : World → Happening → World → Type 0
-EffectOn w (line.Open c p id passwd) w' = Onward c w w'
+EffectOn w (line.Open c p id passwd layout) w' = Onward c w w'
 EffectOn w (line.Frame c bytes) w' = Onward c w w'
 EffectOn w (line.Arrive c bytes) w' = Onward c w w'
 EffectOn w (line.Exec c) w' = Onward c w w'
@@ -346,7 +347,7 @@ EffectOn w (line.Tick n) w' = (c : ℕ) → Onward c w w'
 EffectOn w (line.Settle c) w' = Onward c w w'
 
 pub effect-on : (w w' : World) (h : Happening) → Effect w h w' → EffectOn w h w'
-effect-on w w' (line.Open c p id passwd) h = onward-to c w (opened w c p id passwd) w' h (open-onward w c p id passwd)
+effect-on w w' (line.Open c p id passwd layout) h = onward-to c w (opened w c p (record { id = id; passwd = passwd; layout = layout })) w' h (open-onward w c p id passwd layout)
 effect-on w w' (line.Frame c bytes) h = arrives-onward c w w' (with_length bytes) h
 effect-on w w' (line.Arrive c bytes) h = arrives-onward c w w' bytes h
 effect-on w w' (line.Exec c) h = exec-onward w w' c h
@@ -365,7 +366,7 @@ effect-on w w' (line.Tick n) h = λ c. tick-onward c w w' (w.clock + n) h
 effect-on w w' (line.Settle c) h = settles-onward (max_settling c w) c w w' h
 
 on-grows : (w w' : World) (h : Happening) → EffectOn w h w' → Grows w w'
-on-grows w w' (line.Open c p id passwd) o = o.grows
+on-grows w w' (line.Open c p id passwd layout) o = o.grows
 on-grows w w' (line.Frame c bytes) o = o.grows
 on-grows w w' (line.Arrive c bytes) o = o.grows
 on-grows w w' (line.Exec c) o = o.grows

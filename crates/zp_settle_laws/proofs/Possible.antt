@@ -272,7 +272,7 @@ reaps-somehow c p id w = (
 
 pub possible-lines-happen : PossibleLinesHappen
 unfolding fault
-possible-lines-happen w (line.Open c p id passwd) k plain free = (opened w c p id passwd, record { possible = free; effect = refl })
+possible-lines-happen w (line.Open c p id passwd layout) k plain free = (opened w c p (record { id = id; passwd = passwd; layout = layout }), record { possible = free; effect = refl })
 possible-lines-happen w (line.Exec c) k plain free = let f = executes-somehow c w (k.whole).holds free in (f.0, record { possible = free; effect = f.1 })
 possible-lines-happen w (line.Cut c) k plain free =
     let t = open-there c w (if_fails (is_none (flight_at c w)) why.NoRequestOut None) free in

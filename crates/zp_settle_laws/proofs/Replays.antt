@@ -308,8 +308,8 @@ module _ (damage : Bool) where
   -- ---- each line
 
   does-fine : (w w' : World) (h : Happening) → IsSoundWorld damage w → Does w h w' → IsFineWorld damage w → IsFineWorld damage w'
-  does-fine w w' (line.Open c p id passwd) s h k =
-      fine-to (opened w c p id passwd) w' h (changed-fine w (opened w c p id passwd) c (new_conn p (Connection (new_core (record { id = id; passwd = passwd })))) (Open c p id passwd ∷ []) refl refl (one-fine (Open c p id passwd) tt) tt k)
+  does-fine w w' (line.Open c p id passwd layout) s h k =
+      fine-to (opened w c p (record { id = id; passwd = passwd; layout = layout })) w' h (changed-fine w (opened w c p (record { id = id; passwd = passwd; layout = layout })) c (new_conn p (Connection (new_core (record { id = id; passwd = passwd; layout = layout })))) (Open c p id passwd layout ∷ []) refl refl (one-fine (Open c p id passwd layout) tt) tt k)
   does-fine w w' (line.Frame c bytes) s h k = arrives-fine c w w' (with_length bytes) h k
   does-fine w w' (line.Arrive c bytes) s h k = arrives-fine c w w' bytes h k
   does-fine w w' (line.Exec c) s h k = exec-fine w w' c h k

@@ -21,7 +21,7 @@ use Rattle.zk_service.specs.declared.update.UpdateKind.{UpdateKind}
 use Rattle.zn_layout.specs.Begin.{begin_ask}
 use Rattle.zn_layout.specs.declared.entry.Entry.{Entry}
 use Rattle.zs_reap.specs.declared.reap.Reap.{Reap}
-use Rattle.zs_session.specs.declared.connect.Fresh.{Fresh}
+use Rattle.zk_service.specs.declared.fresh.Fresh.{Fresh}
 use Rattle.zt_text.specs.declared.script.Happening.TheVariants as line
 use Rattle.zt_text.specs.declared.script.Happening.{Happening}
 use Rattle.zx_base.proofs.Options.{none_some, some_is}
@@ -457,10 +457,10 @@ new-at s p fresh core e = record {
 }
 
 effect-roomy : (w w' : World) (h : Happening) → Effect w h w' → IsAccounted w → IsRoomy w → IsRoomy w'
-effect-roomy w w' (line.Open c p id passwd) h k r =
-    let fresh : Fresh = record { id = id; passwd = passwd } in
+effect-roomy w w' (line.Open c p id passwd layout) h k r =
+    let fresh : Fresh = record { id = id; passwd = passwd; layout = layout } in
     let t = with-roomy w c (new_conn p (Connection (new_core fresh))) (λ core e. new-at w.store p fresh core e) r in
-    roomy-to (opened w c p id passwd) w' h (record { store = t.store; conns = t.conns })
+    roomy-to (opened w c p (record { id = id; passwd = passwd; layout = layout })) w' h (record { store = t.store; conns = t.conns })
 effect-roomy w w' (line.Frame c bytes) h k r = arrives-roomy c w w' (with_length bytes) h r
 effect-roomy w w' (line.Arrive c bytes) h k r = arrives-roomy c w w' bytes h r
 effect-roomy w w' (line.Exec c) h k r = exec-roomy w w' c h k r

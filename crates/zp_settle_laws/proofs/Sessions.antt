@@ -63,7 +63,7 @@ frame-line c i (FrameLine d j z b) bytes h =
     let two = sym (number-same i j w.1) in
     (z, λ t. FrameLine (one t) (two t) z (w.2 t))
 frame-line c i (Update u) bytes h = absurd (none_some h)
-frame-line c i (Open a b d e) bytes h = absurd (none_some h)
+frame-line c i (Open a b d e layout) bytes h = absurd (none_some h)
 frame-line c i (Send a b) bytes h = absurd (none_some h)
 frame-line c i (Lapse a b) bytes h = absurd (none_some h)
 frame-line c i (Close a b) bytes h = absurd (none_some h)
@@ -108,7 +108,7 @@ own-kind c z (Reaped id) a h = absurd (none_some h)
 own-update : (c : ℕ) (l : TranscriptLine) (a : Attachment) → attach_shown c l ≡ Some a → (u : UpdateRec) × (l ≡ Update u) × IsOwnKind c u.zxid u.kind a
 own-update c (Update u) a h = (u, refl, own-kind c u.zxid u.kind a h)
 own-update c (FrameLine d i z b) a h = absurd (none_some h)
-own-update c (Open d b e f) a h = absurd (none_some h)
+own-update c (Open d b e f layout) a h = absurd (none_some h)
 own-update c (Send d b) a h = absurd (none_some h)
 own-update c (Lapse d b) a h = absurd (none_some h)
 own-update c (Close d b) a h = absurd (none_some h)
@@ -289,7 +289,7 @@ module _ (lines : List TranscriptLine) (c : ℕ) (k : ℕ) (a : Attachment) (leg
     next-held (Update u) at = update-held u.zxid u.kind at
     next-held (Lapse r id) at = held-as (state_at lines n) (lapsed_in (state_at lines n) id (session_at id (state_at lines n))) a
         (other-lapse (state_at lines n) id a.session (session_at id (state_at lines n)) (not-is a.session id (kept n (Lapse r id) lt at))) h
-    next-held (Open d p id pw) at = h
+    next-held (Open d p id pw layout) at = h
     next-held (FrameLine d i z b) at = h
     next-held (Send d b) at = h
     next-held (Close d e) at = h

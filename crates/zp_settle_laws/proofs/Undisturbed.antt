@@ -59,7 +59,7 @@ module _ (c : ℕ) (w w' : World) (x : Conn) (there : conn_at c w ≡ Some x) wh
 
     closed-stays : (h : Happening) → fault w h ≡ None → Effect w h w' → conn_at c w' ≡ conn_at c w
     unfolding fault
-    closed-stays (line.Open d p id passwd) free h = others d (free-apart d (number-free (conn_at d w) free)) (effect-on w w' (line.Open d p id passwd) h)
+    closed-stays (line.Open d p id passwd layout) free h = others d (free-apart d (number-free (conn_at d w) free)) (effect-on w w' (line.Open d p id passwd layout) h)
     closed-stays (line.Frame d bytes) free h = others d (live-apart d _ free) (effect-on w w' (line.Frame d bytes) h)
     closed-stays (line.Arrive d bytes) free h = others d (live-apart d _ free) (effect-on w w' (line.Arrive d bytes) h)
     closed-stays (line.Exec d) free h = others d (live-apart d _ free) (effect-on w w' (line.Exec d) h)
@@ -109,7 +109,7 @@ module _ (c p : ℕ) (place : ℕ) (own : Attachment) (last : World) (kept : Non
 
     effect-open : (h : Happening) → fault w h ≡ None → Effect w h w' → ends_conn c p h ≡ false → IsOpenAt c p w'
     unfolding fault
-    effect-open (line.Open d q id passwd) free h calm = fresh d (number-free (conn_at d w) free) (effect-on w w' (line.Open d q id passwd) h)
+    effect-open (line.Open d q id passwd layout) free h calm = fresh d (number-free (conn_at d w) free) (effect-on w w' (line.Open d q id passwd layout) h)
     effect-open (line.Reap d q id) free h calm = fresh d (number-free (conn_at d w) free) (effect-on w w' (line.Reap d q id) h)
     effect-open (line.Frame d bytes) free h calm = by-number d (effect-on w w' (line.Frame d bytes) h) (arrives d (with_length bytes) h)
     effect-open (line.Arrive d bytes) free h calm = by-number d (effect-on w w' (line.Arrive d bytes) h) (arrives d bytes h)

@@ -29,7 +29,7 @@ use Rattle.zs_session.specs.Sessions.{attach_wants, life_key}
 use Rattle.zs_session.specs.declared.connect.Connect.{Connect}
 use Rattle.zs_session.specs.declared.connect.ConnectStep.{ConnectStep}
 use Rattle.zs_session.specs.declared.connect.ConnectStep.TheVariants as steps
-use Rattle.zs_session.specs.declared.connect.Fresh.{Fresh}
+use Rattle.zk_service.specs.declared.fresh.Fresh.{Fresh}
 use Rattle.zp_step.specs.Connects.{Connects, Opens, begun, connected}
 use Rattle.zp_step.specs.Entries.{entered, then_reply}
 use Rattle.zp_step.specs.Keepalives.{Checked, KeptAlive, Looked, StillMine, TakesUp, checks, keeps_alive}

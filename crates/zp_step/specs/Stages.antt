@@ -17,7 +17,7 @@ use Rattle.zn_view.specs.declared.want.Want.{Want}
 use Rattle.zs_session.specs.Connecting.{asked_in_phase}
 use Rattle.zs_session.specs.Sessions.{attach_wants}
 use Rattle.zs_session.specs.declared.connect.Connect.{Connect}
-use Rattle.zs_session.specs.declared.connect.Fresh.{Fresh}
+use Rattle.zk_service.specs.declared.fresh.Fresh.{Fresh}
 use Rattle.zw_watch.specs.SeenPaths.{see_paths, unseen}
 use Rattle.zw_watch.specs.declared.seen_path.SeenPath.{SeenPath}
 use Rattle.zp_step.specs.declared.wants.Wants.{Wants}

@@ -7,6 +7,7 @@ ghost use Rattle.zp_world.specs.Applying.{IsOfScript};
 
 use crate::passing::pass;
 use std::alloc::Global;
+use zk_model::Layout;
 use zp_clients::connect_packet;
 use zp_world::World;
 use zt_text::Happening;
@@ -27,6 +28,7 @@ fn open_line(number: u32) -> Happening
         proxy: 1 + number % PROXIES,
         id: i64::from(number),
         passwd,
+        layout: Layout::Two,
     }
 }
 

@@ -140,7 +140,7 @@ end-fits (ended.Gone z) t n = (n, t)
 
 line-fits : (l : TranscriptLine) → IsTyped l → IsNaturalLine l → ((u : UpdateRec) → l ≡ Update u → UpdateFits u) → FitsLine l
 line-fits (Update u) t n f = (let g = f u refl in ((g.0, t.0), kind-fits u.kind t.1 g.1))
-line-fits (Open c p id passwd) t n f = (t.0, t.1, (n, t.2), t.3)
+line-fits (Open c p id passwd layout) t n f = (t.0, t.1, (n, t.2), t.3)
 line-fits (FrameLine c i z bytes) t n f = (t.0, t.1, (n, t.2), t.3)
 line-fits (Send c bytes) t n f = t
 line-fits (LapseLine z id) t n f = ((n.0, t.0), (n.1, t.1))
@@ -154,7 +154,7 @@ lines-fit (l ∷ ls) t n f =
 -- ---- those of a run
 
 names-offers : (h : Happening) → NamesSession h → OffersSession h
-names-offers (line.Open c p id passwd) n = n
+names-offers (line.Open c p id passwd layout) n = n
 names-offers (line.Frame c bytes) n = tt
 names-offers (line.Arrive c bytes) n = tt
 names-offers (line.Exec c) n = tt

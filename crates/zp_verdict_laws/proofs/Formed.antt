@@ -5,6 +5,8 @@ use Rattle.std.proofs.lemmas.Bool.Decides.{Decides-int_eq, nat_tests}
 use Rattle.std.proofs.lemmas.Bool.{and_from, and_parts}
 use Rattle.std.proofs.lemmas.Int.{ints}
 use Rattle.std.specs.Prelude.{Option, Some, None, if◌then◌else◌, int_le, int_lt, is_none, is_some, nat_le, not, slice_get, ◌<ℤ◌, ◌&&◌, ◌||◌, ◌==◌}
+use Rattle.zk_service.specs.declared.fresh.Fresh.{Fresh}
+use Rattle.zk_model.specs.declared.layout.Layout.{Layout}
 use Rattle.zk_legal.specs.Faults.{comes_after_begin, has_event, history_fault, history_fault_from, is_history_line, is_in_range, is_timely, or_empty}
 use Rattle.zk_legal.specs.Formed.{frames_of, has_begun, is_closed, is_formed_line, is_kind_formed, is_opened}
 use Rattle.zk_model.specs.Limits.{max_frame, max_time}
@@ -40,14 +42,14 @@ module _ (before : List TranscriptLine) (c : ℕ) where
   own-line : (p q : Progress) → (if c == c then q else p) ≡ q
   own-line p q = ap (λ b. if b then q else p) (same-nat c)
 
-  open-unopened : (proxy : ℕ) (id : ℤ) (passwd : List ℕ) → (progress c (before ++ Open c proxy id passwd ∷ []) ≡ Broken → ⊥) → is_some (opening c before) ≡ false
-  open-unopened proxy id passwd unbroken = go (progress c before) refl
+  open-unopened : (proxy : ℕ) (id : ℤ) (passwd : List ℕ) (layout : Layout) → (progress c (before ++ Open c proxy id passwd layout ∷ []) ≡ Broken → ⊥) → is_some (opening c before) ≡ false
+  open-unopened proxy id passwd layout unbroken = go (progress c before) refl
     where
       go : (p : Progress) → progress c before ≡ p → is_some (opening c before) ≡ false
       go Unused e = ap is_some (found-as c before Unused e).unopened
-      go (Opened n) e = absurd (unbroken (stepped (Open c proxy id passwd) (Opened n) Broken e (own-line (Opened n) Broken)))
-      go Ended e = absurd (unbroken (stepped (Open c proxy id passwd) Ended Broken e (own-line Ended Broken)))
-      go Broken e = absurd (unbroken (stepped (Open c proxy id passwd) Broken Broken e (own-line Broken Broken)))
+      go (Opened n) e = absurd (unbroken (stepped (Open c proxy id passwd layout) (Opened n) Broken e (own-line (Opened n) Broken)))
+      go Ended e = absurd (unbroken (stepped (Open c proxy id passwd layout) Ended Broken e (own-line Ended Broken)))
+      go Broken e = absurd (unbroken (stepped (Open c proxy id passwd layout) Broken Broken e (own-line Broken Broken)))
 
   -- it is open
   record IsStillOpen : Type 0 where
@@ -110,7 +112,7 @@ attach-frame : (before : List TranscriptLine) (c : ℕ) (z : ℤ) (o : Option Co
 attach-frame before c z None h = absurd (cc)
 attach-frame before c z (Some r) h = (and_parts (is_none (attach_of c before)) (is_small_frame (frame c 0 before)) (and_parts _ (int_lt r.last_zxid z) h).0).1
 
-offer-some : (id : ℤ) (o : Option (ℤ × List ℕ)) → offers id o ≡ true → is_some o ≡ true
+offer-some : (id : ℤ) (o : Option Fresh) → offers id o ≡ true → is_some o ≡ true
 offer-some id None h = absurd (cc)
 offer-some id (Some o) h = refl
 
@@ -133,7 +135,7 @@ some-begun s h = grind (arith, nat_tests)
 formed-line : (before : List TranscriptLine) (s : State) (l : TranscriptLine) → ((c : ℕ) → progress c before ≡ Broken → ⊥) → ((c : ℕ) → progress c (before ++ l ∷ []) ≡ Broken → ⊥) → 1 ≤ s.updates
     → ((c i : ℕ) (z : ℤ) (bytes : List ℕ) → l ≡ FrameLine c i z bytes → z ≡ s.zxid) → is_legal_line before s l ≡ true → is_formed_line before s l ≡ true
 unfolding is_formed_line is_opened is_closed
-formed-line before s (Open c proxy id passwd) was unbroken begun last legal = ap not (open-unopened before c proxy id passwd (unbroken c))
+formed-line before s (Open c proxy id passwd layout) was unbroken begun last legal = ap not (open-unopened before c proxy id passwd layout (unbroken c))
 formed-line before s (FrameLine c i z bytes) was unbroken begun last legal =
     let f = frame-next before c i z bytes (unbroken c) in
     and_from _ _ (and_from _ _ (and_from _ _ (and_from _ _ (and_from _ _ f.open_still.opened (ap not f.open_still.unclosed)) f.index) f.small) (some-begun s begun)) ((Decides-int_eq z s.zxid).1 (last c i z bytes refl))
@@ -147,7 +149,7 @@ formed-line before s (Lapse revision id) was unbroken begun last legal = refl
 begun-line : (s : State) (l : TranscriptLine) → 1 ≤ s.updates → comes_after_begin s l ≡ true
 begun-line s (Update u) h = ap (λ b. b || is_begin u.kind) (some-begun s h)
 begun-line s (Lapse revision id) h = some-begun s h
-begun-line s (Open c proxy id passwd) h = refl
+begun-line s (Open c proxy id passwd layout) h = refl
 begun-line s (FrameLine c i z bytes) h = refl
 begun-line s (Send c bytes) h = refl
 begun-line s (Close c end) h = refl
@@ -172,7 +174,7 @@ range-line before s (Update u) begun legal zxid clock =
     and_from _ _ (above-two u.zxid (zxid u refl))
     (time-within before s u.zxid u.kind begun (and_parts (may_update before s u.zxid u.kind) (is_next_zxid s u.zxid) legal).0 (λ c i now e. clock c i now u.zxid (ap (λ k. Update (record { zxid = u.zxid; kind = k })) e)))
 range-line before s (Lapse revision id) begun legal zxid clock = refl
-range-line before s (Open c proxy id passwd) begun legal zxid clock = refl
+range-line before s (Open c proxy id passwd layout) begun legal zxid clock = refl
 range-line before s (FrameLine c i z bytes) begun legal zxid clock = refl
 range-line before s (Send c bytes) begun legal zxid clock = refl
 range-line before s (Close c end) begun legal zxid clock = refl

@@ -1,6 +1,8 @@
 -- What the progress of a number says of look-ups in the lines.
 use Rattle.std.proofs.Common.{◌≡◌, ℕ, ℤ, ◌+◌, List, [], ◌∷◌, ◌++◌, length, refl, sym, ap, ◌∙◌, subst, append_assoc, append-nil, arith, Bool, true, false}
 use Rattle.std.specs.Prelude.{Some, None, if◌then◌else◌, nat_le, ◌&&◌, ◌==◌}
+use Rattle.zk_service.specs.declared.fresh.Fresh.{Fresh}
+use Rattle.zk_model.specs.declared.layout.Layout.{Layout}
 use Rattle.zk_legal.specs.Formed.{frames_of, is_frame_of}
 use Rattle.zk_model.specs.Limits.{max_frame}
 use Rattle.zk_transcript.proofs.Histories.{first_shown-push}
@@ -22,13 +24,13 @@ pub record IsUnshown (lines : List TranscriptLine) (c : ℕ) : Type 0 where
 
 -- it was opened and not closed, and it has so many frames
 pub record IsOpenSoFar (lines : List TranscriptLine) (c n : ℕ) : Type 0 where
-  pub offer : ℤ × List ℕ
+  pub offer : Fresh
   pub opened : opening c lines ≡ Some offer
   pub unclosed : first_shown (close_shown c) lines ≡ None
   pub count : frames_of c lines ≡ n
 
 abbrev pub WasOpened : List TranscriptLine → ℕ → Type 0
-WasOpened lines c = (o : ℤ × List ℕ) × (opening c lines ≡ Some o)
+WasOpened lines c = (o : Fresh) × (opening c lines ≡ Some o)
 
 -- what has frames was opened
 abbrev pub OpensBeforeFrames : List TranscriptLine → ℕ → Type 0
@@ -81,24 +83,24 @@ off-both false b h = refl
 
 module _ (c d : ℕ) (lines : List TranscriptLine) where
   -- it opens
-  module _ (proxy : ℕ) (id : ℤ) (passwd : List ℕ) where
-    open-own : (p : Progress) → (c == d) ≡ true → IsFoundAs lines c p → IsFoundAs (lines ++ Open d proxy id passwd ∷ []) c (opens p)
+  module _ (proxy : ℕ) (id : ℤ) (passwd : List ℕ) (layout : Layout) where
+    open-own : (p : Progress) → (c == d) ≡ true → IsFoundAs lines c p → IsFoundAs (lines ++ Open d proxy id passwd layout ∷ []) c (opens p)
     open-own Unused same s = record {
-      offer = (id, passwd);
-      opened = first_shown-new (open_shown c) lines (Open d proxy id passwd) s.unopened ∙ when-on (c == d) (id, passwd) same;
-      unclosed = first_shown-skip (close_shown c) lines (Open d proxy id passwd) refl ∙ s.unclosed;
-      count = not-counted c lines (Open d proxy id passwd) refl ∙ s.none;
+      offer = (record { id = id; passwd = passwd; layout = layout });
+      opened = first_shown-new (open_shown c) lines (Open d proxy id passwd layout) s.unopened ∙ when-on (c == d) (record { id = id; passwd = passwd; layout = layout }) same;
+      unclosed = first_shown-skip (close_shown c) lines (Open d proxy id passwd layout) refl ∙ s.unclosed;
+      count = not-counted c lines (Open d proxy id passwd layout) refl ∙ s.none;
     }
     open-own (Opened n) same s = tt
     open-own Ended same s = tt
     open-own Broken same s = tt
 
-    found-open : (p : Progress) → IsFoundAs lines c p → IsFoundAs (lines ++ Open d proxy id passwd ∷ []) c (progressed c p (Open d proxy id passwd))
+    found-open : (p : Progress) → IsFoundAs lines c p → IsFoundAs (lines ++ Open d proxy id passwd layout ∷ []) c (progressed c p (Open d proxy id passwd layout))
     found-open p s = go (c == d) refl
       where
-        go : (b : Bool) → (c == d) ≡ b → IsFoundAs (lines ++ Open d proxy id passwd ∷ []) c (if b then opens p else p)
+        go : (b : Bool) → (c == d) ≡ b → IsFoundAs (lines ++ Open d proxy id passwd layout ∷ []) c (if b then opens p else p)
         go true e = open-own p e s
-        go false e = found-skip c lines (Open d proxy id passwd) (when-off (c == d) (id, passwd) e) refl (λ i. refl) refl p s
+        go false e = found-skip c lines (Open d proxy id passwd layout) (when-off (c == d) (record { id = id; passwd = passwd; layout = layout }) e) refl (λ i. refl) refl p s
 
   -- a frame comes
   module _ (i : ℕ) (zxid : ℤ) (bytes : List ℕ) where
@@ -156,7 +158,7 @@ module _ (c d : ℕ) (lines : List TranscriptLine) where
       go false e = found-skip c lines (Close d end) refl (when-off (c == d) d e) (λ i. refl) refl p s
 
 found-line : (c : ℕ) (lines : List TranscriptLine) (p : Progress) (l : TranscriptLine) → IsFoundAs lines c p → IsFoundAs (lines ++ l ∷ []) c (progressed c p l)
-found-line c lines p (Open d proxy id passwd) s = found-open c d lines proxy id passwd p s
+found-line c lines p (Open d proxy id passwd layout) s = found-open c d lines proxy id passwd layout p s
 found-line c lines p (FrameLine d i zxid bytes) s = found-frame c d lines i zxid bytes p s
 found-line c lines p (Send d bytes) s = found-send c d lines bytes p s
 found-line c lines p (Close d end) s = found-close c d lines end p s

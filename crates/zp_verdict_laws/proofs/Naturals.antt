@@ -29,7 +29,7 @@ IsNaturalEnd (ended.Kept z) = IsNatural z
 IsNaturalEnd (ended.Gone z) = IsNatural z
 
 abbrev pub IsNaturalLine : TranscriptLine → Type 0
-IsNaturalLine (Open c p id passwd) = pos 1 ≤ℤ id
+IsNaturalLine (Open c p id passwd layout) = pos 1 ≤ℤ id
 IsNaturalLine (FrameLine c i z bytes) = IsNatural z
 IsNaturalLine (LapseLine z id) = IsNatural z × (pos 1 ≤ℤ id)
 IsNaturalLine (Close c end) = IsNaturalEnd end

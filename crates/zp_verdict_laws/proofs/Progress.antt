@@ -41,7 +41,7 @@ closes Ended = Broken
 closes Broken = Broken
 
 abbrev pub progressed : ℕ → Progress → TranscriptLine → Progress
-progressed c p (Open d proxy id passwd) = if c == d then opens p else p
+progressed c p (Open d proxy id passwd layout) = if c == d then opens p else p
 progressed c p (FrameLine d i zxid bytes) = if c == d then takes i bytes p else p
 progressed c p (Send d bytes) = if c == d then sends p else p
 progressed c p (Close d end) = if c == d then closes p else p
@@ -71,7 +71,7 @@ either-same true p = refl
 either-same false p = refl
 
 broken-line : (c : ℕ) (l : TranscriptLine) → progressed c Broken l ≡ Broken
-broken-line c (Open d proxy id passwd) = either-same (c == d) Broken
+broken-line c (Open d proxy id passwd layout) = either-same (c == d) Broken
 broken-line c (FrameLine d i zxid bytes) = either-same (c == d) Broken
 broken-line c (Send d bytes) = either-same (c == d) Broken
 broken-line c (Close d end) = either-same (c == d) Broken
@@ -96,7 +96,7 @@ skipped true p q h = absurd (cc)
 skipped false p q h = refl
 
 unnamed-line : (c : ℕ) (p : Progress) (l : TranscriptLine) → not (names_conn c l) ≡ true → progressed c p l ≡ p
-unnamed-line c p (Open d proxy id passwd) h = skipped (c == d) (opens p) p h
+unnamed-line c p (Open d proxy id passwd layout) h = skipped (c == d) (opens p) p h
 unnamed-line c p (FrameLine d i zxid bytes) h = skipped (c == d) (takes i bytes p) p h
 unnamed-line c p (Send d bytes) h = skipped (c == d) (sends p) p h
 unnamed-line c p (Close d end) h = skipped (c == d) (closes p) p h

@@ -7,6 +7,7 @@ use Rattle.std.proofs.lemmas.List.Elements.{All-cons, All-head, All-nil, All-tai
 use Rattle.std.specs.FinMap.{get-empty}
 use Rattle.std.specs.Ordering.{nat_cmp}
 use Rattle.std.specs.Prelude.{All, None, Option, Some, if◌then◌else◌, nat_lt, slice_get}
+use Rattle.zk_model.specs.declared.layout.Layout.{Layout}
 use Rattle.zk_jute.specs.JuteWriting.{with_length}
 use Rattle.zk_legal.proofs.Counting.{frames-few}
 use Rattle.zk_legal.specs.Formed.{frames_of}
@@ -43,11 +44,11 @@ use Rattle.zx_base.proofs.Booleans.{same-test as same-nat}
 
 -- ---- a number is taken
 
-module _ (w : World) (c p : ℕ) (id : ℤ) (passwd : List ℕ) (free : conn_at c w ≡ None) where
+module _ (w : World) (c p : ℕ) (id : ℤ) (passwd : List ℕ) (layout : Layout) (free : conn_at c w ≡ None) where
   abbrev opened_conn : Conn
-  opened_conn = new_conn p (Connection (new_core (record { id = id; passwd = passwd })))
+  opened_conn = new_conn p (Connection (new_core (record { id = id; passwd = passwd; layout = layout })))
 
-  open-changes : ChangesOne w (opened w c p id passwd) c opened_conn (Open c p id passwd ∷ [])
+  open-changes : ChangesOne w (opened w c p (record { id = id; passwd = passwd; layout = layout })) c opened_conn (Open c p id passwd layout ∷ [])
   open-changes = record {
     lines = refl;
     clock = refl;
@@ -57,17 +58,17 @@ module _ (w : World) (c p : ℕ) (id : ℤ) (passwd : List ℕ) (free : conn_at 
     aside = λ d apart q. ap (λ b. if b then opens q else q) (other-number d c apart);
   }
 
-  open-in_step : IsTidy w → IsInStep (w.lines ++ Open c p id passwd ∷ []) c opened_conn.frames opened_conn.actor
+  open-in_step : IsTidy w → IsInStep (w.lines ++ Open c p id passwd layout ∷ []) c opened_conn.frames opened_conn.actor
   open-in_step t = (
     refl,
-    progress-append c w.lines (Open c p id passwd ∷ [])
-        ∙ ap (λ q. progress_from c q (Open c p id passwd ∷ [])) (t.unused c free)
+    progress-append c w.lines (Open c p id passwd layout ∷ [])
+        ∙ ap (λ q. progress_from c q (Open c p id passwd layout ∷ [])) (t.unused c free)
         ∙ ap (λ b. if b then Opened 0 else Unused) (same-nat c),
   )
 
-  open-proceeds : Proceeds (NamesSession (line.Open c p id passwd)) w (opened w c p id passwd)
-  open-proceeds = one-proceeds (NamesSession (line.Open c p id passwd)) w (opened w c p id passwd) c opened_conn (Open c p id passwd ∷ []) open-changes
-      (λ offer k. record { lines = one-line (Open c p id passwd) offer.least; conn = record { actor = record { stage = tt; cursor = natural 0; mine = natural 0 }; flight = tt } })
+  open-proceeds : Proceeds (NamesSession (line.Open c p id passwd layout)) w (opened w c p (record { id = id; passwd = passwd; layout = layout }))
+  open-proceeds = one-proceeds (NamesSession (line.Open c p id passwd layout)) w (opened w c p (record { id = id; passwd = passwd; layout = layout })) c opened_conn (Open c p id passwd layout ∷ []) open-changes
+      (λ offer k. record { lines = one-line (Open c p id passwd layout) offer.least; conn = record { actor = record { stage = tt; cursor = natural 0; mine = natural 0 }; flight = tt } })
       (λ t n. open-in_step t)
 
 -- ---- the store changes by itself
@@ -93,7 +94,7 @@ tick-proceeds w n within = record { more = []; lines = sym (append-nil w.lines);
 
 does-proceeds : (w w' : World) (h : Happening) → fault w h ≡ None → Does w h w' → Proceeds (NamesSession h) w w'
 unfolding fault
-does-proceeds w w' (line.Open c p id passwd) possible h = proceeds-to (NamesSession (line.Open c p id passwd)) w (opened w c p id passwd) w' h (open-proceeds w c p id passwd (number-free (conn_at c w) possible))
+does-proceeds w w' (line.Open c p id passwd layout) possible h = proceeds-to (NamesSession (line.Open c p id passwd layout)) w (opened w c p (record { id = id; passwd = passwd; layout = layout })) w' h (open-proceeds w c p id passwd layout (number-free (conn_at c w) possible))
 does-proceeds w w' (line.Frame c bytes) possible h = arrives-proceeds c w w' (with_length bytes) h
 does-proceeds w w' (line.Arrive c bytes) possible h = arrives-proceeds c w w' bytes h
 does-proceeds w w' (line.Exec c) possible h = exec-proceeds w w' c h

@@ -36,7 +36,7 @@ use Rattle.zs_session.specs.Sessions.{attach_wants, life_key}
 use Rattle.zs_session.specs.declared.connect.Connect.{Connect}
 use Rattle.zs_session.specs.declared.connect.ConnectStep.TheVariants as steps
 use Rattle.zs_session.specs.declared.connect.ConnectStep.{ConnectStep}
-use Rattle.zs_session.specs.declared.connect.Fresh.{Fresh}
+use Rattle.zk_service.specs.declared.fresh.Fresh.{Fresh}
 use Rattle.zx_base.proofs.Options.{none_some, some_is}
 use Rattle.zp_step.proofs.Cases.{of_alive}
 use Rattle.zp_step.proofs.Beside.{PlansBeside, first-or-anew, leaves-beside}

@@ -29,7 +29,7 @@ use Rattle.zt_text.specs.declared.script.Happening.{Happening}
 -- A connection offers a session's number and a password in their ranges, and a lapse names a session's number. So does each line
 -- that is read from a text.
 abbrev pub NamesSession : Happening → Type 0
-NamesSession (line.Open c p id passwd) = OffersSession (line.Open c p id passwd)
+NamesSession (line.Open c p id passwd layout) = OffersSession (line.Open c p id passwd layout)
 NamesSession (line.Lapse id) = pos 1 ≤ℤ id
 NamesSession _ = Unit {0}
 
@@ -67,7 +67,7 @@ IsTypedEnd (ended.Gone rev) = IsInLong rev
 
 abbrev pub IsTyped : TranscriptLine → Type 0
 IsTyped (shown.Update u) = IsInLong u.zxid × IsTypedKind u.kind
-IsTyped (shown.Open c p id passwd) = FitsNumber c × FitsNumber p × IsInLong id × FitsPassword passwd
+IsTyped (shown.Open c p id passwd layout) = FitsNumber c × FitsNumber p × IsInLong id × FitsPassword passwd
 IsTyped (shown.Frame c i z bytes) = FitsNumber c × FitsPlace i × IsInLong z × AreBytes bytes
 IsTyped (shown.Send c bytes) = FitsNumber c × AreBytes bytes
 IsTyped (shown.Lapse rev id) = IsInLong rev × IsInLong id

@@ -30,6 +30,7 @@ fn line_is_typed(line: &TranscriptLine)
             proxy,
             id,
             passwd,
+            ..
         } => {
             is_number(*connection);
             is_number(*proxy);

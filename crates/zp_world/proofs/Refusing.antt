@@ -24,7 +24,7 @@ refuses-same w w' h cause r f e same = rw e (f, same)
 
 -- ---- the tests of each line
 
-pub open-line : (w : World) (c p : ℕ) (id : ℤ) (pw : List ℕ) → fault w (line.Open c p id pw) ≡ new_fault c w None
+pub open-line : (w : World) (c p : ℕ) (id : ℤ) (pw : List ℕ) → fault w (line.Open c p id pw layout) ≡ new_fault c w None
 unfolding fault
 open-line w c p id pw = refl
 

@@ -10,7 +10,7 @@ use Rattle.zp_world.specs.declared.fault.ApplyFault.TheVariants.{NotPossible, Me
 
 -- a session's number is at least 1, as each line that is read has it
 abbrev pub IsOfScript : Happening → Type 0
-IsOfScript (line.Open c p id passwd) = pos 1 ≤ℤ id
+IsOfScript (line.Open c p id passwd layout) = pos 1 ≤ℤ id
 IsOfScript (line.Reap c p id) = pos 1 ≤ℤ id
 IsOfScript _ = Unit {0}
 

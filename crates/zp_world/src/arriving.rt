@@ -29,26 +29,21 @@ use zp_step::{Action, Fresh, Input};
 use zx_base::{Bytes, Memory};
 
 impl World {
-    /// A connection opens at a proxy. A new session that it begins gets this number and password.
-    pub(crate) fn open(
-        &mut self,
-        connection: u32,
-        proxy: u32,
-        id: i64,
-        passwd: [u8; 16],
-    ) -> Result<(), Memory>
-        requires { pos 1 ≤ℤ id }
-        ensures { OnOk result (self.new ≡ opened self.old connection proxy id passwd) }
+    /// A connection opens at a proxy. A new session that it begins is made with this.
+    pub(crate) fn open(&mut self, connection: u32, proxy: u32, fresh: Fresh) -> Result<(), Memory>
+        requires { pos 1 ≤ℤ fresh.id }
+        ensures { OnOk result (self.new ≡ opened self.old connection proxy fresh) }
     {
+        let Fresh { id, passwd, layout } = fresh;
         are_bytes(&passwd);
         self.transcript.push(TranscriptLine::Open {
             connection,
             proxy,
             id,
             passwd,
+            layout,
         })?;
-        self.activities
-            .open(connection, proxy, Fresh { id, passwd })
+        self.activities.open(connection, proxy, fresh)
     }
 
     /// Bytes of a client come: what is whole with them is shown and handed in, frame by frame.

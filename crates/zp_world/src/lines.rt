@@ -13,6 +13,7 @@ use crate::fault::{ApplyFault, refused};
 use crate::world::World;
 use ev_store::{Denied, StoreFault};
 use zk_model::limit::MAX_TIME;
+use zk_service::Fresh;
 use zk_transcript::TranscriptLine;
 use zt_text::Why;
 use zx_base::Bytes;
@@ -22,16 +23,15 @@ impl World {
         &mut self,
         connection: u32,
         proxy: u32,
-        id: i64,
-        passwd: [u8; 16],
+        fresh: Fresh,
     ) -> Result<(), ApplyFault>
-        requires { pos 1 ≤ℤ id }
-        ensures { Applies self.old (line.Open connection proxy id passwd) result self.new }
+        requires { pos 1 ≤ℤ fresh.id }
+        ensures { Applies self.old (line.Open connection proxy fresh.id fresh.passwd fresh.layout) result self.new }
     {
         match self.new_why(connection) {
             Some(why) => Err(refused(why)),
             None => {
-                self.open(connection, proxy, id, passwd)?;
+                self.open(connection, proxy, fresh)?;
                 Ok(())
             }
         }

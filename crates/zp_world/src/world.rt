@@ -20,7 +20,7 @@ use crate::strays::Strays;
 use ev_store::{Store, StoreFault};
 use std::alloc::Global;
 use std::marker::Model;
-use zk_service::{UpdateKind, UpdateRec};
+use zk_service::{Fresh, UpdateKind, UpdateRec};
 use zk_transcript::{Conversation, TranscriptLine};
 use zn_layout::{begin_ask, begin_stands};
 use zp_ledger::{Entries, Transcript};
@@ -175,7 +175,11 @@ impl World {
                 proxy,
                 id,
                 passwd,
-            } => self.open_line(connection, proxy, id, passwd),
+                layout,
+            } => {
+                let fresh = Fresh { id, passwd, layout };
+                self.open_line(connection, proxy, fresh)
+            }
             Happening::Frame { connection, bytes } => self.frame_line(connection, bytes),
             Happening::Arrive { connection, bytes } => self.bytes_line(connection, bytes),
             Happening::Exec { connection } => self.exec_line(connection),

@@ -8,6 +8,7 @@ use Rattle.std.proofs.Common.{Bool, List, [], ap, append-nil, arith, false, inl,
 use Rattle.std.specs.FinMap.{get}
 use Rattle.std.specs.Ordering.{int_eq}
 use Rattle.std.specs.Prelude.{None, Option, Some, if◌then◌else◌, not, option_and_then, ◌==◌, ◌⊎◌}
+use Rattle.zk_model.specs.declared.layout.Layout.{Layout}
 use Rattle.zk_transcript.proofs.Appending.{after-push}
 use Rattle.zk_transcript.proofs.Attachments.{attach_of-skip}
 use Rattle.zk_transcript.proofs.Lookups.{first_shown-new}
@@ -58,7 +59,7 @@ use Rattle.zp_world_laws.specs.Naming.{is_made_for, is_unnamed}
 use Rattle.zp_world_laws.specs.Reaping.{IsReapAsk, IsReapFlight}
 use Rattle.zp_world_laws.specs.Serving.{StoreServes, kind_lines, next_revision, update_lines}
 use Rattle.zs_reap.specs.Steps.{reaper_wants}
-use Rattle.zs_session.specs.declared.connect.Fresh.{Fresh}
+use Rattle.zk_service.specs.declared.fresh.Fresh.{Fresh}
 use Rattle.zx_base.proofs.Options.{none_some, some_is}
 use Rattle.zx_base.proofs.Booleans.{and-both as both-true, same-test as same-nat, true-not_false as true-false, same-number}
 
@@ -277,55 +278,55 @@ module _ (w w' : World) (n : ℕ) (ex : ExecutesStray n w w') (k : IsAccounted w
 
 -- ---- a number is taken
 
-module _ (w : World) (c p : ℕ) (id : ℤ) (passwd : List ℕ) (free : conn_at c w ≡ None) (offer : IsOffer (record { id = id; passwd = passwd })) (k : IsAccounted w) where
+module _ (w : World) (c p : ℕ) (id : ℤ) (passwd : List ℕ) (layout : Layout) (free : conn_at c w ≡ None) (offer : IsOffer (record { id = id; passwd = passwd; layout = layout })) (k : IsAccounted w) where
   l : TranscriptLine
-  l = Open c p id passwd
+  l = Open c p id passwd layout
 
   fresh : Fresh
-  fresh = record { id = id; passwd = passwd }
+  fresh = record { id = id; passwd = passwd; layout = layout }
 
   none : is_unnamed c w.lines ≡ true
   none = (k.known).unused c free
 
-  shows : open_shown c (Open c p id passwd) ≡ Some (id, passwd)
-  shows = ap (λ b. when b (id, passwd)) (same-nat c)
+  shows : open_shown c (Open c p id passwd layout) ≡ Some (record { id = id; passwd = passwd; layout = layout })
+  shows = ap (λ b. when b (record { id = id; passwd = passwd; layout = layout })) (same-nat c)
 
-  offered : opening c (w.lines ++ Open c p id passwd ∷ []) ≡ Some (id, passwd)
-  offered = first_shown-new (open_shown c) w.lines (Open c p id passwd) (never-opened c w.lines none) ∙ shows
+  offered : opening c (w.lines ++ Open c p id passwd layout ∷ []) ≡ Some (record { id = id; passwd = passwd; layout = layout })
+  offered = first_shown-new (open_shown c) w.lines (Open c p id passwd layout) (never-opened c w.lines none) ∙ shows
 
-  lined : IsLined (w.lines ++ Open c p id passwd ∷ []) c 0
+  lined : IsLined (w.lines ++ Open c p id passwd layout ∷ []) c 0
   lined = record {
-    offer = (id, passwd);
+    offer = (record { id = id; passwd = passwd; layout = layout });
     opened = offered;
-    unended = first_place-front (close_shown c) 0 w.lines (Open c p id passwd ∷ []) (λ j. refl) ∙ close-none c 0 w.lines none;
-    to_come = λ i le. first_place-front (frame_shown c i) 0 w.lines (Open c p id passwd ∷ []) (λ j. refl) ∙ frame-none c i 0 w.lines none;
+    unended = first_place-front (close_shown c) 0 w.lines (Open c p id passwd layout ∷ []) (λ j. refl) ∙ close-none c 0 w.lines none;
+    to_come = λ i le. first_place-front (frame_shown c i) 0 w.lines (Open c p id passwd layout ∷ []) (λ j. refl) ∙ frame-none c i 0 w.lines none;
   }
 
-  opened-known : IsKnownAs w.store (w.lines ++ Open c p id passwd ∷ []) c (new_conn p (Connection (new_core (record { id = id; passwd = passwd })))) (Connection (new_core (record { id = id; passwd = passwd })))
+  opened-known : IsKnownAs w.store (w.lines ++ Open c p id passwd layout ∷ []) c (new_conn p (Connection (new_core (record { id = id; passwd = passwd; layout = layout })))) (Connection (new_core (record { id = id; passwd = passwd; layout = layout })))
   opened-known = (
     record { lined = lined; numbered = refl; came = refl; most = omega arith; rested = λ e. refl },
     (
       record {
         untouched = record {
-          silent = packets-plain c w.lines (Open c p id passwd) refl ∙ never-sent c w.lines none;
-          turn = ahead-push w.lines (Open c p id passwd) c 1 refl (never-carried c 1 w.lines none);
+          silent = packets-plain c w.lines (Open c p id passwd layout) refl ∙ never-sent c w.lines none;
+          turn = ahead-push w.lines (Open c p id passwd layout) c 1 refl (never-carried c 1 w.lines none);
           offered = offered;
           offer = offer;
         };
-        unattached = attach_of-skip w.lines (Open c p id passwd) c refl ∙ never-attached c w.lines none;
+        unattached = attach_of-skip w.lines (Open c p id passwd layout) c refl ∙ never-attached c w.lines none;
         none_waits = refl;
       },
       refl,
     ),
   )
 
-  pub open-accounted : IsAccounted (opened w c p id passwd)
+  pub open-accounted : IsAccounted (opened w c p (record { id = id; passwd = passwd; layout = layout }))
   open-accounted =
-      let whole = open-whole w c p id passwd free k.whole in
-      let v : Conn = new_conn p (Connection (new_core (record { id = id; passwd = passwd }))) in
+      let whole = open-whole w c p id passwd layout free k.whole in
+      let v : Conn = new_conn p (Connection (new_core (record { id = id; passwd = passwd; layout = layout }))) in
       record {
         whole = whole;
-        known = known-alone w (opened w c p id passwd) c (Open c p id passwd ∷ []) k.known (record {
+        known = known-alone w (opened w c p (record { id = id; passwd = passwd; layout = layout })) c (Open c p id passwd layout ∷ []) k.known (record {
           longer = precedes-self w.store;
           legal = (((k.whole).holds).serves).legal;
           still_legal = ((whole.holds).serves).legal;
@@ -333,10 +334,10 @@ module _ (w : World) (c p : ℕ) (id : ℤ) (passwd : List ℕ) (free : conn_at 
           others = λ d apart. conn-there w c d v apart;
           unnamed = λ d apart. inr (both-true (not (d == c)) true (ap not (other-number d c apart)) refl);
         })
-            (λ x e. subst (λ (q : Conn). IsKnownAs w.store (w.lines ++ Open c p id passwd ∷ []) c q q.actor) (some_is (sym (conn-here w c v) ∙ e)) opened-known)
+            (λ x e. subst (λ (q : Conn). IsKnownAs w.store (w.lines ++ Open c p id passwd layout ∷ []) c q q.actor) (some_is (sym (conn-here w c v) ∙ e)) opened-known)
             (λ e. absurd (none_some (sym e ∙ conn-here w c v)));
-        entries = entries-line w.lines (Open c p id passwd) w.entries (ap (λ (s : State). s.updates) (after-push w.lines (Open c p id passwd))) k.entries;
-        within = λ d. within-plain w.lines (Open c p id passwd) d refl (λ n. refl) (k.within d);
+        entries = entries-line w.lines (Open c p id passwd layout) w.entries (ap (λ (s : State). s.updates) (after-push w.lines (Open c p id passwd layout))) k.entries;
+        within = λ d. within-plain w.lines (Open c p id passwd layout) d refl (λ n. refl) (k.within d);
       }
 
 pub reap-accounted : (w w' : World) (c p : ℕ) (id : ℤ) → conn_at c w ≡ None → Reaps c w None w' (new_reaper p id) (new_reap id) → IsAccounted w → IsAccounted w'

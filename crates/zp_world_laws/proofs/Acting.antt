@@ -66,7 +66,7 @@ own-names d c (FrameLine e i z bytes) apart h = apart-same d c e apart h
 own-names d c (Send e bytes) apart h = apart-same d c e apart h
 own-names d c (Close e end) apart h = apart-same d c e apart h
 own-names d c (Update u) apart h = absurd (cc)
-own-names d c (Open e p id passwd) apart h = absurd (cc)
+own-names d c (Open e p id passwd layout) apart h = absurd (cc)
 own-names d c (LapseLine r id) apart h = absurd (cc)
 
 pub own-unnamed : (d c : ℕ) (ls : List TranscriptLine) → d ≢ c → list_all (is_own c) ls ≡ true → is_unnamed d ls ≡ true

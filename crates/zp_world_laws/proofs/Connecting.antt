@@ -317,7 +317,7 @@ module _ (s u : Store) (lines : List TranscriptLine) (c : ℕ) (core : Core) (x 
           let sess = new_session (opening c lines) (connect c lines) c (next_revision s) in
           let own : IsOwnSession (lines ++ line_of s (NewSession x.fresh.id c) ∷ []) c x.fresh.id (timeout_in x) x.fresh.passwd (revision u) (number_shown ans.0) = session-in (NewSession x.fresh.id c) x.fresh.id (λ z. new-attaches c z x.fresh.id) of_kind ((k.untouched).offer).least (timeout_in x) x.fresh.passwd (number_shown ans.0) sess done.0 (session-new lines (after lines) (next_revision s) x.fresh.id c)
           (ap (λ o. granted_timeout (or_nothing (pos 0) (option_map (λ (r : ConnectRequest). r.timeout) o))) (connect-is lines c k.bytes x.request (first_shown-place (frame_shown c 0) 0 lines (k.place, k.bytes) k.framed) k.reads))
-          (ap (λ o. or_nothing [] (option_map (λ (y : ℤ × List ℕ). y.1) o)) (k.untouched).offered) number in
+          (ap (λ o. or_nothing [] (option_map (λ (y : Fresh). y.passwd) o)) (k.untouched).offered) number in
           line-added (NewSession x.fresh.id c) x.fresh.id (λ z. new-attaches c z x.fresh.id) of_kind done.0 done.1
           (subst (λ y. HasOwnLine (lines ++ line_of s (NewSession x.fresh.id c) ∷ []) c x x.phase y) (sym ans.1)
           (subst (λ p. HasOwnLine (lines ++ line_of s (NewSession x.fresh.id c) ∷ []) c x p (answer.Txn (revision u) true ans.0)) (sym e) own))

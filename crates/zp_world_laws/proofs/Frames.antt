@@ -52,7 +52,7 @@ use Rattle.zs_session.specs.Connecting.{Waits as ConnectWaits, asked_in_phase}
 use Rattle.zs_session.specs.declared.connect.Connect.{Connect}
 use Rattle.zs_session.specs.declared.connect.ConnectStep.TheVariants as steps
 use Rattle.zs_session.specs.declared.connect.ConnectStep.{ConnectStep}
-use Rattle.zs_session.specs.declared.connect.Fresh.{Fresh}
+use Rattle.zk_service.specs.declared.fresh.Fresh.{Fresh}
 use Rattle.zs_session.specs.declared.connect.Phase.TheVariants.{Looking}
 use Rattle.zs_session.specs.declared.connect.Phase.{Phase}
 use Rattle.zx_base.proofs.Options.{none_some}

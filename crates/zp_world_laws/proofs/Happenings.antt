@@ -1,6 +1,7 @@
 -- The lines of a script that keep a world whole.
 use Rattle.std.proofs.Common.{◌≡◌, ℕ, ◌+◌, List, refl, sym, ap, ◌∙◌, subst, Bool, true, false, ℤ}
 use Rattle.std.specs.Prelude.{Option, Some, None, is_none, is_some, option_and_then}
+use Rattle.zk_model.specs.declared.layout.Layout.{Layout}
 use Rattle.zt_text.specs.declared.script.Happening.TheVariants as line
 use Rattle.zt_text.specs.declared.script.Why.{Why}
 use Rattle.zt_text.specs.declared.script.Why.TheVariants as why
@@ -62,9 +63,9 @@ end-keeps c w w' possible does h = end-whole w w' c _ does h
 pub restart-keeps : (p : ℕ) → Keeps (line.Restart p)
 restart-keeps p w w' possible does h = subst Whole (sym does) (restart-whole w p h)
 
-pub open-keeps : (c p : ℕ) (id : ℤ) (passwd : List ℕ) → Keeps (line.Open c p id passwd)
+pub open-keeps : (c p : ℕ) (id : ℤ) (passwd : List ℕ) (layout : Layout) → Keeps (line.Open c p id passwd layout)
 unfolding fault
-open-keeps c p id passwd w w' possible does h = subst Whole (sym does) (open-whole w c p id passwd (none-unless_some (conn_at c w) ((passes (is_some (conn_at c w)) _ _ possible).0)) h)
+open-keeps c p id passwd layout w w' possible does h = subst Whole (sym does) (open-whole w c p id passwd layout (none-unless_some (conn_at c w) ((passes (is_some (conn_at c w)) _ _ possible).0)) h)
 
 pub reap-keeps : (c p : ℕ) (id : ℤ) → Keeps (line.Reap c p id)
 unfolding fault

@@ -59,7 +59,7 @@ use Rattle.zs_reap.specs.declared.reap.Phase.{Phase as ReapPhase}
 use Rattle.zs_reap.specs.declared.reap.Reap.{Reap}
 use Rattle.zs_session.specs.Connecting.{number_shown, timeout_in}
 use Rattle.zs_session.specs.declared.connect.Connect.{Connect}
-use Rattle.zs_session.specs.declared.connect.Fresh.{Fresh}
+use Rattle.zk_service.specs.declared.fresh.Fresh.{Fresh}
 use Rattle.zs_session.specs.declared.connect.Phase.TheVariants.{Attaching, Creating, Granting, Keeping, Looking, LookingAgain, Over, Unasked}
 use Rattle.zs_session.specs.declared.connect.Phase.{Phase}
 use Rattle.zx_base.proofs.Options.{none_some, some_is}

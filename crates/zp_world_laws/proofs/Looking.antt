@@ -113,7 +113,7 @@ kind-none c i u (Reaped id) h = refl
 
 shown-none : (c i : ℕ) (l : TranscriptLine) → is_below_place i (index_shown c l) ≡ true → own_update_shown c i l ≡ None
 shown-none c i (Update u) h = kind-none c i u u.kind h
-shown-none c i (Open a b d e) h = refl
+shown-none c i (Open a b d e layout) h = refl
 shown-none c i (FrameLine a b d e) h = refl
 shown-none c i (Send a b) h = refl
 shown-none c i (Lapse a b) h = refl

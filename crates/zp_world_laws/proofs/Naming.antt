@@ -54,7 +54,7 @@ unnamed-frame c i (FrameLine d j z bytes) h = ap (λ b. when (b && (i == j)) byt
 unnamed-frame c i _ h = refl
 
 unnamed-open : (c : ℕ) (l : TranscriptLine) → names_conn c l ≡ false → open_shown c l ≡ None
-unnamed-open c (Open d p id passwd) h = ap (λ b. when b (id, passwd)) h
+unnamed-open c (Open d p id passwd layout) h = ap (λ b. when b (record { id = id; passwd = passwd; layout = layout })) h
 unnamed-open c _ h = refl
 
 unnamed-close : (c : ℕ) (l : TranscriptLine) → names_conn c l ≡ false → close_shown c l ≡ None
@@ -91,7 +91,7 @@ no-packets c k (Send d bytes ∷ ls) h =
     let q = and_parts (not (c == d)) (is_unnamed c ls) h in
     ap (λ b. if b then (k, bytes) ∷ packets_from c (k + 1) ls else packets_from c (k + 1) ls) (not-true (c == d) q.0) ∙ no-packets c (k + 1) ls q.1
 no-packets c k (Update u ∷ ls) h = no-packets c (k + 1) ls ((and_parts (not (names_conn c (Update u))) (is_unnamed c ls) h).1)
-no-packets c k (Open d p id passwd ∷ ls) h = no-packets c (k + 1) ls ((and_parts (not (c == d)) (is_unnamed c ls) h).1)
+no-packets c k (Open d p id passwd layout ∷ ls) h = no-packets c (k + 1) ls ((and_parts (not (c == d)) (is_unnamed c ls) h).1)
 no-packets c k (FrameLine d i z bytes ∷ ls) h = no-packets c (k + 1) ls ((and_parts (not (c == d)) (is_unnamed c ls) h).1)
 no-packets c k (LapseLine r id ∷ ls) h = no-packets c (k + 1) ls h
 no-packets c k (Close d end ∷ ls) h = no-packets c (k + 1) ls ((and_parts (not (c == d)) (is_unnamed c ls) h).1)

@@ -24,7 +24,7 @@ packets_from-append c k (Send d bytes ∷ xs) ys = go (c == d) (packets_from-app
     go true ih = ap (λ l. (k, bytes) ∷ l) (ih ∙ ap (λ l. packets_from c (k + 1) xs ++ l) shift)
     go false ih = ih ∙ ap (λ l. packets_from c (k + 1) xs ++ l) shift
 packets_from-append c k (Update u ∷ xs) ys = packets_from-append c (k + 1) xs ys ∙ ap (λ n. packets_from c (k + 1) xs ++ packets_from c n ys) (omega arith)
-packets_from-append c k (Open a b d e ∷ xs) ys = packets_from-append c (k + 1) xs ys ∙ ap (λ n. packets_from c (k + 1) xs ++ packets_from c n ys) (omega arith)
+packets_from-append c k (Open a b d e layout ∷ xs) ys = packets_from-append c (k + 1) xs ys ∙ ap (λ n. packets_from c (k + 1) xs ++ packets_from c n ys) (omega arith)
 packets_from-append c k (FrameLine a b d e ∷ xs) ys = packets_from-append c (k + 1) xs ys ∙ ap (λ n. packets_from c (k + 1) xs ++ packets_from c n ys) (omega arith)
 packets_from-append c k (Lapse a b ∷ xs) ys = packets_from-append c (k + 1) xs ys ∙ ap (λ n. packets_from c (k + 1) xs ++ packets_from c n ys) (omega arith)
 packets_from-append c k (Close a b ∷ xs) ys = packets_from-append c (k + 1) xs ys ∙ ap (λ n. packets_from c (k + 1) xs ++ packets_from c n ys) (omega arith)
@@ -61,7 +61,7 @@ packets-from c k (Send d bytes ∷ ls) = go (c == d) (weaker k (packets_from c (
     go true ih = All-cons (FromPlace k) (k, bytes) (packets_from c (k + 1) ls) (omega arith) ih
     go false ih = ih
 packets-from c k (Update u ∷ ls) = weaker k (packets_from c (k + 1) ls) (packets-from c (k + 1) ls)
-packets-from c k (Open a b d e ∷ ls) = weaker k (packets_from c (k + 1) ls) (packets-from c (k + 1) ls)
+packets-from c k (Open a b d e layout ∷ ls) = weaker k (packets_from c (k + 1) ls) (packets-from c (k + 1) ls)
 packets-from c k (FrameLine a b d e ∷ ls) = weaker k (packets_from c (k + 1) ls) (packets-from c (k + 1) ls)
 packets-from c k (Lapse a b ∷ ls) = weaker k (packets_from c (k + 1) ls) (packets-from c (k + 1) ls)
 packets-from c k (Close a b ∷ ls) = weaker k (packets_from c (k + 1) ls) (packets-from c (k + 1) ls)

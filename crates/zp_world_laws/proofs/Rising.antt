@@ -226,9 +226,9 @@ number-free (Some x) h = absurd (none_some (sym h))
 
 pub does-grown : (w w' : World) (h : Happening) → fault w h ≡ None → Does w h w' → Grown w w'
 unfolding fault
-does-grown w w' (line.Open c p id passwd) free h = grown-to w (opened w c p id passwd) w' h (
-    grown-then w (with_conn w c (new_conn p (Connection (new_core (record { id = id; passwd = passwd }))))) (opened w c p id passwd)
-    (new-grown w c (new_conn p (Connection (new_core (record { id = id; passwd = passwd })))) (number-free (conn_at c w) free)) (alike-grown _ (opened w c p id passwd) refl)
+does-grown w w' (line.Open c p id passwd layout) free h = grown-to w (opened w c p (record { id = id; passwd = passwd; layout = layout })) w' h (
+    grown-then w (with_conn w c (new_conn p (Connection (new_core (record { id = id; passwd = passwd; layout = layout }))))) (opened w c p (record { id = id; passwd = passwd; layout = layout }))
+    (new-grown w c (new_conn p (Connection (new_core (record { id = id; passwd = passwd; layout = layout })))) (number-free (conn_at c w) free)) (alike-grown _ (opened w c p (record { id = id; passwd = passwd; layout = layout })) refl)
     )
 does-grown w w' (line.Frame c bytes) free h = arrives-grown c w w' (with_length bytes) h
 does-grown w w' (line.Arrive c bytes) free h = arrives-grown c w w' bytes h

@@ -52,7 +52,7 @@ number-free (Some x) h = absurd (none_some (sym h))
 
 pub does-accounted : (w w' : World) (h : Happening) → OffersSession h → IsWithinCounts w' → fault w h ≡ None → Does w h w' → IsAccounted w → IsAccounted w'
 unfolding fault
-does-accounted w w' (line.Open c p id passwd) offer within free h k = subst IsAccounted (sym h) (open-accounted w c p id passwd (number-free (conn_at c w) free) offer k)
+does-accounted w w' (line.Open c p id passwd layout) offer within free h k = subst IsAccounted (sym h) (open-accounted w c p id passwd layout (number-free (conn_at c w) free) offer k)
 does-accounted w w' (line.Frame c bytes) offer within free h k = arrives-accounted c w w' (with_length bytes) (λ y e. within.frames c y e) h k
 does-accounted w w' (line.Arrive c bytes) offer within free h k = arrives-accounted c w w' bytes (λ y e. within.frames c y e) h k
 does-accounted w w' (line.Exec c) offer within free h k = exec-accounted w w' c h k
@@ -133,7 +133,7 @@ settles-accounted n c w w' h k = settles-keep IsAccounted c (settling-accounted 
 -- a line settles, or it does what `Does` says
 pub by-effect : (P : Type 0) (w w' : World) (h : Happening) → Effect w h w' → ((c : ℕ) → Settles (max_settling c w) c w w' → P) → (Does w h w' → P) → P
 by-effect P w w' (line.Settle c) e settles does = settles c e
-by-effect P w w' (line.Open c p id passwd) e settles does = does e
+by-effect P w w' (line.Open c p id passwd layout) e settles does = does e
 by-effect P w w' (line.Frame c bytes) e settles does = does e
 by-effect P w w' (line.Arrive c bytes) e settles does = does e
 by-effect P w w' (line.Exec c) e settles does = does e

@@ -1,5 +1,6 @@
 -- What may be carried out after a line of a script could be carried out before it, or its plan was made at the clock's time now.
 -- So it is with each update that the line added.
+use Rattle.zk_model.specs.declared.layout.Layout.{Layout}
 use Rattle.zp_script.specs.StepOutcomes.{quiet, acts_all, StepOutcome, ended_by, ends, leaves, left_by, reap_acts}
 use Rattle.zp_script.specs.Kinds.{kind_asked, kind_of_reap}
 use Rattle.zp_world_laws.proofs.Running.{answers, carries, enters, SettlesOn, Settling, number-free, settling-is}
@@ -483,12 +484,12 @@ new-since w c v free h (Of d) y e = elim (either-number d c) [
 none-now : (now : ℕ) (x : Asking) → x.kind ≡ None → IsOfNow now x.kind
 none-now now x e c i m f = absurd (none_some (sym e ∙ f))
 
-open-since : (w : World) (c p : ℕ) (id : ℤ) (passwd : List ℕ) → conn_at c w ≡ None → Since w (opened w c p id passwd)
-open-since w c p id passwd free =
-    let v : Conn = new_conn p (Connection (new_core (record { id = id; passwd = passwd }))) in
-    since-quiet w (opened w c p id passwd) (Open c p id passwd ∷ []) refl (λ o y e. new-since w c v free (λ x f. absurd (none_some f)) o y (as-conns o y e)) refl refl
+open-since : (w : World) (c p : ℕ) (id : ℤ) (passwd : List ℕ) (layout : Layout) → conn_at c w ≡ None → Since w (opened w c p (record { id = id; passwd = passwd; layout = layout }))
+open-since w c p id passwd layout free =
+    let v : Conn = new_conn p (Connection (new_core (record { id = id; passwd = passwd; layout = layout }))) in
+    since-quiet w (opened w c p (record { id = id; passwd = passwd; layout = layout })) (Open c p id passwd layout ∷ []) refl (λ o y e. new-since w c v free (λ x f. absurd (none_some f)) o y (as-conns o y e)) refl refl
   where
-    as-conns : (o : Source) (y : Asking) → air (opened w c p id passwd) o ≡ Some y → air (with_conn w c (new_conn p (Connection (new_core (record { id = id; passwd = passwd }))))) o ≡ Some y
+    as-conns : (o : Source) (y : Asking) → air (opened w c p (record { id = id; passwd = passwd; layout = layout })) o ≡ Some y → air (with_conn w c (new_conn p (Connection (new_core (record { id = id; passwd = passwd; layout = layout }))))) o ≡ Some y
     as-conns (Of d) y e = e
     as-conns (Left k) y e = e
 
@@ -509,7 +510,7 @@ IsTick _ = ⊥
 
 pub does-since : (w w' : World) (h : Happening) → (IsTick h → ⊥) → fault w h ≡ None → Does w h w' → Since w w'
 unfolding fault
-does-since w w' (line.Open c p id passwd) still free h = since-to w (opened w c p id passwd) w' h (open-since w c p id passwd (number-free (conn_at c w) free))
+does-since w w' (line.Open c p id passwd layout) still free h = since-to w (opened w c p (record { id = id; passwd = passwd; layout = layout })) w' h (open-since w c p id passwd layout (number-free (conn_at c w) free))
 does-since w w' (line.Frame c bytes) still free h = arrives-since c w w' (with_length bytes) h
 does-since w w' (line.Arrive c bytes) still free h = arrives-since c w w' bytes h
 does-since w w' (line.Exec c) still free h = exec-since w w' c h

@@ -59,7 +59,7 @@ no-place c d k [] h = refl
 no-place c d k (Send e bytes ∷ ls) h = no-place c d (k + 1) ls ((and_parts (c == e) (list_all (is_speech c) ls) h).1)
 no-place c d k (Close e why ∷ ls) h = absurd (cc)
 no-place c d k (Update u ∷ ls) h = absurd (cc)
-no-place c d k (Open p q r s ∷ ls) h = absurd (cc)
+no-place c d k (Open p q r s layout ∷ ls) h = absurd (cc)
 no-place c d k (FrameLine p q r s ∷ ls) h = absurd (cc)
 no-place c d k (LapseLine p q ∷ ls) h = absurd (cc)
 
@@ -71,7 +71,7 @@ no-own c d i k [] h = refl
 no-own c d i k (Send e bytes ∷ ls) h = no-own c d i (k + 1) ls ((and_parts (c == e) (list_all (is_speech c) ls) h).1)
 no-own c d i k (Close e why ∷ ls) h = absurd (cc)
 no-own c d i k (Update u ∷ ls) h = absurd (cc)
-no-own c d i k (Open p q r s ∷ ls) h = absurd (cc)
+no-own c d i k (Open p q r s layout ∷ ls) h = absurd (cc)
 no-own c d i k (FrameLine p q r s ∷ ls) h = absurd (cc)
 no-own c d i k (LapseLine p q ∷ ls) h = absurd (cc)
 
@@ -86,7 +86,7 @@ no-packets c d k (Send e bytes ∷ ls) n h =
     ap (λ b. if b then (k, bytes) ∷ packets_from d (k + 1) ls else packets_from d (k + 1) ls) (unlike d e (λ f. n (ap one same ∙ f))) ∙ no-packets c d (k + 1) ls n q.1
 no-packets c d k (Close e why ∷ ls) n h = absurd (cc)
 no-packets c d k (Update u ∷ ls) n h = absurd (cc)
-no-packets c d k (Open p q r s ∷ ls) n h = absurd (cc)
+no-packets c d k (Open p q r s layout ∷ ls) n h = absurd (cc)
 no-packets c d k (FrameLine p q r s ∷ ls) n h = absurd (cc)
 no-packets c d k (LapseLine p q ∷ ls) n h = absurd (cc)
 
@@ -111,7 +111,7 @@ speech-zxid c lines (Send e bytes ∷ ls) h =
     ∙ ap (λ (s : State). s.zxid) (after-push lines (Send e bytes))
 speech-zxid c lines (Close e why ∷ ls) h = absurd (cc)
 speech-zxid c lines (Update u ∷ ls) h = absurd (cc)
-speech-zxid c lines (Open p q r s ∷ ls) h = absurd (cc)
+speech-zxid c lines (Open p q r s layout ∷ ls) h = absurd (cc)
 speech-zxid c lines (FrameLine p q r s ∷ ls) h = absurd (cc)
 speech-zxid c lines (LapseLine p q ∷ ls) h = absurd (cc)
 
@@ -120,7 +120,7 @@ frameless-speech c [] h d i = refl
 frameless-speech c (Send e bytes ∷ ls) h d i = frameless-speech c ls ((and_parts (c == e) (list_all (is_speech c) ls) h).1) d i
 frameless-speech c (Close e why ∷ ls) h d i = absurd (cc)
 frameless-speech c (Update u ∷ ls) h d i = absurd (cc)
-frameless-speech c (Open p q r s ∷ ls) h d i = absurd (cc)
+frameless-speech c (Open p q r s layout ∷ ls) h d i = absurd (cc)
 frameless-speech c (FrameLine p q r s ∷ ls) h d i = absurd (cc)
 frameless-speech c (LapseLine p q ∷ ls) h d i = absurd (cc)
 

@@ -176,7 +176,7 @@ tick-timed ticks w w' n k timed is = subst (λ v. IsTimed (ticks ++ tick_of v �
 happens-timed : (ticks : List Tick) (w w' : World) (h : Happening) → IsAccounted w → IsTimed ticks w → Happens w h w' → IsTimed (ticks ++ tick_of w' ∷ []) w'
 happens-timed ticks w w' (line.Settle c) k timed p = since-timed ticks w w' k timed (settles-since (max_settling c w) c w w' p.effect)
 happens-timed ticks w w' (line.Tick n) k timed p = tick-timed ticks w w' (w.clock + n) k timed p.effect
-happens-timed ticks w w' (line.Open c p id passwd) k timed h = since-timed ticks w w' k timed (does-since w w' (line.Open c p id passwd) (λ x. x) h.possible h.effect)
+happens-timed ticks w w' (line.Open c p id passwd layout) k timed h = since-timed ticks w w' k timed (does-since w w' (line.Open c p id passwd layout) (λ x. x) h.possible h.effect)
 happens-timed ticks w w' (line.Frame c bytes) k timed h = since-timed ticks w w' k timed (does-since w w' (line.Frame c bytes) (λ x. x) h.possible h.effect)
 happens-timed ticks w w' (line.Arrive c bytes) k timed h = since-timed ticks w w' k timed (does-since w w' (line.Arrive c bytes) (λ x. x) h.possible h.effect)
 happens-timed ticks w w' (line.Exec c) k timed h = since-timed ticks w w' k timed (does-since w w' (line.Exec c) (λ x. x) h.possible h.effect)

@@ -4,6 +4,7 @@ use Rattle.std.proofs.lemmas.Bool.Decides.{nat_tests}
 use Rattle.std.proofs.lemmas.List.Elements.{All-cons, All-head, All-nil, All-tail}
 use Rattle.std.specs.List.{list_all}
 use Rattle.std.specs.Prelude.{All, IsTrue, None, Option, Some, if◌then◌else◌, nat_lt, option_and_then, ◌==◌}
+use Rattle.zk_service.specs.declared.fresh.Fresh.{Fresh}
 use Rattle.zk_jute.specs.Connects.{read_connect}
 use Rattle.zk_jute.specs.Packets.{connect_packet}
 use Rattle.zk_model.specs.declared.connect.ConnectRequest.{ConnectRequest}
@@ -51,7 +52,7 @@ packets-below c k (Send d bytes ∷ ls) = go (c == d) (more-below ((k + 1) + len
     go true rest = All-cons (IsBelow (k + suc (length ls))) (k, bytes) (packets_from c (k + 1) ls) (omega arith) rest
     go false rest = rest
 packets-below c k (Update u ∷ ls) = more-below ((k + 1) + length ls) (k + suc (length ls)) (packets_from c (k + 1) ls) (omega arith) (packets-below c (k + 1) ls)
-packets-below c k (Open a b d e ∷ ls) = more-below ((k + 1) + length ls) (k + suc (length ls)) (packets_from c (k + 1) ls) (omega arith) (packets-below c (k + 1) ls)
+packets-below c k (Open a b d e layout ∷ ls) = more-below ((k + 1) + length ls) (k + suc (length ls)) (packets_from c (k + 1) ls) (omega arith) (packets-below c (k + 1) ls)
 packets-below c k (FrameLine a b d e ∷ ls) = more-below ((k + 1) + length ls) (k + suc (length ls)) (packets_from c (k + 1) ls) (omega arith) (packets-below c (k + 1) ls)
 packets-below c k (LapseLine a b ∷ ls) = more-below ((k + 1) + length ls) (k + suc (length ls)) (packets_from c (k + 1) ls) (omega arith) (packets-below c (k + 1) ls)
 packets-below c k (Close a b ∷ ls) = more-below ((k + 1) + length ls) (k + suc (length ls)) (packets_from c (k + 1) ls) (omega arith) (packets-below c (k + 1) ls)
@@ -99,7 +100,7 @@ answered-push lines more c (p ∷ ps) (Some a) below h = welcomed-push lines mor
 unopened-before : (lines more : List TranscriptLine) (c : ℕ) → opening c (lines ++ more) ≡ None → opening c lines ≡ None
 unopened-before lines more c h = go (opening c lines) refl
   where
-    go : (o : Option (ℤ × List ℕ)) → opening c lines ≡ o → o ≡ None
+    go : (o : Option Fresh) → opening c lines ≡ o → o ≡ None
     go None e = refl
     go (Some x) e = absurd (none_some (sym h ∙ first_shown-push (open_shown c) lines more x e))
 

@@ -21,7 +21,7 @@ pub record IsAccounted (w : World) : Type 0 where
 
 -- A connection offers a number that sessions have, and a password of 16 bytes. So does each line that is read from a text.
 abbrev pub OffersSession : Happening → Type 0
-OffersSession (line.Open c p id passwd) = IsOffer (record { id = id; passwd = passwd })
+OffersSession (line.Open c p id passwd layout) = IsOffer (record { id = id; passwd = passwd; layout = layout })
 OffersSession _ = Unit {0}
 
 -- each connection has had fewer than 2^64 - 1 frames

@@ -26,7 +26,7 @@ use Rattle.zn_view.specs.declared.plan.Plan.{Plan}
 use Rattle.zn_view.specs.declared.plan.Who.{Who}
 use Rattle.zs_close.specs.Reaping.{IsReapPlan}
 use Rattle.zs_session.specs.Sessions.{attach_txn, life_key, new_session_txn}
-use Rattle.zs_session.specs.declared.connect.Fresh.{Fresh}
+use Rattle.zk_service.specs.declared.fresh.Fresh.{Fresh}
 use Rattle.zp_laws.specs.Frames.{IsRequestAt}
 use Rattle.zp_laws.specs.Inputs.{kind_for}
 use Rattle.zp_laws.specs.Standing.{IsBoundPlan}

@@ -29,7 +29,7 @@ use Rattle.zp_step.specs.Stages.{Connecting, Core, Stage, Unconnected}
 use Rattle.zp_world_laws.specs.Bounds.{WasLifeOf}
 use Rattle.zs_session.specs.Connecting.{asked_in_phase, number_shown, timeout_in}
 use Rattle.zs_session.specs.declared.connect.Connect.{Connect}
-use Rattle.zs_session.specs.declared.connect.Fresh.{Fresh}
+use Rattle.zk_service.specs.declared.fresh.Fresh.{Fresh}
 use Rattle.zs_session.specs.declared.connect.Phase.TheVariants.{Attaching, Creating, Granting, Keeping, Looking, LookingAgain, Over, Unasked}
 use Rattle.zs_session.specs.declared.connect.Phase.{Phase}
 

@@ -1,5 +1,6 @@
 -- What is known of an open connection in whatever stage: its own lines, and its frames.
 use Rattle.std.specs.Prelude.{List, None, Some, [], ℕ, ℤ, ◌≡◌, ◌≤◌}
+use Rattle.zk_service.specs.declared.fresh.Fresh.{Fresh}
 use Rattle.zk_transcript.specs.Conversations.{close_shown}
 use Rattle.zk_transcript.specs.History.{first_place, opening}
 use Rattle.zk_transcript.specs.Walks.{placed_frame}
@@ -9,7 +10,7 @@ use Rattle.zp_step.specs.Stages.{next_frame, Core, Ready, max_count}
 
 -- it has its `open` line and no `close` line, and no frame from index `frames` on has a line
 pub record IsLined (lines : List TranscriptLine) (c frames : ℕ) : Type 0 where
-  pub offer : ℤ × List ℕ
+  pub offer : Fresh
   pub opened : opening c lines ≡ Some offer
   pub unended : first_place (close_shown c) 0 lines ≡ None
   pub to_come : (i : ℕ) → frames ≤ i → placed_frame c i lines ≡ None

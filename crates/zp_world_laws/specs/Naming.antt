@@ -12,7 +12,7 @@ is_made_for c (Some d) = c == d
 -- its own lines, and the updates that are made for it
 abbrev pub names_conn : ℕ → TranscriptLine → Bool
 names_conn c (Update u) = is_made_for c (made_for u.kind)
-names_conn c (Open d p id passwd) = c == d
+names_conn c (Open d p id passwd layout) = c == d
 names_conn c (FrameLine d i zxid bytes) = c == d
 names_conn c (Send d bytes) = c == d
 names_conn c (LapseLine revision id) = false

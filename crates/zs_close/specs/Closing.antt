@@ -9,6 +9,7 @@ use Rattle.zk_model.specs.Codes.{system_error}
 use Rattle.zk_model.specs.Limits.{max_owned}
 use Rattle.zx_base.specs.Maps.{Bytes}
 use Rattle.zn_layout.specs.declared.record.CountRec.{CountRec}
+use Rattle.zn_layout.specs.declared.record.SessionRec.{SessionRec}
 use Rattle.zn_layout.specs.Changes.{KeyChange, acts_of, update_acts}
 use Rattle.zn_layout.specs.Keys.{CountsKey, SessionKey, LeaseKey}
 use Rattle.zn_view.specs.declared.plan.Decision.{Decision}
@@ -52,14 +53,14 @@ AreWritesAfter old new = (cs : List KeyChange) × All IsLeaseless cs × (new ≡
 -- A plan with the operations of the end of a session with these nodes, the last of which reads the head. It guards what the end
 -- reads, but for the head, as the view saw it, and reads that and the head again where a guard fails. It writes keys of the service
 -- alone, its reply is empty, and watches see the end.
-pub record IsEndPlan (alive : Bool) (id : ℤ) (v : View) (ps : List Bytes) (p : Plan) : Type 0 where
-  pub guards : p.guards ≡ guards_of (picked v (read_keys id ps))
-  pub again : p.again ≡ again_of (picked v (read_keys id ps))
-  pub success : (counts : Bytes → Option CountRec) → TellsCounts v counts (parents ps) → p.success ≡ update_acts (end_changes alive id counts ps) p.triggers
+pub record IsEndPlan (alive : Bool) (id : ℤ) (v : View) (r : SessionRec) (p : Plan) : Type 0 where
+  pub guards : p.guards ≡ guards_of (picked v (read_keys id r.paths))
+  pub again : p.again ≡ again_of (picked v (read_keys id r.paths))
+  pub success : (counts : Bytes → Option CountRec) → TellsCounts v counts (parents r.paths) → p.success ≡ update_acts (end_changes alive id counts r) p.triggers
   pub shows : ShowsHead p.success
   pub writes : WritesOwnKeys p
   pub draft : p.draft ≡ reply.Good body.Empty
-  pub triggers : p.triggers ≡ end_triggers ps
+  pub triggers : p.triggers ≡ end_triggers r.paths
 
 -- ---- what a close is decided by
 
@@ -68,14 +69,14 @@ abbrev pub unsound : Decision
 unsound = Answered (reply.Refused system_error) None
 
 -- by the session's nodes
-abbrev pub IsClosedWith : ℤ → View → List Bytes → Decision → Type 0
-IsClosedWith id v ps d = MatchBool (nat_le (length ps) max_owned) ((p : Plan) × (d ≡ Planned p) × IsEndPlan true id v ps p) (d ≡ unsound)
+abbrev pub IsClosedWith : ℤ → View → SessionRec → Decision → Type 0
+IsClosedWith id v r d = MatchBool (nat_le (length r.paths) (max_owned r.layout)) ((p : Plan) × (d ≡ Planned p) × IsEndPlan true id v r p) (d ≡ unsound)
 
 -- by what was seen of the list of the session's nodes
 abbrev pub IsClosedBy : ℤ → View → Option (Option Kv) → Decision → Type 0
 IsClosedBy id v None d = ⊥
 IsClosedBy id v (Some None) d = d ≡ unsound
-IsClosedBy id v (Some (Some kv)) d = (ps : List Bytes) × IsNodesIn kv ps × IsClosedWith id v ps d
+IsClosedBy id v (Some (Some kv)) d = (r : SessionRec) × IsNodesIn kv r × IsClosedWith id v r d
 
 -- by what was seen of the record of the session's life
 abbrev pub IsCloseBy : Who → View → Option (Option Kv) → Decision → Type 0

@@ -6,10 +6,12 @@ use Rattle.zk_model.specs.declared.node.Trigger.{Trigger}
 use Rattle.zk_model.specs.Paths.{parent, is_child}
 use Rattle.zk_model.specs.Single.{removal}
 use Rattle.zx_base.specs.Maps.{Bytes, same}
+use Rattle.zk_model.specs.declared.layout.Layout.{Layout}
 use Rattle.zn_layout.specs.declared.record.CountRec.{CountRec}
+use Rattle.zn_layout.specs.declared.record.SessionRec.{SessionRec}
 use Rattle.zn_layout.specs.Changes.{KeyChange, put_key, delete_key}
 use Rattle.zn_layout.specs.Keys.{DataKey, CountsKey, SessionKey, LeaseKey}
-use Rattle.zn_layout.specs.Records.{counts_value}
+use Rattle.zn_layout.specs.Records.{counts_value, has_counts}
 
 -- ---- the parents of nodes, each once, in the order of their first children
 
@@ -40,9 +42,12 @@ abbrev pub put_parents : (Bytes → Option CountRec) → List Bytes → List Byt
 put_parents counts ps [] = []
 put_parents counts ps (q ∷ qs) = put_parent ps q (counts q) ++ put_parents counts ps qs
 
-abbrev pub delete_nodes : List Bytes → List KeyChange
-delete_nodes [] = []
-delete_nodes (p ∷ ps) = delete_key (DataKey p) ∷ delete_key (CountsKey p) ∷ delete_nodes ps
+-- deletes the keys of a node of a session of this layout
+abbrev pub delete_node : Layout → Bytes → List KeyChange
+delete_node layout p = delete_key (DataKey p) ∷ (if has_counts layout then delete_key (CountsKey p) ∷ [] else [])
+
+abbrev pub delete_nodes : Layout → List Bytes → List KeyChange
+delete_nodes layout ps = flat_map (delete_node layout) ps
 
 -- a session that is closed lives until then; one that is reaped has lapsed, and its life is gone
 abbrev pub delete_life : Bool → ℤ → List KeyChange
@@ -52,8 +57,8 @@ abbrev pub delete_session : Bool → ℤ → List KeyChange
 delete_session alive id = delete_life alive id ++ delete_key (SessionKey (nat_abs id)) ∷ []
 
 -- the end of a session with these nodes
-unfoldable pub end_changes : Bool → ℤ → (Bytes → Option CountRec) → List Bytes → List KeyChange
-end_changes alive id counts ps = (delete_session alive id ++ delete_nodes ps) ++ put_parents counts ps (parents ps)
+unfoldable pub end_changes : Bool → ℤ → (Bytes → Option CountRec) → SessionRec → List KeyChange
+end_changes alive id counts r = (delete_session alive id ++ delete_nodes r.layout r.paths) ++ put_parents counts r.paths (parents r.paths)
 
 -- what watches see of it: each delete, in the order of the list, which is that of the paths' bytes
 abbrev pub end_triggers : List Bytes → List Trigger

@@ -7,6 +7,7 @@ use Rattle.zk_model.specs.declared.request.Request.TheVariants as req
 use Rattle.zk_model.specs.Limits.{max_owned}
 use Rattle.zk_service.specs.States.{State, Session, IsSound, session_at, session_ended}
 use Rattle.zx_base.specs.Maps.{Bytes}
+use Rattle.zn_layout.specs.declared.record.SessionRec.{SessionRec}
 use Rattle.zn_layout.specs.Keys.{SessionKey, LeaseKey, key_bytes}
 use Rattle.zn_layout.specs.StandsFor.{StandsFor}
 use Rattle.zn_view.specs.declared.plan.Plan.{Plan}
@@ -37,14 +38,14 @@ IsReadyToReap id v = lives id v ≡ false → IsWhole req.Close (whose id) v
 -- ---- the decision
 
 -- by the session's nodes
-abbrev pub IsReapedWith : ℤ → View → List Bytes → Reaping → Type 0
-IsReapedWith id v ps r = MatchBool (nat_le (length ps) max_owned) ((p : Plan) × (r ≡ Planned p) × IsEndPlan false id v ps p) (r ≡ TooMany)
+abbrev pub IsReapedWith : ℤ → View → SessionRec → Reaping → Type 0
+IsReapedWith id v nodes r = MatchBool (nat_le (length nodes.paths) (max_owned nodes.layout)) ((p : Plan) × (r ≡ Planned p) × IsEndPlan false id v nodes p) (r ≡ TooMany)
 
 -- by what was seen of the list of the session's nodes
 abbrev pub IsReapedBy : ℤ → View → Option (Option Kv) → Reaping → Type 0
 IsReapedBy id v None r = ⊥
 IsReapedBy id v (Some None) r = r ≡ Gone
-IsReapedBy id v (Some (Some kv)) r = (ps : List Bytes) × IsNodesIn kv ps × IsReapedWith id v ps r
+IsReapedBy id v (Some (Some kv)) r = (nodes : SessionRec) × IsNodesIn kv nodes × IsReapedWith id v nodes r
 
 -- by what was seen of the record of the session's life
 abbrev pub IsReapBy : ℤ → View → Option (Option Kv) → Reaping → Type 0

@@ -2,6 +2,7 @@
 use Rattle.std.specs.Prelude.{◌≡◌, ℤ, nat_abs, List, [], ◌∷◌, ◌++◌, map, Option, Some, None, All}
 use Rattle.ev_types.specs.declared.answer.Kv.{Kv}
 use Rattle.zx_base.specs.Maps.{Bytes}
+use Rattle.zn_layout.specs.declared.record.SessionRec.{SessionRec}
 use Rattle.zn_layout.specs.Keys.{Key, HeadKey, CountsKey, SessionKey, LeaseKey, key_bytes}
 use Rattle.zn_view.specs.declared.want.Want.{Want}
 use Rattle.zn_view.specs.Lacking.{lacking}
@@ -25,11 +26,11 @@ read_keys id ps = map key_bytes (end_keys id ps)
 abbrev pub IsNodesSeen : Option (Option Kv) → List Bytes → Type 0
 IsNodesSeen None ps = ps ≡ []
 IsNodesSeen (Some None) ps = ps ≡ []
-IsNodesSeen (Some (Some kv)) ps = IsNodesIn kv ps
+IsNodesSeen (Some (Some kv)) ps = (r : SessionRec) × IsNodesIn kv r × (ps ≡ r.paths)
 
 -- the counts of each parent of the nodes that the view saw were looked up
 abbrev pub AreParentsSeen : ℤ → View → Type 0
-AreParentsSeen id v = (kv : Kv) (ps : List Bytes) → sees v (SessionKey (nat_abs id)) ≡ Some (Some kv) → IsNodesIn kv ps → All (λ q. HasSeen v (CountsKey q)) (parents ps)
+AreParentsSeen id v = (kv : Kv) (r : SessionRec) → sees v (SessionKey (nat_abs id)) ≡ Some (Some kv) → IsNodesIn kv r → All (λ q. HasSeen v (CountsKey q)) (parents r.paths)
 
 -- what is lacking, by the nodes that the view saw
 abbrev pub AreEndWants : ℤ → View → List Want → Type 0

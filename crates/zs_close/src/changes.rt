@@ -15,8 +15,11 @@ ghost use Rattle.zs_close.specs.Ending.{delete_nodes, delete_session, end_change
 use crate::parents::{children_among, parents};
 use ev_types::Act;
 use std::alloc::Global;
-use zk_model::{Path, Trigger};
-use zn_layout::{CountRec, delete_counts, delete_node, lease_key, put_counts, session_key};
+use zk_model::{Layout, Path, Trigger};
+use zn_layout::{
+    CountRec, SessionRec, delete_counts, delete_node, has_counts, lease_key, put_counts,
+    session_key,
+};
 use zn_view::View;
 use zx_base::{Memory, Seq};
 
@@ -49,21 +52,29 @@ fn delete_own(alloc: Global, alive: bool, session: i64) -> Result<Seq<Act>, Memo
     Ok(acts)
 }
 
-/// Deletes the keys of a node.
-fn push_node(acts: &mut Seq<Act>, alloc: Global, path: &Path) -> Result<(), Memory>
+/// Deletes the keys of a node of a session of this layout.
+fn push_node(acts: &mut Seq<Act>, alloc: Global, layout: Layout, path: &Path) -> Result<(), Memory>
     requires { IsTrue (is_path path.now) }
-    ensures { OnOk result ((rest : List ByteList) → acts.new ++ acts_of (delete_nodes rest) ≡ acts.old ++ acts_of (delete_nodes (path.now ∷ rest))) }
+    ensures { OnOk result ((rest : List ByteList) → acts.new ++ acts_of (delete_nodes layout rest) ≡ acts.old ++ acts_of (delete_nodes layout (path.now ∷ rest))) }
 {
     acts.push(delete_node(alloc, path.bytes())?)?;
-    acts.push(delete_counts(alloc, path.bytes())?)
+    if has_counts(layout) {
+        acts.push(delete_counts(alloc, path.bytes())?)?;
+    }
+    Ok(())
 }
 
-fn push_nodes(acts: &mut Seq<Act>, alloc: Global, paths: &[Path]) -> Result<(), Memory>
+fn push_nodes(
+    acts: &mut Seq<Act>,
+    alloc: Global,
+    layout: Layout,
+    paths: &[Path],
+) -> Result<(), Memory>
     requires { All (λ p. IsTrue (is_path p)) paths.now }
-    ensures { OnOk result (acts.new ≡ acts.old ++ acts_of (delete_nodes paths.now)) }
+    ensures { OnOk result (acts.new ≡ acts.old ++ acts_of (delete_nodes layout paths.now)) }
 {
     for path in paths {
-        push_node(acts, alloc, path)?;
+        push_node(acts, alloc, layout, path)?;
     }
     Ok(())
 }
@@ -129,17 +140,18 @@ pub(crate) fn end_acts(
     view: &View,
     alive: bool,
     session: i64,
-    paths: &[Path],
+    nodes: &SessionRec,
 ) -> Result<Seq<Act>, Memory>
     requires real { pos 1 ≤ℤ session }
-    requires valid { All (λ p. IsTrue (is_path p)) paths.now }
-    requires seen { All (λ q. HasSeen view.now (CountsKey q)) (parents_once paths.now) }
+    requires valid { All (λ p. IsTrue (is_path p)) nodes.now.paths }
+    requires seen { All (λ q. HasSeen view.now (CountsKey q)) (parents_once nodes.now.paths) }
     ensures written { IfOk result (AreWritesAfter []) }
-    ensures told { IfOk result (λ acts. (counts : ByteList → Option AnyCounts) → TellsCounts view.now counts (parents_once paths.now) → acts ≡ acts_of (end_changes alive session counts paths.now)) }
+    ensures told { IfOk result (λ acts. (counts : ByteList → Option AnyCounts) → TellsCounts view.now counts (parents_once nodes.now.paths) → acts ≡ acts_of (end_changes alive session counts nodes.now)) }
 {
+    let paths = nodes.paths.as_slice();
     let parents = parents(alloc, paths)?;
     let mut acts = delete_own(alloc, alive, session)?;
-    push_nodes(&mut acts, alloc, paths)?;
+    push_nodes(&mut acts, alloc, nodes.layout, paths)?;
     push_parents(&mut acts, alloc, view, paths, parents.as_slice())?;
     Ok(acts)
 }

@@ -15,9 +15,9 @@ ghost use Rattle.zs_close.specs.Wanting.{AreParentsSeen};
 use crate::plan::end_plan;
 use crate::wants::end_needs;
 use std::alloc::Global;
+use zk_model::Reply;
 use zk_model::code::SYSTEM_ERROR;
-use zk_model::limit::MAX_OWNED;
-use zk_model::{Path, Reply};
+use zn_layout::SessionRec;
 use zn_view::{Decision, View, Want, Who};
 use zx_base::{Memory, Seq};
 
@@ -42,16 +42,21 @@ fn unsound() -> Decision
 }
 
 /// Closes a session with these nodes, unless they are more than it may own.
-fn close_with(alloc: Global, session: i64, view: &View, paths: &[Path]) -> Result<Decision, Memory>
+fn close_with(
+    alloc: Global,
+    session: i64,
+    view: &View,
+    nodes: &SessionRec,
+) -> Result<Decision, Memory>
     requires real { pos 1 ≤ℤ session }
-    requires listed { IsSessionRec paths.now }
-    requires seen { All (λ q. HasSeen view.now (CountsKey q)) (parents paths.now) }
-    ensures { IfOk result (IsClosedWith session view.now paths.now) }
+    requires listed { IsSessionRec nodes.now }
+    requires seen { All (λ q. HasSeen view.now (CountsKey q)) (parents nodes.now.paths) }
+    ensures { IfOk result (IsClosedWith session view.now nodes.now) }
 {
-    if paths.len() > MAX_OWNED {
+    if nodes.paths.len() > nodes.layout.max_owned() {
         return Ok(unsound());
     }
-    Ok(Decision::Planned(end_plan(alloc, view, true, session, paths)?))
+    Ok(Decision::Planned(end_plan(alloc, view, true, session, nodes)?))
 }
 
 /// Closes a session that is attached here.
@@ -62,7 +67,7 @@ fn close_attached(alloc: Global, session: i64, view: &View) -> Result<Decision, 
     ensures { IfOk result (IsClosedBy session view.now (sees view.now (SessionKey (nat_abs session)))) }
 {
     match view.nodes_of(session)? {
-        Some(nodes) => close_with(alloc, session, view, nodes.paths.as_slice()),
+        Some(nodes) => close_with(alloc, session, view, &nodes),
         None => Ok(unsound()),
     }
 }
@@ -88,7 +93,7 @@ fn close(alloc: Global, who: Who, view: &View) -> Result<Decision, Memory>
 
 /// Decides a close on a view of which [`needs_close`] names nothing. `Expired` and `Moved` are by the record of the session's life,
 /// as for each request. Otherwise there is a plan by which the session and all its nodes go at one zxid; only on a view that no
-/// sound state has, with no list of the session's nodes or with more than 40 of them, the close is refused with SystemError.
+/// sound state has, with no list of the session's nodes or with more of them than it may own, the close is refused with SystemError.
 pub fn plan_close(alloc: Global, who: Who, view: &View) -> Result<Decision, Memory>
     requires real { pos 1 ≤ℤ who.session }
     requires whole { IsWhole req.Close who view.now }

@@ -11,27 +11,28 @@ ghost use Rattle.zs_close.specs.Ending.{parents};
 use crate::changes::{end_acts, end_triggers};
 use crate::wants::end_keys;
 use std::alloc::Global;
-use zk_model::{Body, Path, Reply};
-use zn_layout::HeadRec;
+use zk_model::{Body, Reply};
+use zn_layout::{HeadRec, SessionRec};
 use zn_view::{Plan, View, success};
 use zx_base::Memory;
 
-/// The plan that ends a session with these nodes, at most 40. The counts of the nodes' parents were looked up.
+/// The plan that ends a session with these nodes, no more than it may own. The counts of the nodes' parents were looked up.
 pub(crate) fn end_plan(
     alloc: Global,
     view: &View,
     alive: bool,
     session: i64,
-    paths: &[Path],
+    nodes: &SessionRec,
 ) -> Result<Plan, Memory>
     requires real { pos 1 ≤ℤ session }
-    requires valid { All (λ p. IsTrue (is_path p)) paths.now }
-    requires few { length paths.now ≤ max_owned }
-    requires seen { All (λ q. HasSeen view.now (CountsKey q)) (parents paths.now) }
-    ensures { IfOk result (IsEndPlan alive session view.now paths.now) }
+    requires valid { All (λ p. IsTrue (is_path p)) nodes.now.paths }
+    requires few { length nodes.now.paths ≤ max_owned nodes.now.layout }
+    requires seen { All (λ q. HasSeen view.now (CountsKey q)) (parents nodes.now.paths) }
+    ensures { IfOk result (IsEndPlan alive session view.now nodes.now) }
 {
+    let paths = nodes.paths.as_slice();
     let keys = end_keys(alloc, session, paths)?;
-    let acts = end_acts(alloc, view, alive, session, paths)?;
+    let acts = end_acts(alloc, view, alive, session, nodes)?;
     let head = HeadRec {
         triggers: end_triggers(alloc, paths)?,
     };

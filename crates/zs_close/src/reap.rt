@@ -16,9 +16,7 @@ ghost use Rattle.zs_close.specs.Wanting.{AreEndWants, AreParentsSeen};
 use crate::plan::end_plan;
 use crate::wants::end_needs;
 use std::alloc::Global;
-use zk_model::Path;
-use zk_model::limit::MAX_OWNED;
-use zn_layout::lease_key;
+use zn_layout::{SessionRec, lease_key};
 use zn_view::{Plan, View, Want};
 use zx_base::{Memory, Seq};
 
@@ -64,16 +62,21 @@ pub fn needs_reap(alloc: Global, session: i64, view: &View) -> Result<Seq<Want>,
 }
 
 /// Ends a session with these nodes, unless they are more than it may own.
-fn reap_with(alloc: Global, session: i64, view: &View, paths: &[Path]) -> Result<Reaping, Memory>
+fn reap_with(
+    alloc: Global,
+    session: i64,
+    view: &View,
+    nodes: &SessionRec,
+) -> Result<Reaping, Memory>
     requires real { pos 1 ≤ℤ session }
-    requires listed { IsSessionRec paths.now }
-    requires seen { All (λ q. HasSeen view.now (CountsKey q)) (parents paths.now) }
-    ensures { IfOk result (IsReapedWith session view.now paths.now) }
+    requires listed { IsSessionRec nodes.now }
+    requires seen { All (λ q. HasSeen view.now (CountsKey q)) (parents nodes.now.paths) }
+    ensures { IfOk result (IsReapedWith session view.now nodes.now) }
 {
-    if paths.len() > MAX_OWNED {
+    if nodes.paths.len() > nodes.layout.max_owned() {
         return Ok(Reaping::TooMany);
     }
-    Ok(Reaping::Planned(end_plan(alloc, view, false, session, paths)?))
+    Ok(Reaping::Planned(end_plan(alloc, view, false, session, nodes)?))
 }
 
 /// Ends a session without a record of its life.
@@ -84,7 +87,7 @@ fn reap_lapsed(alloc: Global, session: i64, view: &View) -> Result<Reaping, Memo
     ensures { IfOk result (IsReapedBy session view.now (sees view.now (SessionKey (nat_abs session)))) }
 {
     match view.nodes_of(session)? {
-        Some(nodes) => reap_with(alloc, session, view, nodes.paths.as_slice()),
+        Some(nodes) => reap_with(alloc, session, view, &nodes),
         None => Ok(Reaping::Gone),
     }
 }
@@ -105,7 +108,7 @@ fn reap(alloc: Global, session: i64, view: &View) -> Result<Reaping, Memory>
 
 /// Decides what becomes of a session on a view of which [`needs_reap`] names nothing. By its plan the session and all its nodes go
 /// at one zxid, or nothing changes. `TooMany` comes exactly where the record of the session's life is not there and the list of its
-/// nodes has more than 40.
+/// nodes has more than it may own.
 pub fn plan_reap(alloc: Global, session: i64, view: &View) -> Result<Reaping, Memory>
     requires real { pos 1 ≤ℤ session }
     requires ready { IsReadyToReap session view.now }

@@ -11,6 +11,7 @@ use Rattle.zk_model.specs.declared.request.Request.TheVariants as req
 use Rattle.zk_model.specs.Limits.{max_owned}
 use Rattle.zk_service.specs.States.{State, IsSound}
 use Rattle.zx_base.specs.Maps.{Bytes}
+use Rattle.zn_layout.specs.declared.record.SessionRec.{SessionRec}
 use Rattle.zn_layout.specs.Keys.{SessionKey}
 use Rattle.zn_view.specs.declared.want.Want.{Want}
 use Rattle.zn_view.specs.Adding.{AreRecords, IsFirstDamaged}
@@ -87,7 +88,7 @@ ReaperLooksFirst id phase step = Asks Looking (reading (pos 0) (reaper_wants id)
 
 -- the list of the session's nodes that a view saw, if it saw one, has no more than a session may own
 abbrev pub AreFewOwned : ℤ → View → Type 0
-AreFewOwned id v = (kv : Kv) (ps : List Bytes) → sees v (SessionKey (nat_abs id)) ≡ Some (Some kv) → IsNodesIn kv ps → length ps ≤ max_owned
+AreFewOwned id v = (kv : Kv) (r : SessionRec) → sees v (SessionKey (nat_abs id)) ≡ Some (Some kv) → IsNodesIn kv r → length r.paths ≤ max_owned r.layout
 
 -- by the decision: the transaction of its plan is asked, or the end is told at the view's revision; it is never `TooMany`
 abbrev pub ReaperFollows : View → Reaping → Phase → ReapStep → Type 0
@@ -179,10 +180,10 @@ IsReaperWaiting _ phase = phase ≡ Over
 -- the list of the session's nodes that a view saw has more than a session may own: its key and value are given
 pub record IsCrowded (id : ℤ) (v : View) (key value : Bytes) : Type 0 where
   pub kv : Kv
-  pub paths : List Bytes
+  pub listed : SessionRec
   pub saw : sees v (SessionKey (nat_abs id)) ≡ Some (Some kv)
-  pub nodes : IsNodesIn kv paths
-  pub many : max_owned < length paths
+  pub nodes : IsNodesIn kv listed
+  pub many : max_owned listed.layout < length listed.paths
   pub key_is : key ≡ kv.key
   pub value_is : value ≡ kv.value
 

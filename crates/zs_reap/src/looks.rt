@@ -10,7 +10,6 @@ use crate::moves::{Move, count, decided, end, first_wants, look};
 use crate::reap::ReapStep;
 use ev_types::{ActAns, Kv};
 use std::alloc::Global;
-use zk_model::limit::MAX_OWNED;
 use zn_layout::session_key;
 use zn_view::{View, Want};
 use zs_close::needs_reap;
@@ -40,7 +39,7 @@ fn test_nodes(alloc: Global, session: i64, view: &View) -> Result<(), StepFault>
     let Some(nodes) = view.nodes_of(session)? else {
         return Ok(());
     };
-    if nodes.paths.len() > MAX_OWNED {
+    if nodes.paths.len() > nodes.layout.max_owned() {
         return Err(damaged(alloc, kv)?);
     }
     Ok(())

@@ -9,7 +9,7 @@ use Rattle.zn_layout.specs.Records.{head_value, lease_value, session_value, trig
 use Rattle.zn_layout.proofs.Denials.{update-sendable}
 use Rattle.zn_view.specs.Asks.{ranges_of}
 use Rattle.zn_view.proofs.Sizes.{head-size, life-size, session-size}
-use Rattle.zs_session.specs.declared.connect.Fresh.{Fresh}
+use Rattle.zk_service.specs.declared.fresh.Fresh.{Fresh}
 use Rattle.zs_session.specs.Sessions.{attach_changes, attach_guards, attach_txn, attach_wants, first_life, new_session_changes, new_session_guards, new_session_txn, next_life, session_wants}
 
 -- ---- values

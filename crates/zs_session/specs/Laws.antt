@@ -11,7 +11,7 @@ use Rattle.zk_service.specs.States.{State}
 use Rattle.zn_layout.specs.declared.record.LeaseRec.{LeaseRec}
 use Rattle.zn_layout.specs.Records.{IsLeaseRec}
 use Rattle.zn_layout.specs.StandsFor.{StandsFor}
-use Rattle.zs_session.specs.declared.connect.Fresh.{Fresh}
+use Rattle.zk_service.specs.declared.fresh.Fresh.{Fresh}
 use Rattle.zs_session.specs.Connecting.{number_shown}
 use Rattle.zs_session.specs.Sessions.{attach_txn, new_session_txn}
 

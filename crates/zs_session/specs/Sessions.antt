@@ -6,7 +6,9 @@ use Rattle.ev_types.specs.declared.ask.Guard.{Guard}
 use Rattle.ev_types.specs.declared.ask.TxnReq.{TxnReq}
 use Rattle.zk_model.specs.declared.connect.ConnectRequest.{ConnectRequest}
 use Rattle.zk_model.specs.Limits.{max_long}
+use Rattle.zk_model.specs.declared.layout.Layout.{Layout}
 use Rattle.zn_layout.specs.declared.record.LeaseRec.{LeaseRec}
+use Rattle.zn_layout.specs.declared.record.SessionRec.{SessionRec}
 use Rattle.zn_layout.specs.Changes.{KeyChange, put_key}
 use Rattle.zn_layout.specs.Keys.{Key, SessionKey, LeaseKey, key_bytes}
 use Rattle.zn_layout.specs.Records.{session_value, lease_value}
@@ -14,7 +16,7 @@ use Rattle.zn_layout.specs.Updates.{update_txn}
 use Rattle.zn_view.specs.declared.want.Want.{Want}
 use Rattle.zn_view.specs.Asks.{ranges_of, head_want}
 use Rattle.zn_view.specs.Needs.{key_want}
-use Rattle.zs_session.specs.declared.connect.Fresh.{Fresh}
+use Rattle.zk_service.specs.declared.fresh.Fresh.{Fresh}
 
 -- a lease has the timeout's seconds, rounded up
 abbrev pub lease_seconds : ℤ → ℤ
@@ -43,9 +45,12 @@ session_wants id = key_want (life_key id) ∷ key_want (nodes_key id) ∷ head_w
 abbrev pub first_life : Fresh → ℤ → LeaseRec
 first_life f timeout = record { timeout = timeout; attaches = pos 1; passwd = f.passwd }
 
--- it owns no node
+-- the record of a session of this layout that owns no node
+abbrev pub no_nodes : Layout → SessionRec
+no_nodes layout = record { layout = layout; paths = [] }
+
 abbrev pub new_session_changes : Fresh → ℤ → List KeyChange
-new_session_changes f timeout = put_life f.id (first_life f timeout) ∷ put_key (nodes_key f.id) (session_value []) ∷ []
+new_session_changes f timeout = put_life f.id (first_life f timeout) ∷ put_key (nodes_key f.id) (session_value (no_nodes f.layout)) ∷ []
 
 abbrev pub new_session_guards : ℤ → List Guard
 new_session_guards id = guard_on (life_key id) (pos 0) ∷ guard_on (nodes_key id) (pos 0) ∷ []

@@ -2,16 +2,9 @@
 
 use ev_types::Ask;
 use zk_model::{ConnectRequest, ConnectResponse};
+use zk_service::Fresh;
 use zn_layout::LeaseRec;
 use zn_view::Who;
-
-/// What a new session is made with.
-#[derive(Clone, Copy)]
-pub struct Fresh {
-    /// The session's number, and that of its lease; at least 1.
-    pub id: i64,
-    pub passwd: [u8; 16],
-}
 
 /// What a connecting connection waits for.
 #[derive(Clone, Copy)]

@@ -6,13 +6,14 @@ ghost use Rattle.zs_session.specs.Answering.{IsAwaited};
 ghost use Rattle.zs_session.specs.declared.connect.Phase.TheVariants as phases;
 
 use crate::answers::{attached_anew, created, kept_alive, looked, looked_again};
-use crate::connect::{Connect, ConnectStep, Fresh, Phase};
+use crate::connect::{Connect, ConnectStep, Phase};
 use crate::fault::StepFault;
 use crate::moves::{Move, begin, create};
 use ev_types::Answer;
 use std::alloc::Global;
 use std::marker::Model;
 use zk_model::ConnectRequest;
+use zk_service::Fresh;
 
 /// What follows an answer.
 fn answered(alloc: Global, connect: &Connect, answer: &Answer) -> Result<Move, StepFault>

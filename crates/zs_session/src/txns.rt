@@ -4,12 +4,12 @@ ghost use Rattle.std.specs.Prelude.{◌≡◌, pos, ◌≤ℤ◌, [], IfOk, OnOk
 ghost use Rattle.zk_model.specs.Limits.{min_timeout, max_timeout};
 ghost use Rattle.zn_layout.specs.Changes.{act_of, put_key, update_acts};
 ghost use Rattle.zn_layout.specs.Records.{session_value, IsLeaseRec};
-ghost use Rattle.zs_session.specs.Sessions.{attach_changes, attach_guards, attach_txn as txn_of_attach, new_session_changes, new_session_guards, new_session_txn as txn_of_session, next_attach as attach_after, next_life as life_after, nodes_key, put_life as change_of_life};
+ghost use Rattle.zs_session.specs.Sessions.{attach_changes, attach_guards, attach_txn as txn_of_attach, new_session_changes, new_session_guards, new_session_txn as txn_of_session, no_nodes, next_attach as attach_after, next_life as life_after, nodes_key, put_life as change_of_life};
 
 use crate::asks::{attach_wants, session_wants};
-use crate::connect::Fresh;
 use ev_types::{Act, Guard, TxnReq};
 use std::alloc::Global;
+use zk_service::Fresh;
 use zn_layout::{
     HeadRec, LeaseRec, SessionRec, get_head, lease_key, put_head, session_key, write_lease,
     write_session,
@@ -31,14 +31,15 @@ fn put_life(alloc: Global, id: i64, life: &LeaseRec) -> Result<Act, Memory>
 }
 
 /// Puts the list of the nodes of a session that owns none.
-fn put_no_nodes(alloc: Global, id: i64) -> Result<Act, Memory>
-    requires { pos 1 ≤ℤ id }
-    ensures { IfOk result (λ act. act ≡ act_of (put_key (nodes_key id) (session_value []))) }
+fn put_no_nodes(alloc: Global, fresh: &Fresh) -> Result<Act, Memory>
+    requires { pos 1 ≤ℤ fresh.now.id }
+    ensures { IfOk result (λ act. act ≡ act_of (put_key (nodes_key fresh.now.id) (session_value (no_nodes fresh.now.layout)))) }
 {
     let none = SessionRec {
+        layout: fresh.layout,
         paths: Seq::new(alloc),
     };
-    let key = session_key(alloc, id)?;
+    let key = session_key(alloc, fresh.id)?;
     Ok(Act::Put {
         key,
         value: Bytes::from_vec(write_session(alloc, &none)?),
@@ -70,7 +71,7 @@ fn new_session_acts(alloc: Global, fresh: &Fresh, timeout: i32) -> Result<Seq<Ac
     };
     let mut acts = Seq::new(alloc);
     acts.push(put_life(alloc, fresh.id, &life)?)?;
-    acts.push(put_no_nodes(alloc, fresh.id)?)?;
+    acts.push(put_no_nodes(alloc, fresh)?)?;
     push_head(&mut acts, alloc)?;
     Ok(acts)
 }

@@ -5,6 +5,7 @@ use Rattle.std.specs.Fmt.{signed_decimal}
 use Rattle.std.specs.List.{list_all}
 use Rattle.std.proofs.lemmas.Bool.{and_parts, lt-ltb, not-true, or_from}
 use Rattle.std.proofs.lemmas.List.Elements.{All-append, All-cons, All-nil}
+use Rattle.zk_model.specs.declared.layout.Layout.TheVariants.{One, Two}
 use Rattle.zk_transcript.specs.declared.transcript.TranscriptLine.{TranscriptLine}
 use Rattle.zk_transcript.specs.declared.transcript.TranscriptLine.TheVariants as line
 use Rattle.zt_text.specs.declared.script.Unread.{Unread}
@@ -41,7 +42,8 @@ is_last_line-other form word words formed other undone =
 
 pub is_last_line-line_words : (l : TranscriptLine) → is_last_line (spaced (line_words l)) ≡ false
 is_last_line-line_words (line.Update u) = is_last_line-other (codes "update") (signed_decimal u.zxid) (kind_words u.kind) refl refl refl
-is_last_line-line_words (line.Open c p id pw) = is_last_line-other (codes "open") (decimal c) (decimal p ∷ id_text id ∷ hex_text pw ∷ []) refl refl refl
+is_last_line-line_words (line.Open c p id pw One) = is_last_line-other (codes "open1") (decimal c) (decimal p ∷ id_text id ∷ hex_text pw ∷ []) refl refl refl
+is_last_line-line_words (line.Open c p id pw Two) = is_last_line-other (codes "open") (decimal c) (decimal p ∷ id_text id ∷ hex_text pw ∷ []) refl refl refl
 is_last_line-line_words (line.Frame c i z bytes) = is_last_line-other (codes "frame") (decimal c) (decimal i ∷ signed_decimal z ∷ hex_text bytes ∷ []) refl refl refl
 is_last_line-line_words (line.Send c bytes) = is_last_line-other (codes "send") (decimal c) (hex_text bytes ∷ []) refl refl refl
 is_last_line-line_words (line.Lapse rev id) = is_last_line-other (codes "lapse") (signed_decimal rev) (id_text id ∷ []) refl refl refl

@@ -7,6 +7,8 @@ use Rattle.std.proofs.lemmas.Bool.{cond_both, ltb-false}
 use Rattle.std.proofs.lemmas.List.{append-nil}
 use Rattle.std.proofs.lemmas.List.Splits.{join_with_byte-slice_split}
 use Rattle.std.proofs.lemmas.Option.{IfSome_then}
+use Rattle.zk_model.specs.declared.layout.Layout.TheVariants.{One, Two}
+use Rattle.zk_model.specs.declared.layout.Layout.{Layout}
 use Rattle.zk_service.specs.declared.cause.Cause.{Cause}
 use Rattle.zk_service.specs.declared.cause.Cause.TheVariants as cause
 use Rattle.zk_service.specs.declared.cause.Ended.{Ended}
@@ -14,7 +16,7 @@ use Rattle.zk_service.specs.declared.cause.Ended.TheVariants as ended
 use Rattle.zk_service.specs.declared.update.UpdateKind.{UpdateKind}
 use Rattle.zk_transcript.specs.declared.transcript.TranscriptLine.{TranscriptLine}
 use Rattle.zt_text.specs.Scripts.{hex, max_line, number, password, pieces, session_id}
-use Rattle.zt_text.specs.Transcripts.{cause_words, end_words, id_text, kind_words, line_words, spaced}
+use Rattle.zt_text.specs.Transcripts.{cause_words, end_words, id_text, kind_words, line_words, spaced, open_word}
 use Rattle.zt_lines.specs.Lines.{Words, asked_words, attach_words, bad_length_end, begin_words, close_line, closed_words, damaged, end_of_one, end_of_pair, end_of_place, end_of_revision, end_of_two, end_read, frame_line, id_and_connection, kind_of_form, kind_read, lapse_line, line_of_form, line_read, of_words, open_line, or_end, pair_cause, place_cause, plain_cause, reaped_words, revision_end, send_line, session_words, update_line}
 use Rattle.zt_lines.specs.Readable.{FitsCause, FitsEnd, FitsKind, FitsLine, FitsLong, FitsNumber, FitsPlace, FitsSession, IsReadable}
 use Rattle.zt_lines.specs.Words.{length_word, long, place}
@@ -190,14 +192,14 @@ close_line-written [] = tt
 close_line-written (c ∷ words) =
     in_steps _ (number c) _ (number-written c) (λ connection v. in_steps _ (end_read words) _ (end_read-written words) (λ end w. ((λ i. codes "close" ∷ v.0 i ∷ w.0 i), (v.1, w.1))))
 
-open_line-written : (words : Words) → IfSome (open_line words) (IsLineOf words (codes "open"))
+open_line-written : (layout : Layout) (words : Words) → IfSome (open_line layout words) (IsLineOf words (open_word layout))
 unfolding open_line
-open_line-written (a ∷ b ∷ c ∷ d ∷ []) =
+open_line-written layout (a ∷ b ∷ c ∷ d ∷ []) =
     in_steps _ (number a) _ (number-written a) (λ connection t.
     in_steps _ (number b) _ (number-written b) (λ proxy u.
     in_steps _ (session_id c) _ (session_id-written c) (λ id v.
-    in_steps _ (password d) _ (password-written d) (λ passwd w. ((λ i. codes "open" ∷ t.0 i ∷ u.0 i ∷ v.0 i ∷ w.0 i ∷ []), (t.1, u.1, v.1, w.1))))))
-open_line-written _ = tt
+    in_steps _ (password d) _ (password-written d) (λ passwd w. ((λ i. open_word layout ∷ t.0 i ∷ u.0 i ∷ v.0 i ∷ w.0 i ∷ []), (t.1, u.1, v.1, w.1))))))
+open_line-written layout _ = tt
 
 frame_line-written : (words : Words) → IfSome (frame_line words) (IsLineOf words (codes "frame"))
 unfolding frame_line
@@ -224,11 +226,12 @@ line_of_form-written : (form : List ℕ) (words : Words) → IfSome (line_of_for
 unfolding line_of_form
 line_of_form-written form words =
     by_form (IsLineOf words) form (codes "update") (update_line words) _ (update_line-written words)
-    (by_form (IsLineOf words) form (codes "open") (open_line words) _ (open_line-written words)
+    (by_form (IsLineOf words) form (codes "open") (open_line Two words) _ (open_line-written Two words)
+    (by_form (IsLineOf words) form (codes "open1") (open_line One words) _ (open_line-written One words)
     (by_form (IsLineOf words) form (codes "frame") (frame_line words) _ (frame_line-written words)
     (by_form (IsLineOf words) form (codes "send") (send_line words) _ (send_line-written words)
     (by_form (IsLineOf words) form (codes "lapse") (lapse_line words) _ (lapse_line-written words)
-    (by_form (IsLineOf words) form (codes "close") (close_line words) None (close_line-written words) tt)))))
+    (by_form (IsLineOf words) form (codes "close") (close_line words) None (close_line-written words) tt))))))
 
 of_words-written : (words : Words) → IfSome (of_words words) (λ l. (words ≡ line_words l) × FitsLine l)
 of_words-written [] = tt

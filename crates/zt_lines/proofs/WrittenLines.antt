@@ -4,6 +4,7 @@ use Rattle.std.specs.Prelude.{codes}
 use Rattle.std.specs.Fmt.{signed_decimal}
 use Rattle.std.proofs.lemmas.Bool.{le-ltb}
 use Rattle.std.proofs.lemmas.Int.{ints}
+use Rattle.zk_model.specs.declared.layout.Layout.TheVariants.{One, Two}
 use Rattle.zk_service.specs.declared.cause.Cause.{Cause}
 use Rattle.zk_service.specs.declared.cause.Cause.TheVariants as cause
 use Rattle.zk_service.specs.declared.cause.Ended.{Ended}
@@ -78,7 +79,9 @@ end_read-end_words (ended.Gone rev) h = end_of_one-revision (codes "gone") rev (
 of_words-line_words : (l : TranscriptLine) → FitsLine l → of_words (line_words l) ≡ Some l
 unfolding line_of_form update_line open_line frame_line send_line lapse_line close_line
 of_words-line_words (line.Update u) h = rw (long-signed_decimal u.zxid h.0, kind_read-kind_words u.kind h.1) refl
-of_words-line_words (line.Open c p id pw) h =
+of_words-line_words (line.Open c p id pw One) h =
+    rw (number-decimal c h.0, number-decimal p h.1, session_id-id_text id h.2.0 h.2.1, password-hex_text pw h.3.0 h.3.1) refl
+of_words-line_words (line.Open c p id pw Two) h =
     rw (number-decimal c h.0, number-decimal p h.1, session_id-id_text id h.2.0 h.2.1, password-hex_text pw h.3.0 h.3.1) refl
 of_words-line_words (line.Frame c i z bytes) h = rw (number-decimal c h.0, place-decimal i h.1, long-signed_decimal z h.2, hex-hex_text bytes h.3) refl
 of_words-line_words (line.Send c bytes) h = rw (number-decimal c h.0, hex-hex_text bytes h.1) refl

@@ -1,5 +1,7 @@
 -- The lines of a transcript (this project's own format): the first word tells the form, and the others what the line says.
 use Rattle.std.specs.Prelude.{ℕ, ℤ, List, [], ◌∷◌, length, nat_lt, bytes_eq, codes, Option, Some, None, if◌then◌else◌}
+use Rattle.zk_model.specs.declared.layout.Layout.{Layout}
+use Rattle.zk_model.specs.declared.layout.Layout.TheVariants.{One, Two}
 use Rattle.zk_service.specs.declared.cause.Cause.{Cause}
 use Rattle.zk_service.specs.declared.cause.Cause.TheVariants as cause
 use Rattle.zk_service.specs.declared.cause.Ended.{Ended}
@@ -196,15 +198,15 @@ close_line (c ∷ words) = do
 
 -- ---- the other forms
 
--- `open C P ID PW`
-unfoldable pub open_line : Words → Option TranscriptLine
-open_line words = do
+-- `open C P ID PW`, and `open1` for a session of layout 1
+unfoldable pub open_line : Layout → Words → Option TranscriptLine
+open_line layout words = do
   w ← four_words words
   c ← number w.0
   p ← number w.1
   id ← session_id w.2
   passwd ← password w.3
-  Some (line.Open c p id passwd)
+  Some (line.Open c p id passwd layout)
 
 -- `frame C I Z HEX`
 unfoldable pub frame_line : Words → Option TranscriptLine
@@ -235,7 +237,8 @@ lapse_line words = do
 unfoldable pub line_of_form : List ℕ → Words → Option TranscriptLine
 line_of_form form words =
     if bytes_eq form (codes "update") then update_line words
-    else if bytes_eq form (codes "open") then open_line words
+    else if bytes_eq form (codes "open") then open_line Two words
+    else if bytes_eq form (codes "open1") then open_line One words
     else if bytes_eq form (codes "frame") then frame_line words
     else if bytes_eq form (codes "send") then send_line words
     else if bytes_eq form (codes "lapse") then lapse_line words

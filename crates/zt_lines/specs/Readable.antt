@@ -74,7 +74,7 @@ FitsEnd (ended.Gone rev) = FitsLong rev
 
 abbrev pub FitsLine : TranscriptLine → Type 0
 FitsLine (line.Update u) = FitsLong u.zxid × FitsKind u.kind
-FitsLine (line.Open c p id pw) = FitsNumber c × FitsNumber p × FitsSession id × FitsPassword pw
+FitsLine (line.Open c p id pw layout) = FitsNumber c × FitsNumber p × FitsSession id × FitsPassword pw
 FitsLine (line.Frame c i z bytes) = FitsNumber c × FitsPlace i × FitsLong z × AreBytes bytes
 FitsLine (line.Send c bytes) = FitsNumber c × AreBytes bytes
 FitsLine (line.Lapse rev id) = FitsLong rev × FitsSession id

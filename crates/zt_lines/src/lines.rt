@@ -8,6 +8,7 @@ use crate::ends::close;
 use crate::numbers::{long, place};
 use crate::updates::{is, update};
 use std::alloc::Global;
+use zk_model::Layout;
 use zk_transcript::TranscriptLine;
 use zt_text::{
     MAX_LINE, Words, first_word, four_words, hex, number, password, session_id, two_words,
@@ -37,7 +38,9 @@ fn line_of_form(
     if is(form, b"update") {
         Ok(update(words))
     } else if is(form, b"open") {
-        Ok(open(words))
+        Ok(open(words, Layout::Two))
+    } else if is(form, b"open1") {
+        Ok(open(words, Layout::One))
     } else if is(form, b"frame") {
         frame(alloc, words)
     } else if is(form, b"send") {
@@ -51,10 +54,10 @@ fn line_of_form(
     }
 }
 
-/// `open C P ID PW`
+/// `open C P ID PW`, and `open1` for a session of layout 1
 #[tactic(auto, unfolding(crate::specs::Lines::open_line))]
-fn open(words: Words<'_>) -> Option<TranscriptLine>
-    ensures { result ≡ open_line (words_of words.entry) }
+fn open(words: Words<'_>, layout: Layout) -> Option<TranscriptLine>
+    ensures { result ≡ open_line layout (words_of words.entry) }
 {
     let (connection, proxy, id, passwd) = four_words(words)?;
     let connection = number(connection)?;
@@ -66,6 +69,7 @@ fn open(words: Words<'_>) -> Option<TranscriptLine>
         proxy,
         id,
         passwd,
+        layout,
     })
 }
 

@@ -1,6 +1,8 @@
 -- A line of a transcript, read back from its words.
 use Rattle.std.proofs.Common.{◌≡◌, ℕ, ℤ, List, [], ◌∷◌, Option, Some, None, option_map, if◌then◌else◌, refl, ap, ◌∙◌}
 use Rattle.std.specs.Prelude.{bytes_eq, codes, option_and_then}
+use Rattle.zk_model.specs.declared.layout.Layout.TheVariants.{One, Two}
+use Rattle.zk_model.specs.declared.layout.Layout.{Layout}
 use Rattle.zk_service.specs.declared.cause.Cause.{Cause}
 use Rattle.zk_service.specs.declared.cause.Cause.TheVariants as cause
 use Rattle.zk_service.specs.declared.cause.Ended.{Ended}
@@ -128,11 +130,15 @@ numbered f read others (a ∷ words) = option_and_then (λ x. option_map (f x) (
 abbrev update : ℤ → UpdateKind → TranscriptLine
 update zxid kind = line.Update (record { zxid = zxid; kind = kind })
 
+abbrev opened_in : Layout → ℕ → ℕ → ℤ → List ℕ → TranscriptLine
+opened_in layout c p id pw = line.Open c p id pw layout
+
 abbrev pub line_of : Words → Option TranscriptLine
 line_of [] = None
 line_of (name ∷ words) =
     if bytes_eq name (codes "update") then numbered update signed kind_of words
-    else if bytes_eq name (codes "open") then four_words line.Open natural natural session_number hex words
+    else if bytes_eq name (codes "open") then four_words (opened_in Two) natural natural session_number hex words
+    else if bytes_eq name (codes "open1") then four_words (opened_in One) natural natural session_number hex words
     else if bytes_eq name (codes "frame") then four_words line.Frame natural natural signed hex words
     else if bytes_eq name (codes "send") then two_words line.Send natural hex words
     else if bytes_eq name (codes "lapse") then two_words line.Lapse signed session_number words
@@ -141,7 +147,8 @@ line_of (name ∷ words) =
 
 pub line_of-words : (l : TranscriptLine) → IsWellFormed l → line_of (line_words l) ≡ Some l
 line_of-words (line.Update u) h = rw (signed-signed_decimal u.zxid h.0, kind_of-words u.kind h.1) refl
-line_of-words (line.Open c p id pw) h = rw (natural-decimal c h.0, natural-decimal p h.1, session_number-id_text id h.2, hex-hex_text pw h.3) refl
+line_of-words (line.Open c p id pw One) h = rw (natural-decimal c h.0, natural-decimal p h.1, session_number-id_text id h.2, hex-hex_text pw h.3) refl
+line_of-words (line.Open c p id pw Two) h = rw (natural-decimal c h.0, natural-decimal p h.1, session_number-id_text id h.2, hex-hex_text pw h.3) refl
 line_of-words (line.Frame c i z bytes) h = rw (natural-decimal c h.0, natural-decimal i h.1, signed-signed_decimal z h.2, hex-hex_text bytes h.3) refl
 line_of-words (line.Send c bytes) h = rw (natural-decimal c h.0, hex-hex_text bytes h.1) refl
 line_of-words (line.Lapse rev id) h = rw (signed-signed_decimal rev h.0, session_number-id_text id h.1) refl

@@ -7,6 +7,7 @@ use Rattle.std.proofs.lemmas.List.{append_assoc, append-nil}
 use Rattle.std.proofs.lemmas.List.Elements.{All-append, All-cons, All-nil, All-contains}
 use Rattle.std.proofs.lemmas.List.Concat.{flat_map-append}
 use Rattle.std.proofs.lemmas.Option.{same_Some}
+use Rattle.zk_model.specs.declared.layout.Layout.TheVariants.{One, Two}
 use Rattle.zk_service.specs.declared.cause.Cause.{Cause}
 use Rattle.zk_service.specs.declared.cause.Cause.TheVariants as cause
 use Rattle.zk_service.specs.declared.cause.Ended.{Ended}
@@ -54,7 +55,8 @@ end_words-are_words (ended.Gone rev) = rw (signed_decimal-is_word rev) refl
 
 line_words-are_words : (l : TranscriptLine) → are_words (line_words l) ≡ true
 line_words-are_words (line.Update u) = rw (signed_decimal-is_word u.zxid) (kind_words-are_words u.kind)
-line_words-are_words (line.Open c p id pw) = rw (decimal-is_word c, decimal-is_word p, id_text-is_word id, hex_text-is_word pw) refl
+line_words-are_words (line.Open c p id pw One) = rw (decimal-is_word c, decimal-is_word p, id_text-is_word id, hex_text-is_word pw) refl
+line_words-are_words (line.Open c p id pw Two) = rw (decimal-is_word c, decimal-is_word p, id_text-is_word id, hex_text-is_word pw) refl
 line_words-are_words (line.Frame c i z bytes) = rw (decimal-is_word c, decimal-is_word i, signed_decimal-is_word z, hex_text-is_word bytes) refl
 line_words-are_words (line.Send c bytes) = rw (decimal-is_word c, hex_text-is_word bytes) refl
 line_words-are_words (line.Lapse rev id) = rw (signed_decimal-is_word rev, id_text-is_word id) refl
@@ -99,7 +101,7 @@ Lacks-line l = Lacks-spaced (line_words l) (line_words-are_words l)
 -- the pieces of a line are its words
 pub pieces-line_words : (l : TranscriptLine) → pieces 32 (spaced (line_words l)) ≡ line_words l
 pieces-line_words (line.Update u) = pieces-spaced _ _ (line_words-are_words (line.Update u))
-pieces-line_words (line.Open c p id pw) = pieces-spaced _ _ (line_words-are_words (line.Open c p id pw))
+pieces-line_words (line.Open c p id pw layout) = pieces-spaced _ _ (line_words-are_words (line.Open c p id pw layout))
 pieces-line_words (line.Frame c i z bytes) = pieces-spaced _ _ (line_words-are_words (line.Frame c i z bytes))
 pieces-line_words (line.Send c bytes) = pieces-spaced _ _ (line_words-are_words (line.Send c bytes))
 pieces-line_words (line.Lapse rev id) = pieces-spaced _ _ (line_words-are_words (line.Lapse rev id))

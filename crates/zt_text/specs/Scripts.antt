@@ -1,6 +1,8 @@
 -- The text of a script (this project's own format): a line for each thing that is to happen, its words separated by blanks.
 use Rattle.std.specs.Prelude.{◌++◌, ◌⊎◌, ◌≡◌, ℕ, ℤ, pos, ◌+◌, ◌*◌, ◌-◌, ◌^◌, Bool, true, false, ◌&&◌, List, [], ◌∷◌, length, nat_lt, nat_le, ◌==◌, bytes_eq, codes, Option, Some, None, option_and_then, take, if◌then◌else◌}
 use Rattle.std.specs.List.{All, slice_split}
+use Rattle.zk_model.specs.declared.layout.Layout.{Layout}
+use Rattle.zk_model.specs.declared.layout.Layout.TheVariants.{One, Two}
 use Rattle.zt_text.specs.declared.script.Happening.{Happening}
 use Rattle.zt_text.specs.declared.script.Happening.TheVariants as line
 use Rattle.zt_text.specs.declared.script.Unread.{Unread}
@@ -102,15 +104,15 @@ abbrev pub four_words : List (List ℕ) → Option (List ℕ × List ℕ × List
 four_words (a ∷ b ∷ c ∷ d ∷ []) = Some (a, b, c, d)
 four_words _ = None
 
--- `open C P ID PW`
-unfoldable pub open_happening : List (List ℕ) → Option Happening
-open_happening words = do
+-- `open C P ID PW`, and `open1` for a session of layout 1
+unfoldable pub open_happening : Layout → List (List ℕ) → Option Happening
+open_happening layout words = do
   w ← four_words words
   c ← number w.0
   p ← number w.1
   id ← session_id w.2
   passwd ← password w.3
-  Some (line.Open c p id passwd)
+  Some (line.Open c p id passwd layout)
 
 -- `frame C HEX`, `bytes C HEX`
 abbrev pub number_and_bytes : List (List ℕ) → Option (ℕ × List ℕ)
@@ -179,7 +181,8 @@ numbered_line form words = do
 -- the form of a line is told by its first word
 unfoldable pub happening_of_form : List ℕ → List (List ℕ) → Option Happening
 happening_of_form form words =
-    if bytes_eq form (codes "open") then open_happening words
+    if bytes_eq form (codes "open") then open_happening Two words
+    else if bytes_eq form (codes "open1") then open_happening One words
     else if bytes_eq form (codes "frame") then frame_happening words
     else if bytes_eq form (codes "bytes") then bytes_line words
     else if bytes_eq form (codes "lapse") then lapse_happening words

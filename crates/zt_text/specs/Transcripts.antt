@@ -9,6 +9,8 @@ use Rattle.zk_service.specs.declared.cause.Ended.{Ended}
 use Rattle.zk_service.specs.declared.cause.Ended.TheVariants as ended
 use Rattle.zk_service.specs.declared.update.UpdateKind.{UpdateKind}
 use Rattle.zk_service.specs.declared.update.UpdateKind.TheVariants.{Begin, Session, Attach, Asked, Closed, Reaped}
+use Rattle.zk_model.specs.declared.layout.Layout.{Layout}
+use Rattle.zk_model.specs.declared.layout.Layout.TheVariants.{One, Two}
 use Rattle.zk_transcript.specs.declared.transcript.TranscriptLine.{TranscriptLine}
 use Rattle.zk_transcript.specs.declared.transcript.TranscriptLine.TheVariants.{Update, Open, Frame, Send, Lapse, Close}
 
@@ -72,10 +74,15 @@ end_words (ended.Reaped z) = codes "reaped" ∷ signed_decimal z ∷ []
 end_words (ended.Kept rev) = codes "kept" ∷ signed_decimal rev ∷ []
 end_words (ended.Gone rev) = codes "gone" ∷ signed_decimal rev ∷ []
 
+-- the first word of the line of a connection that opened
+abbrev pub open_word : Layout → List ℕ
+open_word One = codes "open1"
+open_word Two = codes "open"
+
 -- the words of a line; the first tells its form
 abbrev pub line_words : TranscriptLine → List (List ℕ)
 line_words (Update u) = codes "update" ∷ signed_decimal u.zxid ∷ kind_words u.kind
-line_words (Open c p id pw) = codes "open" ∷ decimal c ∷ decimal p ∷ id_text id ∷ hex_text pw ∷ []
+line_words (Open c p id pw layout) = open_word layout ∷ decimal c ∷ decimal p ∷ id_text id ∷ hex_text pw ∷ []
 line_words (Frame c i z bytes) = codes "frame" ∷ decimal c ∷ decimal i ∷ signed_decimal z ∷ hex_text bytes ∷ []
 line_words (Send c bytes) = codes "send" ∷ decimal c ∷ hex_text bytes ∷ []
 line_words (Lapse rev id) = codes "lapse" ∷ signed_decimal rev ∷ id_text id ∷ []
@@ -136,7 +143,7 @@ IsWellFormedEnd (ended.Gone rev) = IsSignedNumber rev
 
 abbrev pub IsWellFormed : TranscriptLine → Type 0
 IsWellFormed (Update u) = IsSignedNumber u.zxid × IsWellFormedKind u.kind
-IsWellFormed (Open c p id pw) = IsNumber c × IsNumber p × IsSessionNumber id × AreBytes pw
+IsWellFormed (Open c p id pw layout) = IsNumber c × IsNumber p × IsSessionNumber id × AreBytes pw
 IsWellFormed (Frame c i z bytes) = IsNumber c × IsNumber i × IsSignedNumber z × AreBytes bytes
 IsWellFormed (Send c bytes) = IsNumber c × AreBytes bytes
 IsWellFormed (Lapse rev id) = IsSignedNumber rev × IsSessionNumber id

@@ -27,9 +27,9 @@ update_text zxid words = spaced (codes "update" ∷ signed_decimal zxid ∷ word
 abbrev pub close_text : ℕ → List (List ℕ) → List ℕ
 close_text connection words = spaced (codes "close" ∷ decimal connection ∷ words) ++ 10 ∷ []
 
--- the lines of a connection that opened, and of a frame that came
-abbrev pub open_text : ℕ → ℕ → ℤ → List ℕ → List ℕ
-open_text connection proxy id passwd = spaced (codes "open" ∷ decimal connection ∷ decimal proxy ∷ id_text id ∷ hex_text passwd ∷ []) ++ 10 ∷ []
+-- the lines of a connection that opened, by its first word, and of a frame that came
+abbrev pub open_text : List ℕ → ℕ → ℕ → ℤ → List ℕ → List ℕ
+open_text name connection proxy id passwd = spaced (name ∷ decimal connection ∷ decimal proxy ∷ id_text id ∷ hex_text passwd ∷ []) ++ 10 ∷ []
 
 abbrev pub frame_text : ℕ → ℕ → ℤ → List ℕ → List ℕ
 frame_text connection index zxid bytes = spaced (codes "frame" ∷ decimal connection ∷ decimal index ∷ signed_decimal zxid ∷ hex_text bytes ∷ []) ++ 10 ∷ []

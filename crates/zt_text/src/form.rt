@@ -8,6 +8,7 @@ use crate::Happening;
 use crate::argument::{hex, number, password, session_id};
 use crate::words::{Words, four_words, one_word, three_words, two_words};
 use std::alloc::Global;
+use zk_model::Layout;
 use zx_base::{Bytes, Memory};
 
 /// What a line says, by its first word and the others.
@@ -20,7 +21,9 @@ pub(crate) fn line_of_form(
     ensures { IfOk result (λ h. h ≡ line_of_form_of form.now (words_of words.entry)) }
 {
     if is(form, b"open") {
-        Ok(open(words))
+        Ok(open(words, Layout::Two))
+    } else if is(form, b"open1") {
+        Ok(open(words, Layout::One))
     } else if is(form, b"frame") {
         frame(alloc, words)
     } else if is(form, b"bytes") {
@@ -83,10 +86,10 @@ fn of_number(form: &[u8], number: u32) -> Option<Happening>
     }
 }
 
-/// `open C P ID PW`
+/// `open C P ID PW`, and `open1` for a session of layout 1
 #[tactic(auto, unfolding(crate::specs::Scripts::open_happening))]
-fn open(words: Words<'_>) -> Option<Happening>
-    ensures { result ≡ open_happening (words_of words.entry) }
+fn open(words: Words<'_>, layout: Layout) -> Option<Happening>
+    ensures { result ≡ open_happening layout (words_of words.entry) }
 {
     let (connection, proxy, id, passwd) = four_words(words)?;
     let connection = number(connection)?;
@@ -98,6 +101,7 @@ fn open(words: Words<'_>) -> Option<Happening>
         proxy,
         id,
         passwd,
+        layout,
     })
 }
 

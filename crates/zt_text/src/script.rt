@@ -1,16 +1,18 @@
 //! What may happen in a run, one value for each line of a script.
 
+use zk_model::Layout;
 use zx_base::Bytes;
 
 /// Numbers of connections, proxies and strays, and milliseconds, are those of the line. Session ids are at least 1.
 #[derive(Debug, Drop)]
 pub enum Happening {
-    /// A connection opens at a proxy, with the number and password of a new session.
+    /// A connection opens at a proxy, with the number, the password and the layout of a new session.
     Open {
         connection: u32,
         proxy: u32,
         id: i64,
         passwd: [u8; 16],
+        layout: Layout,
     },
     /// A whole frame arrives.
     Frame {

@@ -2,10 +2,11 @@
 
 ghost use Rattle.std.specs.Fmt.{signed_decimal};
 ghost use Rattle.std.specs.Prelude.{◌≡◌, ◌++◌, ◌∷◌, [], OnOk, OnErr, decimal, map};
-ghost use Rattle.zt_text.specs.Transcripts.{cause_words, end_words, id_text, kind_words, line_text};
+ghost use Rattle.zt_text.specs.Transcripts.{cause_words, end_words, id_text, kind_words, line_text, open_word};
 ghost use Rattle.zt_text.specs.Written.{close_text, frame_text, open_text, update_text, word_text};
 
 use crate::word::{Word, push_words};
+use zk_model::Layout;
 use zk_service::{Cause, Ended, UpdateKind};
 use zk_transcript::TranscriptLine;
 use zx_base::Memory;
@@ -23,7 +24,11 @@ pub fn push_line(out: &mut Vec<u8>, line: &TranscriptLine) -> Result<(), Memory>
             proxy,
             id,
             passwd,
-        } => push_open(out, *connection, *proxy, *id, passwd),
+            layout,
+        } => {
+            let name = open_name(*layout);
+            push_open(out, name, *connection, *proxy, *id, passwd)
+        }
         TranscriptLine::Frame {
             connection,
             index,
@@ -46,20 +51,31 @@ pub fn push_line(out: &mut Vec<u8>, line: &TranscriptLine) -> Result<(), Memory>
     }
 }
 
+/// The first word of the line of a connection that opened, by the layout that it offers.
+fn open_name(layout: Layout) -> &'static [u8]
+    ensures { result.now ≡ open_word layout }
+{
+    match layout {
+        Layout::One => b"open1",
+        Layout::Two => b"open",
+    }
+}
+
 /// Adds the line of a connection that opened.
 fn push_open(
     out: &mut Vec<u8>,
+    name: &[u8],
     connection: u32,
     proxy: u32,
     id: i64,
     passwd: &[u8],
 ) -> Result<(), Memory>
-    ensures ok { OnOk result (out.new.items ≡ out.old.items ++ open_text connection proxy id passwd.now) }
+    ensures ok { OnOk result (out.new.items ≡ out.old.items ++ open_text name.now connection proxy id passwd.now) }
     ensures err { OnErr result (out.new.items ≡ out.old.items) }
 {
     push_words(
         out,
-        b"open",
+        name,
         &[
             Word::Number(u64::from(connection)),
             Word::Number(u64::from(proxy)),

@@ -4,7 +4,7 @@ use Rattle.std.proofs.lemmas.Result.{err_from_is_err_and}
 use Rattle.zk_service.specs.declared.update.UpdateKind.{UpdateKind}
 use Rattle.zk_service.specs.declared.update.UpdateKind.TheVariants.{Asked}
 use Rattle.zk_transcript.specs.declared.transcript.TranscriptLine.{TranscriptLine}
-use Rattle.zk_service.specs.States.{State, session_of}
+use Rattle.zk_service.specs.States.{State, attached_session}
 use Rattle.zk_transcript.specs.History.{request}
 use Rattle.zk_machine.specs.declared.fault.Fault.{Fault}
 use Rattle.zk_machine.specs.Faults.{BeyondUnless}
@@ -15,9 +15,9 @@ use Rattle.zk_history.proofs.lines.updated.Goals as goal
 
 -- the request of an update fits where the update does
 asked_beyond : (before : List TranscriptLine) (s : State) (zxid : ℤ) (kind : UpdateKind) (c i now : ℕ) (e : Fault) → kind ≡ Asked c i now →
-    BeyondUnless (IsCountable s × IsTime now × AskedFits s.tree (session_of c s) (request c i before) zxid now) e → BeyondUnless (IsCountable s × UpdateFits before s zxid kind) e
+    BeyondUnless (IsCountable s × IsTime now × AskedFits s.tree (attached_session c s) (request c i before) zxid now) e → BeyondUnless (IsCountable s × UpdateFits before s zxid kind) e
 asked_beyond before s zxid kind c i now e is beyond =
-    rw is (beyond-weaker (IsCountable s × IsTime now × AskedFits s.tree (session_of c s) (request c i before) zxid now) (IsCountable s × UpdateFits before s zxid (Asked c i now)) e
+    rw is (beyond-weaker (IsCountable s × IsTime now × AskedFits s.tree (attached_session c s) (request c i before) zxid now) (IsCountable s × UpdateFits before s zxid (Asked c i now)) e
     (λ fits. (fits.0, fits.1.0, fits.1.1)) beyond)
 
 pub returns-in_err-asked-in-Asked-clause-beyond : goal.returns-in_err-asked-in-Asked-clause-beyond

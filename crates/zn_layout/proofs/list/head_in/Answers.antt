@@ -4,19 +4,19 @@ use Rattle.zk_model.specs.declared.node.Trigger.{Trigger}
 use Rattle.zn_layout.specs.Reading.{head_bytes, IsHeadWithin}
 use Rattle.zn_layout.specs.Records.{trigger_bytes}
 use Rattle.zn_layout.specs.ReadingSteps.{IsValidTrigger, TakesItems}
-use Rattle.zn_layout.proofs.ListRecords.{triggers_of, heads, not_one, uncounted, untaken, trailing, head-read}
+use Rattle.zn_layout.proofs.ListRecords.{triggers_of, one, heads, other_first, uncounted, untaken, trailing, head-read}
 use Rattle.zn_layout.proofs.list.head_in.Goals as goal
 
 pub returns-in_default : goal.returns-in_default
-returns-in_default c = not_one triggers_of head_bytes IsHeadWithin trigger_bytes IsValidTrigger heads c.args.value.now c.in_default.ensures
+returns-in_default c = other_first one triggers_of head_bytes IsHeadWithin trigger_bytes IsValidTrigger heads c.args.value.now (λ r. c.in_default.ensures)
 
 pub returns-in_default-split_count : goal.returns-in_default-split_count
-returns-in_default-split_count c = uncounted triggers_of head_bytes IsHeadWithin trigger_bytes IsValidTrigger heads c.args.value.now c.in-Some.numbers.now c.in-Some.ensures c.in_default-split_count.ensures
+returns-in_default-split_count c = uncounted one triggers_of head_bytes IsHeadWithin trigger_bytes IsValidTrigger heads 1 c.args.value.now c.in-Some.numbers.now c.in-Some.ensures c.in_default-split_count.ensures
 
 pub returns-in_default-2 : goal.returns-in_default-2
 returns-in_default-2 c =
     let counted = c.in-Some-split_count in
-    untaken triggers_of head_bytes IsHeadWithin trigger_bytes IsValidTrigger heads c.args.value.now c.in-Some.numbers.now counted.rest.now c.triggers.new.self counted.count c.in-Some.ensures counted.ensures
+    untaken one triggers_of head_bytes IsHeadWithin trigger_bytes IsValidTrigger heads 1 c.args.value.now c.in-Some.numbers.now counted.rest.now c.triggers.new.self counted.count c.in-Some.ensures counted.ensures
     (subst (λ (o : Option (List Trigger)). TakesItems trigger_bytes IsValidTrigger counted.count counted.rest.now c.triggers.new.self o) c.in_default-2.is c.in_ok-triggers.ensures)
 
 pub returns-then-is_done : goal.returns-then-is_done
@@ -29,6 +29,6 @@ returns-then-is_done c =
 pub returns-else-is_done : goal.returns-else-is_done
 returns-else-is_done c =
     let counted = c.in-Some-split_count in
-    trailing triggers_of head_bytes IsHeadWithin trigger_bytes IsValidTrigger heads c.args.value.now c.in-Some.numbers.now counted.rest.now c.triggers.new.self counted.count c.in-Some-2.triggers c.in-Some.ensures counted.ensures
+    trailing one triggers_of head_bytes IsHeadWithin trigger_bytes IsValidTrigger heads 1 c.args.value.now c.in-Some.numbers.now counted.rest.now c.triggers.new.self counted.count c.in-Some-2.triggers c.in-Some.ensures counted.ensures
     (subst (λ (o : Option (List Trigger)). TakesItems trigger_bytes IsValidTrigger counted.count counted.rest.now c.triggers.new.self o) c.in-Some-2.is c.in_ok-triggers.ensures)
     (λ e. false≢true (c.if-is_done.ensures.1 e))

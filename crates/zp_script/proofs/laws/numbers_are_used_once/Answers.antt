@@ -13,7 +13,7 @@ not-found (Some x) p = absurd (some_none p)
 
 pub returns-clause-open : goal.returns-clause-open
 unfolding fault
-returns-clause-open c = λ w n p id passwd possible. not-found (conn_at n w) possible
+returns-clause-open c = λ w n p id passwd layout possible. not-found (conn_at n w) possible
 
 pub returns-clause-reap : goal.returns-clause-reap
 unfolding fault

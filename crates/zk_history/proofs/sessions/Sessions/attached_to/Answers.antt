@@ -7,17 +7,14 @@ use Rattle.zk_history.specs.Attachments.{AreAttached}
 use Rattle.zk_history.proofs.AttachmentLaws.{attached-first, attached-none}
 use Rattle.zk_history.proofs.sessions.Sessions.attached_to.Goals as goal
 
-abbrev shown : Option (ℤ × Session) → Option (ℤ × Bool)
-shown o = option_map (λ (e : ℤ × Session). (e.0, e.1.lapsed)) o
-
 pub returns-in_err-id : goal.returns-in_err-id
 returns-in_err-id c =
     let stand : AreAttached c.args.self.now c.self.inside.attachments = subst (λ (m : Sessions). AreAttached m c.self.inside.attachments) c.self.view_is c.self.invariant in
-    c.from_residual.ensures ∙ sym (ap shown (attached-none c.args.self.now c.self.inside.attachments c.args.connection stand c.in_err-id.ensures))
+    ap (option_map _) c.from_residual.ensures ∙ sym (attached-none c.args.self.now c.self.inside.attachments c.args.connection stand c.in_err-id.ensures)
 
 pub returns : goal.returns
 returns c =
     let stand : AreAttached c.args.self.now c.self.inside.attachments = subst (λ (m : Sessions). AreAttached m c.self.inside.attachments) c.self.view_is c.self.invariant in
     let back : to_z w64 (of_z w64 c.in_ok-id.id) ≡ c.in_ok-id.id = to_z-of_z w64 c.in_ok-id.id (search rules) in
-    let first : Some (to_z w64 (of_z w64 c.in_ok-id.id), c.is_lapsed.result) ≡ Some (c.in_ok-id.id, c.in_ok-session.session.now.lapsed) = λ i. Some (back i, c.is_lapsed.ensures i) in
-    first ∙ sym (ap shown (attached-first c.args.self.now c.self.inside.attachments c.args.connection c.in_ok-id.id c.in_ok-session.session.now stand c.in_ok-id.ensures (ap (get c.args.self.now) (sym back) ∙ sym c.in_ok-session.ensures)))
+    let first : Some (to_z w64 (of_z w64 c.in_ok-id.id), c.in_ok-session.session.now) ≡ Some (c.in_ok-id.id, c.in_ok-session.session.now) = λ i. Some (back i, c.in_ok-session.session.now) in
+    first ∙ sym (attached-first c.args.self.now c.self.inside.attachments c.args.connection c.in_ok-id.id c.in_ok-session.session.now stand c.in_ok-id.ensures (ap (get c.args.self.now) (sym back) ∙ sym c.in_ok-session.ensures))
