@@ -1,6 +1,5 @@
 -- Which keys stand in the range of a node's children.
 use Rattle.std.proofs.Common.{◌≡◌, ◌≢◌, ℕ, suc, ◌+◌, ◌/◌, ◌%◌, ◌<◌, ◌≤◌, length, Bool, true, false, cond, not, ◌&&◌, [], ◌∷◌, ◌++◌, Option, Some, None, refl, sym, ap, ◌∙◌, subst, arith, eqb, eq-eqb, eqb-true, ◌⊎◌, ⊎_elim, inl, inr, append_assoc, append-nil}
-use Rattle.std.specs.Prelude.{codes}
 use Rattle.std.specs.Ordering.{nat_cmp, is_lt, ordering_then}
 use Rattle.std.specs.declared.cmp.Ordering.{Ordering}
 use Rattle.std.specs.declared.cmp.Ordering.TheVariants.{Equal, Greater}
@@ -16,7 +15,7 @@ use Rattle.zk_model.specs.Znodes.{Tree}
 use Rattle.zk_model.proofs.Paths.{IsNamed, named-from_parent, depth_child, depth-other, slashes-append, slashes-stem, stem-root, stem-other}
 use Rattle.zk_model.proofs.PathScans.{at_last_slash-append}
 use Rattle.zk_service.proofs.Children.{AreParented}
-use Rattle.zn_layout.specs.Keys.{HeadKey, DataKey, CountsKey, SessionKey, LeaseKey, four_digits, node_key, session_key, key_bytes}
+use Rattle.zn_layout.specs.Keys.{CountsKey, DataKey, HeadKey, LeaseKey, SessionKey, counts_front, data_front, four_digits, head_name, key_bytes, lease_front, node_key, session_front, session_key}
 use Rattle.zn_layout.specs.Listing.{base, child_front, children_from, children_end}
 use Rattle.zx_base.proofs.Booleans.{and-both, and-first, and-second}
 
@@ -110,7 +109,7 @@ small_same m n e a b = omega arith
 is_within-data : (p q : Bytes) → depth q < 10000 → depth p + 1 < 10000 → is_within (children_from p) (children_end p) (key_bytes (DataKey q)) ≡ true → (depth q ≡ depth p + 1) × ((rest : Bytes) × (q ≡ stem p ++ rest))
 unfolding key_bytes
 is_within-data p q low high h =
-    let parts = five _ _ _ _ _ (sym (is_within-front p (node_key (codes "zk/d/") q)) ∙ h) in
+    let parts = five _ _ _ _ _ (sym (is_within-front p (node_key data_front q)) ∙ h) in
     let r = begins-rest (base p ++ 47 ∷ []) q parts.4 in (
       small_same (depth q) (depth p + 1)
           (digits-injective (depth q) (depth p + 1)
@@ -121,24 +120,24 @@ is_within-data p q low high h =
 
 pub is_within-counts : (p q : Bytes) → is_within (children_from p) (children_end p) (key_bytes (CountsKey q)) ≡ false
 unfolding key_bytes
-is_within-counts p q = is_within-front p (node_key (codes "zk/c/") q)
+is_within-counts p q = is_within-front p (node_key counts_front q)
 
 pub is_within-head : (p : Bytes) → is_within (children_from p) (children_end p) (key_bytes HeadKey) ≡ false
 unfolding key_bytes
-is_within-head p = is_within-front p (codes "zk/head")
+is_within-head p = is_within-front p head_name
 
 pub is_within-session : (p : Bytes) (id : ℕ) → is_within (children_from p) (children_end p) (key_bytes (SessionKey id)) ≡ false
 unfolding key_bytes
-is_within-session p id = is_within-front p (session_key (codes "zk/s/") id)
+is_within-session p id = is_within-front p (session_key session_front id)
 
 pub is_within-lease : (p : Bytes) (id : ℕ) → is_within (children_from p) (children_end p) (key_bytes (LeaseKey id)) ≡ false
 unfolding key_bytes
-is_within-lease p id = is_within-front p (session_key (codes "zk/l/") id)
+is_within-lease p id = is_within-front p (session_key lease_front id)
 
 -- the data key of a child is the front, and the child's path
 pub child-key : (p q : Bytes) → parent q ≡ Some p → key_bytes (DataKey q) ≡ child_front p ++ q
 unfolding key_bytes
-child-key p q h = ap (λ (n : ℕ). codes "zk/d/" ++ four_digits n ++ q) (depth_child q p h)
+child-key p q h = ap (λ (n : ℕ). data_front ++ four_digits n ++ q) (depth_child q p h)
 
 -- the data key of a child is in the range
 pub is_within-child : (p q : Bytes) → parent q ≡ Some p → is_within (children_from p) (children_end p) (key_bytes (DataKey q)) ≡ true

@@ -35,16 +35,32 @@ hex_digits (suc k) n rest = hex_digits k (n / 16) (hex_digit (n % 16) ∷ rest)
 abbrev pub session_key : Bytes → ℕ → Bytes
 session_key kind n = kind ++ hex_digits 15 n []
 
-unfoldable pub key_bytes : Key → Bytes
-key_bytes HeadKey = codes "zk/head"
-key_bytes (DataKey p) = node_key (codes "zk/d/") p
-key_bytes (CountsKey p) = node_key (codes "zk/c/") p
-key_bytes (SessionKey n) = session_key (codes "zk/s/") n
-key_bytes (LeaseKey n) = session_key (codes "zk/l/") n
-
 -- what all keys of the service begin with
 abbrev pub front : Bytes
 front = codes "zk/"
+
+-- the head's key, and what the keys of each other kind begin with
+abbrev pub head_name : Bytes
+head_name = codes "zk/head"
+
+abbrev pub data_front : Bytes
+data_front = codes "zk/d/"
+
+abbrev pub counts_front : Bytes
+counts_front = codes "zk/c/"
+
+abbrev pub session_front : Bytes
+session_front = codes "zk/s/"
+
+abbrev pub lease_front : Bytes
+lease_front = codes "zk/l/"
+
+unfoldable pub key_bytes : Key → Bytes
+key_bytes HeadKey = head_name
+key_bytes (DataKey p) = node_key data_front p
+key_bytes (CountsKey p) = node_key counts_front p
+key_bytes (SessionKey n) = session_key session_front n
+key_bytes (LeaseKey n) = session_key lease_front n
 
 abbrev pub same_key : Key → Key → Bool
 same_key HeadKey HeadKey = true

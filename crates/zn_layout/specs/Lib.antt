@@ -1,5 +1,6 @@
 pub mod Keys
 pub mod Records
+pub mod Counts
 pub mod StandsFor
 pub mod Changes
 pub mod Updates

@@ -8,6 +8,24 @@ ghost use Rattle.zk_model.specs.Limits.{max_path};
 use std::alloc::Global;
 use zx_base::{Bytes, Memory};
 
+/// What all keys of the service begin with.
+pub const FRONT: &[u8; 3] = b"zk/";
+
+/// The key of the last update.
+pub const HEAD_NAME: &[u8; 7] = b"zk/head";
+
+/// What the keys of nodes' data begin with.
+pub const DATA_FRONT: &[u8; 5] = b"zk/d/";
+
+/// What the keys of the counts of nodes' children begin with.
+pub const COUNTS_FRONT: &[u8; 5] = b"zk/c/";
+
+/// What the keys of sessions' nodes begin with.
+pub const SESSION_FRONT: &[u8; 5] = b"zk/s/";
+
+/// What the keys of sessions' lives begin with.
+pub const LEASE_FRONT: &[u8; 5] = b"zk/l/";
+
 const SLASH: u8 = b'/';
 
 const ROOT: &[u8] = b"/";
@@ -17,7 +35,7 @@ const ROOT: &[u8] = b"/";
 pub fn head_key(alloc: Global) -> Result<Bytes, Memory>
     ensures { IfOk result (λ k. k ≡ key_bytes HeadKey) }
 {
-    Bytes::copy_of(alloc, b"zk/head".as_slice())
+    Bytes::copy_of(alloc, HEAD_NAME.as_slice())
 }
 
 /// The key of a node's data: `zk/d/`, the path's depth as four digits, the path. The path has at most 1,024 bytes.
@@ -26,7 +44,7 @@ pub fn data_key(alloc: Global, path: &[u8]) -> Result<Bytes, Memory>
     requires { length path.now ≤ max_path }
     ensures { IfOk result (λ k. k ≡ key_bytes (DataKey path.now)) }
 {
-    node_key(alloc, b"zk/d/", path)
+    node_key(alloc, DATA_FRONT, path)
 }
 
 /// The key of the counts of a node's children: `zk/c/`, the path's depth as four digits, the path. The path has at most
@@ -36,7 +54,7 @@ pub fn counts_key(alloc: Global, path: &[u8]) -> Result<Bytes, Memory>
     requires { length path.now ≤ max_path }
     ensures { IfOk result (λ k. k ≡ key_bytes (CountsKey path.now)) }
 {
-    node_key(alloc, b"zk/c/", path)
+    node_key(alloc, COUNTS_FRONT, path)
 }
 
 /// The key of the nodes of a session: `zk/s/` and its number, at least 1, as 16 hex digits.
@@ -45,7 +63,7 @@ pub fn session_key(alloc: Global, id: i64) -> Result<Bytes, Memory>
     requires { pos 1 ≤ℤ id }
     ensures { IfOk result (λ k. k ≡ key_bytes (SessionKey (nat_abs id))) }
 {
-    numbered_key(alloc, b"zk/s/", id.unsigned_abs())
+    numbered_key(alloc, SESSION_FRONT, id.unsigned_abs())
 }
 
 /// The key of the life of a session: `zk/l/` and its number, at least 1, as 16 hex digits.
@@ -54,7 +72,7 @@ pub fn lease_key(alloc: Global, id: i64) -> Result<Bytes, Memory>
     requires { pos 1 ≤ℤ id }
     ensures { IfOk result (λ k. k ≡ key_bytes (LeaseKey (nat_abs id))) }
 {
-    numbered_key(alloc, b"zk/l/", id.unsigned_abs())
+    numbered_key(alloc, LEASE_FRONT, id.unsigned_abs())
 }
 
 fn node_key(alloc: Global, kind: &[u8; 5], path: &[u8]) -> Result<Bytes, Memory>

@@ -18,12 +18,14 @@
 
 mod act;
 mod begin;
+mod counts;
 mod entry;
 mod fault;
 mod key;
 mod laws;
 mod layout;
 mod list;
+mod node;
 mod read;
 mod record;
 mod test;
@@ -32,9 +34,13 @@ mod writer;
 
 pub use act::{delete_counts, delete_node, get_head, get_key, put, put_counts, put_head, put_node};
 pub use begin::begin_ask;
+pub use counts::{cversion, fewer, one_more};
 pub use entry::Entry;
 pub use fault::RecordFault;
-pub use key::{counts_key, data_key, head_key, lease_key, session_key};
+pub use key::{
+    COUNTS_FRONT, DATA_FRONT, FRONT, HEAD_NAME, LEASE_FRONT, SESSION_FRONT, counts_key, data_key,
+    head_key, lease_key, session_key,
+};
 pub use laws::{
     begin_again_changes_nothing, begin_stands, children_listed, counts_value_is_injective,
     fits_append, fits_same, foreign_stands, guards_tell_what_was_seen, head_value_is_injective,
@@ -44,6 +50,7 @@ pub use laws::{
 };
 pub use layout::has_counts;
 pub use list::{head_in, is_before, read_head, read_session, session_in, valid_path};
+pub use node::czxid;
 pub use read::{counts_in, lease_in, read_counts, read_lease, read_node};
 pub use record::{CountRec, FIRST_COUNTS, HeadRec, LeaseRec, NodeRec, SessionRec};
 pub use test::{

@@ -13,7 +13,7 @@ pub(crate) struct Creator {
 }
 
 /// The owner of the new node: 0 where it is not ephemeral.
-pub(crate) fn owner_of(by: &Creator) -> i64
+pub(crate) fn creator_id(by: &Creator) -> i64
     ensures { result ≡ owner_of by.now.ephemeral by.now.session }
 {
     if by.ephemeral { by.session } else { 0 }

@@ -5,22 +5,23 @@ ghost use Rattle.std.specs.Prelude.{◌≡◌, ◌&&◌, not, if◌then◌else�
 ghost use Rattle.std.specs.Ordering.{int_eq};
 ghost use Rattle.zk_model.specs.Limits.{max_parts, max_path, max_version};
 ghost use Rattle.zk_model.specs.Paths.{is_path, parent as parent_of};
+ghost use Rattle.zn_layout.specs.Counts.{one_less, one_more as one_more_of};
 ghost use Rattle.zn_layout.specs.Keys.{DataKey, CountsKey, SessionKey, key_bytes};
 ghost use Rattle.zk_model.specs.Single.{matches as matches_version};
 ghost use Rattle.zn_layout.specs.Records.{IsCountRec};
 ghost use Rattle.zn_view.specs.declared.leaving.NodeNow.{NodeNow as AnyNode};
 ghost use Rattle.zn_view.specs.declared.leaving.TreeChange.TheVariants as changed;
 ghost use Rattle.zn_multi.specs.Reading.{AreSmall, IfLeft};
-ghost use Rattle.zn_view.specs.Leaving.{counted as counted_as, set_once as set_once_more, one_child_more as one_more, one_child_less as one_less, node_with as node_with_change, counts_with as counts_with_change, room_with as room_with_change, node_after as node_after_all, counts_after as counts_after_all, room_after as room_after_all, with_change as with_one_change, create_change as change_of_create, delete_change as change_of_delete, set_change as change_of_set, is_checked as is_checked_in, is_owner_seen as is_owner_seen_in, are_seen as are_seen_in, IsNodeShown, AreCountsShown, IsRoomShown, IsNodeNow, AreCountsNow, IsRoomNow, IsRoomFor, NodeLeaves, DeleteLeaves, SetLeaves, CheckLeaves};
+ghost use Rattle.zn_view.specs.Leaving.{counted as counted_as, set_once as set_once_more, node_with as node_with_change, counts_with as counts_with_change, room_with as room_with_change, node_after as node_after_all, counts_after as counts_after_all, room_after as room_after_all, with_change as with_one_change, create_change as change_of_create, delete_change as change_of_delete, set_change as change_of_set, is_checked as is_checked_in, is_owner_seen as is_owner_seen_in, are_seen as are_seen_in, IsNodeShown, AreCountsShown, IsRoomShown, IsNodeNow, AreCountsNow, IsRoomNow, IsRoomFor, NodeLeaves, DeleteLeaves, SetLeaves, CheckLeaves};
 ghost use Rattle.zn_view.specs.Lookups.{HasSeen, sees};
 ghost use Rattle.zn_view.specs.Seen.{seen};
 ghost use Rattle.zn_view.specs.Views.{counts_of_parent};
 
-use crate::creator::{Creator, owner_of};
+use crate::creator::{Creator, creator_id};
 use std::alloc::Global;
 use zk_model::Path;
 use zk_model::limit::MAX_CREATES;
-use zn_layout::{CountRec, FIRST_COUNTS, counts_key, data_key, session_key};
+use zn_layout::{CountRec, FIRST_COUNTS, counts_key, data_key, fewer, one_more, session_key};
 use zn_view::{NodeNow, TreeChange, View};
 use zx_base::{Memory, Seq};
 
@@ -100,13 +101,10 @@ fn node_after(
 /// Counts with one child more.
 fn one_child_more(counts: Option<Option<CountRec>>) -> Option<Option<CountRec>>
     requires { IfSome counts (λ o. IfSome o AreSmall) }
-    ensures { result ≡ option_map (option_map one_more) counts }
+    ensures { result ≡ option_map (option_map one_more_of) counts }
 {
     match counts {
-        Some(Some(counts)) => Some(Some(CountRec {
-            creates: counts.creates + 1,
-            children: counts.children + 1,
-        })),
+        Some(Some(counts)) => Some(Some(one_more(&counts))),
         Some(None) => Some(None),
         None => None,
     }
@@ -118,10 +116,7 @@ fn one_child_less(counts: Option<Option<CountRec>>) -> Option<Option<CountRec>>
     ensures { result ≡ option_map (option_map one_less) counts }
 {
     match counts {
-        Some(Some(counts)) => Some(Some(CountRec {
-            creates: counts.creates,
-            children: (counts.children as u32).saturating_sub(1) as i32,
-        })),
+        Some(Some(counts)) => Some(Some(fewer(&counts, 1))),
         Some(None) => Some(None),
         None => None,
     }
@@ -139,10 +134,7 @@ fn counts_with(
     match change {
         TreeChange::Created { path: other, .. } => {
             if other.bytes() == path.bytes() {
-                return Some(Some(CountRec {
-                    creates: 0,
-                    children: 0,
-                }));
+                return Some(Some(FIRST_COUNTS));
             }
             if !other.is_child_of(path.bytes()) {
                 return counts;
@@ -417,7 +409,7 @@ pub(crate) fn create_leaves(
     };
     let there = node_now(alloc, view, changes.as_slice(), &node)?;
     let room = room_for(alloc, view, changes.as_slice(), by)?;
-    let owner = owner_of(by);
+    let owner = creator_id(by);
     with_change(changes, create_change(node, owner, up, counts, there, room))
 }
 

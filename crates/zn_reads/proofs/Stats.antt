@@ -1,6 +1,6 @@
 -- What two records show is the stat of the node that they mean.
 use Rattle.std.proofs.Common.{◌≡◌, ℕ, ℤ, pos, ◌≤◌, ◌∷◌, drop, arith, refl, sym, ap, ◌∙◌}
-use Rattle.std.specs.Prelude.{length, ◌*ℤ◌, ◌-ℤ◌}
+use Rattle.std.specs.Prelude.{length, nat_abs}
 use Rattle.ev_types.specs.declared.answer.Kv.{Kv}
 use Rattle.zk_model.specs.declared.node.Node.{Node}
 use Rattle.zk_model.specs.declared.node.Stat.{Stat}
@@ -24,7 +24,7 @@ by_records d data_revision c counts_revision = record {
   ctime = d.ctime;
   mtime = d.mtime;
   version = d.version;
-  cversion = (pos 2 *ℤ c.creates) -ℤ c.children;
+  cversion = cversion c.creates (nat_abs c.children);
   aversion = pos 0;
   ephemeral_owner = d.owner;
   data_length = pos (length d.content);

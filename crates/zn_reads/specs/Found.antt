@@ -1,9 +1,9 @@
 -- What was found under a key, and what two records show of a node.
-use Rattle.std.specs.Prelude.{◌≡◌, ℕ, ℤ, pos, ◌*ℤ◌, ◌-ℤ◌, List, [], ◌∷◌, Option, Some, None, option_map}
+use Rattle.std.specs.Prelude.{◌≡◌, ℕ, ℤ, pos, nat_abs, List, [], ◌∷◌, Option, Some, None, option_map}
 use Rattle.std.specs.FinMap.{get}
 use Rattle.zk_model.specs.declared.node.Node.{Node}
 use Rattle.zk_model.specs.declared.node.Stat.{Stat}
-use Rattle.zk_model.specs.Znodes.{stat_of, child_names}
+use Rattle.zk_model.specs.Znodes.{stat_of, child_names, cversion}
 use Rattle.zk_service.specs.States.{State, IsSound}
 use Rattle.zx_base.specs.Maps.{Bytes}
 use Rattle.zn_layout.specs.declared.test.NodeNumbers.{NodeNumbers}
@@ -31,7 +31,7 @@ stat_by d content_length data_revision c counts_revision = record {
   ctime = d.ctime;
   mtime = d.mtime;
   version = d.version;
-  cversion = (pos 2 *ℤ c.creates) -ℤ c.children;
+  cversion = cversion c.creates (nat_abs c.children);
   aversion = pos 0;
   ephemeral_owner = d.owner;
   data_length = pos content_length;

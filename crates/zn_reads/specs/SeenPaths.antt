@@ -60,8 +60,8 @@ abbrev pub place_at : WatchList → Bytes → Option Place
 place_at list p = if is_path p then Some (key_bytes (DataKey p), counts_at list p) else None
 
 abbrev pub at_place : View → Place → Option ℤ
-at_place v (data, None) = put_at (found_of (seen v data))
-at_place v (data, Some counts) = children_changed (found_of (seen v data)) (found_of (seen v counts))
+at_place v (own, None) = put_at (found_of (seen v own))
+at_place v (own, Some counts) = children_changed (found_of (seen v own)) (found_of (seen v counts))
 
 abbrev pub at_by : View → Option Place → Option ℤ
 at_by v o = option_and_then (at_place v) o

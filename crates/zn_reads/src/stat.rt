@@ -1,12 +1,12 @@
 //! What the records of a node show.
 
-ghost use Rattle.std.specs.Prelude.{IsTrue, ◌≡◌, ◌≤◌, ℕ, pos, ◌*ℤ◌, ◌-ℤ◌, IfOk, Option, option_copied, option_map};
+ghost use Rattle.std.specs.Prelude.{IsTrue, ◌≡◌, ◌≤◌, ℕ, pos, IfOk, Option, option_copied, option_map};
 ghost use Rattle.zk_model.specs.Paths.{is_path};
 ghost use Rattle.zk_model.specs.Limits.{max_frame};
 ghost use Rattle.zk_model.specs.Znodes.{stat};
 ghost use Rattle.zk_model.specs.declared.node.Node.{Node as Znode};
 ghost use Rattle.zn_layout.specs.Records.{IsCountRec};
-ghost use Rattle.zn_layout.specs.StandsFor.{czxid_of, stored_of, DataMeans, CountsMean};
+ghost use Rattle.zn_layout.specs.StandsFor.{stored_of, DataMeans, CountsMean};
 ghost use Rattle.zn_reads.specs.Found.{stat_by, AreCountsBy, AreNoCounts, IsStatAt, IsContentAt, IsVersionAt};
 
 use crate::found::found;
@@ -15,26 +15,11 @@ use ev_types::Kv;
 use std::alloc::Global;
 use zk_model::{Path, Stat};
 use zn_layout::{
-    CountRec, FIRST_COUNTS, NodeNumbers, RecordFault, counts_in, node_content, node_numbers,
-    read_node,
+    CountRec, FIRST_COUNTS, NodeNumbers, RecordFault, counts_in, cversion, czxid, node_content,
+    node_numbers, read_node,
 };
 use zn_view::View;
 use zx_base::{Bytes, Memory};
-
-/// A stored czxid of 0 stands for the revision of the record.
-fn czxid(stored: i64, revision: i64) -> i64
-    ensures { result ≡ czxid_of stored revision }
-{
-    if stored == 0 { revision } else { stored }
-}
-
-/// How often the children changed: each create and each delete of a child counts.
-fn cversion(counts: CountRec) -> i32
-    requires { IsCountRec counts }
-    ensures { result ≡ (pos 2 *ℤ counts.creates) -ℤ counts.children }
-{
-    2 * counts.creates - counts.children
-}
 
 fn data_length(length: usize) -> i32
     requires { length ≤ max_frame }
@@ -61,7 +46,7 @@ fn stat_by(
         ctime: numbers.ctime,
         mtime: numbers.mtime,
         version: numbers.version,
-        cversion: cversion(counts),
+        cversion: cversion(&counts),
         aversion: 0,
         ephemeral_owner: numbers.owner,
         data_length: data_length(content_length),

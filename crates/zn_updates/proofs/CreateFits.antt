@@ -23,7 +23,8 @@ use Rattle.zn_layout.specs.Keys.{Key, HeadKey, DataKey, CountsKey, SessionKey, L
 use Rattle.zn_layout.specs.Records.{node_value, counts_value, session_value, IsLongCount, IsNodeRec, IsCountRec, IsSessionRec}
 use Rattle.zn_layout.specs.StandsFor.{counts_record, IsData, IsCounts, NodesMean}
 use Rattle.zn_updates.specs.declared.seen.SeenCounts.{SeenCounts}
-use Rattle.zn_updates.specs.Choices.{one_more, create_changes, put_owned}
+use Rattle.zn_layout.specs.Counts.{one_more}
+use Rattle.zn_updates.specs.Choices.{create_changes, put_owned}
 use Rattle.zn_updates.specs.OwnedLists.{placed}
 use Rattle.zn_updates.specs.Right.{with_tree}
 use Rattle.zn_updates.specs.Seen.{IsSeenCounts, IsSeenPaths}

@@ -19,7 +19,8 @@ use Rattle.zn_layout.specs.Keys.{Key, HeadKey, DataKey, CountsKey, SessionKey, L
 use Rattle.zn_layout.specs.Records.{counts_value, session_value, IsCountRec, IsSessionRec}
 use Rattle.zn_layout.specs.StandsFor.{counts_record, IsCounts, NodesMean}
 use Rattle.zn_updates.specs.declared.seen.SeenCounts.{SeenCounts}
-use Rattle.zn_updates.specs.Choices.{one_less, delete_changes, put_owned}
+use Rattle.zn_layout.specs.Counts.{one_less}
+use Rattle.zn_updates.specs.Choices.{delete_changes, put_owned}
 use Rattle.zn_updates.specs.OwnedLists.{without}
 use Rattle.zn_updates.specs.Right.{with_tree}
 use Rattle.zn_updates.specs.Seen.{IsSeenCounts, IsSeenPaths}

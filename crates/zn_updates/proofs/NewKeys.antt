@@ -19,7 +19,8 @@ use Rattle.zn_view.proofs.Members.{In}
 use Rattle.zn_view.proofs.NewKeys.{IsAccounted}
 use Rattle.zn_updates.specs.declared.seen.SeenCounts.{SeenCounts}
 use Rattle.zn_updates.specs.declared.seen.SeenData.{SeenData}
-use Rattle.zn_updates.specs.Choices.{Choice, create_changes, create_choice, create_owned, delete_changes, delete_choice, delete_here, delete_owned, one_less, one_more, put_owned, set_data_choice}
+use Rattle.zn_layout.specs.Counts.{one_less, one_more}
+use Rattle.zn_updates.specs.Choices.{Choice, create_changes, create_choice, create_owned, delete_changes, delete_choice, delete_here, delete_owned, put_owned, set_data_choice}
 use Rattle.zn_updates.specs.Deciding.{owner_seen}
 use Rattle.zn_updates.specs.KeysRead.{delete_keys, set_data_keys}
 use Rattle.zn_updates.specs.Making.{has_found}

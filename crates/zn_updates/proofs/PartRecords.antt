@@ -19,7 +19,8 @@ use Rattle.zn_view.specs.Seen.{IsOfKind}
 use Rattle.zn_view.proofs.KeyKinds.{kind_of-key, kind_of_key}
 use Rattle.zn_updates.specs.declared.seen.SeenData.{SeenData}
 use Rattle.zn_updates.specs.declared.seen.SeenCounts.{SeenCounts}
-use Rattle.zn_updates.specs.Choices.{create_changes, create_choice, create_owned, create_triggers, delete_changes, delete_choice, delete_here, delete_owned, delete_triggers, one_less, one_more, put_owned, set_data_choice, set_record}
+use Rattle.zn_layout.specs.Counts.{one_less, one_more}
+use Rattle.zn_updates.specs.Choices.{create_changes, create_choice, create_owned, create_triggers, delete_changes, delete_choice, delete_here, delete_owned, delete_triggers, put_owned, set_data_choice, set_record}
 use Rattle.zn_updates.specs.OwnedLists.{placed, without}
 use Rattle.zn_updates.specs.Parts.{check_choice, AreCountsWithin, AreKept, IfChanges, IsKeptChange}
 use Rattle.zn_updates.specs.Seen.{IsDataWithin}

@@ -23,7 +23,8 @@ use Rattle.zn_view.proofs.Members.{In, in_contains}
 use Rattle.zn_view.proofs.Sizes.{counts-size, counts_value-size, data-size, node_value-size, session-size}
 use Rattle.zn_updates.specs.declared.seen.SeenData.{SeenData}
 use Rattle.zn_updates.specs.declared.seen.SeenCounts.{SeenCounts}
-use Rattle.zn_updates.specs.Choices.{create_changes, create_choice, create_owned, delete_changes, delete_choice, delete_here, delete_owned, one_less, one_more, put_owned, set_data_choice, set_record}
+use Rattle.zn_layout.specs.Counts.{one_less, one_more}
+use Rattle.zn_updates.specs.Choices.{create_changes, create_choice, create_owned, delete_changes, delete_choice, delete_here, delete_owned, put_owned, set_data_choice, set_record}
 use Rattle.zn_updates.specs.OwnedLists.{placed, without}
 use Rattle.zn_updates.specs.Parts.{check_choice, part_content, AreOwn, IfData, IfOwn, IsOwnChange, IsTouching}
 use Rattle.zn_updates.proofs.WellMade.{changes_cond}

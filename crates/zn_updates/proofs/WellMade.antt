@@ -25,7 +25,8 @@ use Rattle.zn_view.specs.Asks.{IsLeaseless}
 use Rattle.zn_view.proofs.Sizes.{counts-size, counts_value-size, data-size, node_value-size, session-size, session_value-size}
 use Rattle.zn_updates.specs.declared.seen.SeenData.{SeenData}
 use Rattle.zn_updates.specs.declared.seen.SeenCounts.{SeenCounts}
-use Rattle.zn_updates.specs.Choices.{Choice, create_changes, create_choice, create_owned, create_triggers, delete_changes, delete_choice, delete_here, delete_owned, delete_triggers, one_less, one_more, put_owned, set_data_choice, set_record}
+use Rattle.zn_layout.specs.Counts.{one_less, one_more}
+use Rattle.zn_updates.specs.Choices.{Choice, create_changes, create_choice, create_owned, create_triggers, delete_changes, delete_choice, delete_here, delete_owned, delete_triggers, put_owned, set_data_choice, set_record}
 use Rattle.zn_updates.specs.Making.{IsPathsSeen}
 use Rattle.zn_updates.specs.Parts.{IfChanges}
 use Rattle.zn_updates.specs.OwnedLists.{placed, without}

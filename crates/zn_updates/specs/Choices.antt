@@ -1,5 +1,5 @@
 -- What each request comes to, as a function of the records that were seen: a refusal, or the changes of an update.
-use Rattle.std.specs.Prelude.{ℕ, ℤ, pos, nat_abs, ◌+ℤ◌, ◌-◌, Bool, true, false, not, List, [], ◌∷◌, ◌++◌, length, nat_le, Option, Some, None, if◌then◌else◌}
+use Rattle.std.specs.Prelude.{ℕ, ℤ, pos, nat_abs, ◌+ℤ◌, Bool, true, false, not, List, [], ◌∷◌, ◌++◌, length, nat_le, Option, Some, None, if◌then◌else◌}
 use Rattle.std.specs.Ordering.{int_eq}
 use Rattle.zx_base.specs.Maps.{Bytes}
 use Rattle.zk_model.specs.declared.node.Stat.{Stat}
@@ -15,6 +15,7 @@ use Rattle.zn_layout.specs.declared.record.CountRec.{CountRec}
 use Rattle.zn_layout.specs.declared.record.NodeRec.{NodeRec}
 use Rattle.zn_layout.specs.declared.record.SessionRec.{SessionRec}
 use Rattle.zn_layout.specs.Begin.{new_record, first_counts}
+use Rattle.zn_layout.specs.Counts.{one_less, one_more}
 use Rattle.zn_layout.specs.Changes.{KeyChange, put_key, delete_key}
 use Rattle.zn_layout.specs.Keys.{DataKey, CountsKey, SessionKey}
 use Rattle.zn_layout.specs.Records.{has_counts, node_value, counts_value, session_value}
@@ -71,10 +72,6 @@ set_data_choice p content version now (Some x) (Some c) =
 
 -- ---- delete of p below q
 
--- the parent's counts after a delete
-abbrev pub one_less : CountRec → CountRec
-one_less c = record { creates = c.creates; children = pos (nat_abs c.children - 1) }
-
 -- deletes the record of a node's counts, where there is one
 abbrev pub delete_counts : Bytes → Bool → List KeyChange
 delete_counts p counted = if counted then delete_key (CountsKey p) ∷ [] else []
@@ -106,10 +103,6 @@ delete_choice p q version (Some x) (Some c) above nodes =
     else (if not (int_eq c.counts.children (pos 0)) then Refuse not_empty else delete_here p q x c.is_stored above nodes)
 
 -- ---- create of p below q
-
--- the parent's counts after a create
-abbrev pub one_more : CountRec → CountRec
-one_more c = record { creates = c.creates +ℤ pos 1; children = c.children +ℤ pos 1 }
 
 -- puts the record of a new node's counts, where it has one
 abbrev pub put_counts : Bytes → Bool → List KeyChange

@@ -9,7 +9,7 @@ ghost use Rattle.zk_model.specs.declared.reply.PartResult.TheVariants as results
 ghost use Rattle.zn_layout.specs.Begin.{new_record as record_of_new};
 ghost use Rattle.zn_layout.specs.Changes.{acts_of};
 ghost use Rattle.zn_layout.specs.Records.{IsCountRec, IsLongCount, IsNodeRec, IsSessionRec};
-ghost use Rattle.zn_updates.specs.Choices.{changes_with, with_content, create_choice, create_here as creates_here, create_owned as creates_owned, create_triggers as triggers_of_create, one_more as one_more_of};
+ghost use Rattle.zn_updates.specs.Choices.{changes_with, with_content, create_choice, create_here as creates_here, create_owned as creates_owned, create_triggers as triggers_of_create};
 ghost use Rattle.zn_updates.specs.Making.{IsMade, chosen_of};
 ghost use Rattle.std.specs.Prelude.{nat_abs, IsFalse};
 ghost use Rattle.zk_model.specs.Paths.{is_sequence_prefix};
@@ -37,22 +37,9 @@ use zk_model::code::{NO_CHILDREN_FOR_EPHEMERALS, NO_NODE, NODE_EXISTS, SYSTEM_ER
 use zk_model::flags::{is_ephemeral, is_sequential};
 use zk_model::limit::MAX_CREATES;
 use zk_model::{Acl, PartResult, Path, Trigger};
-use zn_layout::{CountRec, FIRST_COUNTS, NodeRec, SessionRec, has_counts, put_counts};
+use zn_layout::{CountRec, FIRST_COUNTS, NodeRec, SessionRec, has_counts, one_more, put_counts};
 use zn_view::{Decision, View, Want, Who, refused};
 use zx_base::{Memory, Seq};
-
-/// The parent's counts after the create.
-fn one_more(above: &CountRec) -> CountRec
-    requires within { IsCountRec above.now }
-    requires room { int_eq above.now.creates max_creates ≡ false }
-    ensures is { result ≡ one_more_of above.now }
-    ensures within { IsCountRec result }
-{
-    CountRec {
-        creates: above.creates + 1,
-        children: above.children + 1,
-    }
-}
 
 /// A new node's record but for its content. Its czxid is 0: that is the revision of the put.
 fn new_record(alloc: Global, now: u64, owner: i64) -> NodeRec

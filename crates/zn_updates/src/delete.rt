@@ -5,7 +5,7 @@ ghost use Rattle.zk_model.specs.Paths.{is_path};
 ghost use Rattle.zk_model.specs.declared.reply.PartResult.TheVariants as results;
 ghost use Rattle.zn_layout.specs.Changes.{acts_of};
 ghost use Rattle.zn_layout.specs.Records.{IsCountRec, IsSessionRec};
-ghost use Rattle.zn_updates.specs.Choices.{Make, delete_choice, delete_here as deletes_here, delete_owned as deletes_owned, delete_changes as changes_of_delete, delete_triggers as triggers_of_delete, one_less as one_less_of};
+ghost use Rattle.zn_updates.specs.Choices.{Make, delete_choice, delete_here as deletes_here, delete_owned as deletes_owned, delete_changes as changes_of_delete, delete_triggers as triggers_of_delete};
 ghost use Rattle.zn_updates.specs.Making.{chosen_of};
 ghost use Rattle.zn_updates.specs.Seen.{IsDataWithin};
 ghost use Rattle.std.specs.Prelude.{ℤ, Option, Some};
@@ -32,21 +32,9 @@ use std::alloc::Global;
 use zk_model::code::{BAD_ARGUMENTS, BAD_VERSION, NO_NODE, NOT_EMPTY, SYSTEM_ERROR};
 use zk_model::version::matches;
 use zk_model::{PartResult, Path, Trigger};
-use zn_layout::{CountRec, SessionRec, delete_counts, delete_node, put_counts};
+use zn_layout::{CountRec, SessionRec, delete_counts, delete_node, fewer, put_counts};
 use zn_view::{Decision, View, Want, Who, refused};
 use zx_base::{Memory, Seq};
-
-/// The parent's counts after the delete.
-fn one_less(above: &CountRec) -> CountRec
-    requires { IsCountRec above.now }
-    ensures is { result ≡ one_less_of above.now }
-    ensures within { IsCountRec result }
-{
-    CountRec {
-        creates: above.creates,
-        children: (above.children as u32).saturating_sub(1) as i32,
-    }
-}
 
 /// Deletes the node's record, that of its counts where it `has_counts`, and puts the parent's counts with one child less.
 fn delete_acts(
@@ -66,7 +54,7 @@ fn delete_acts(
     if has_counts {
         acts.push(delete_counts(alloc, path.bytes())?)?;
     }
-    acts.push(put_counts(alloc, parent.bytes(), &one_less(above))?)?;
+    acts.push(put_counts(alloc, parent.bytes(), &fewer(above, 1))?)?;
     Ok(acts)
 }
 
@@ -208,7 +196,7 @@ fn owner_nodes(view: &View, node: &Option<SeenData>) -> Result<Option<SessionRec
 }
 
 /// The owner of a node, 0 where it has none.
-fn owner_of(node: &Option<SeenData>) -> i64
+fn node_owner(node: &Option<SeenData>) -> i64
     requires { IfSome node.now IsDataWithin }
     ensures is { result ≡ owner_seen node.now }
     ensures least { pos 0 ≤ℤ result }
@@ -241,7 +229,7 @@ fn delete_at(
     let counts = counts_seen(view, path, node.as_ref())?;
     let above = counts_seen(view, parent, None)?;
     let nodes = owner_nodes(view, &node)?;
-    let keys = delete_keys(alloc, session, path, parent, owner_of(&node))?;
+    let keys = delete_keys(alloc, session, path, parent, node_owner(&node))?;
     let here = SeenNode { data: node, counts };
     let chosen = choose_delete(alloc, path, parent, version, &here, above.as_ref(), nodes)?;
     decision(alloc, view, keys.as_slice(), chosen)

@@ -13,7 +13,7 @@ ghost use Rattle.zn_updates.specs.Seen.{IsDataWithin};
 
 use std::alloc::Global;
 use zk_model::Path;
-use zn_layout::{CountRec, FIRST_COUNTS, SessionRec, data_key};
+use zn_layout::{CountRec, FIRST_COUNTS, SessionRec, czxid, data_key};
 use zn_view::View;
 use zx_base::Memory;
 
@@ -52,10 +52,7 @@ fn resolved(stored: i64, revision: i64) -> i64
     ensures is { pos 0 ≤ℤ revision → result ≡ czxid_of stored revision }
     ensures within { IsLongCount stored → IsLongCount result }
 {
-    if stored != 0 {
-        return stored;
-    }
-    if revision < 0 { 0 } else { revision }
+    czxid(stored, revision.max(0))
 }
 
 /// The node's record that the view saw: none where the node is not there. Its key was looked up.

@@ -4,12 +4,11 @@ ghost use Rattle.std.specs.Prelude.{◌^◌, ◌≡◌, ◌≤◌, ◌<◌, ◌+
 ghost use Rattle.std.specs.Ordering.{int_eq};
 ghost use Rattle.zk_model.specs.Limits.{max_frame, max_version};
 ghost use Rattle.zk_model.specs.Paths.{is_path};
-ghost use Rattle.zk_model.specs.Znodes.{cversion as cversion_of};
 ghost use Rattle.zn_layout.specs.Records.{IsCountRec};
 ghost use Rattle.zn_updates.specs.Choices.{set_data_choice, set_changes, set_record as set_record_of, set_stat as set_stat_of};
 ghost use Rattle.zn_updates.specs.Making.{IsMade, chosen_of};
 ghost use Rattle.zn_updates.specs.Seen.{IsDataWithin};
-ghost use Rattle.std.specs.Prelude.{[], ◌∷◌, nat_abs, option_copied};
+ghost use Rattle.std.specs.Prelude.{[], ◌∷◌, option_copied};
 ghost use Rattle.zk_model.specs.declared.node.Trigger.TheVariants.{Changed};
 ghost use Rattle.std.specs.Prelude.{ℤ};
 ghost use Rattle.zk_model.specs.declared.request.Request.TheVariants as req;
@@ -30,7 +29,7 @@ use std::alloc::Global;
 use zk_model::code::{BAD_ARGUMENTS, BAD_VERSION, NO_NODE, SYSTEM_ERROR};
 use zk_model::version::matches;
 use zk_model::{PartResult, Path, Stat, Trigger, read_path};
-use zn_layout::{CountRec, NodeRec};
+use zn_layout::{NodeRec, cversion};
 use zn_view::{Decision, View, Want, Who, refused};
 use zx_base::{Memory, Seq};
 
@@ -61,14 +60,6 @@ fn set_record(alloc: Global, node: &SeenData, now: u64) -> NodeRec
         owner: node.owner,
         content: Seq::new(alloc),
     }
-}
-
-/// How often the children changed: by each create, and by each child that is gone.
-fn cversion(counts: &CountRec) -> i32
-    requires { IsCountRec counts.now }
-    ensures { result ≡ cversion_of counts.now.creates (nat_abs counts.now.children) }
-{
-    counts.creates * 2 - counts.children
 }
 
 /// The node's Stat after the setData, with 0 in place of the update's zxid.

@@ -14,6 +14,7 @@ use Rattle.zn_layout.specs.declared.record.CountRec.{CountRec}
 use Rattle.zn_layout.specs.declared.record.NodeRec.{NodeRec}
 use Rattle.zn_layout.specs.declared.record.SessionRec.{SessionRec}
 use Rattle.zn_layout.specs.Begin.{first_counts}
+use Rattle.zn_layout.specs.Counts.{one_less, one_more}
 use Rattle.zn_layout.specs.Keys.{Key, CountsKey, DataKey, SessionKey, key_bytes}
 use Rattle.zn_layout.specs.Reading.{IsValueOf}
 use Rattle.zn_layout.specs.Records.{counts_value, node_value, session_value, IsCountRec, IsNodeRec, IsSessionRec}
@@ -38,16 +39,10 @@ node_with p n (Created q owner) = if same q p then Some (Some (node_now (pos 0) 
 node_with p n (Deleted q owner) = if same q p then Some None else n
 node_with p n (DataSet q) = if same q p then option_map (option_map set_once) n else n
 
-abbrev pub one_child_more : CountRec → CountRec
-one_child_more c = record { creates = c.creates +ℤ pos 1; children = c.children +ℤ pos 1 }
-
-abbrev pub one_child_less : CountRec → CountRec
-one_child_less c = record { creates = c.creates; children = pos (nat_abs c.children - 1) }
-
 -- the counts of the node at p
 abbrev pub counts_with : Bytes → Option (Option CountRec) → TreeChange → Option (Option CountRec)
-counts_with p c (Created q owner) = if same q p then Some (Some first_counts) else (if is_child p q then option_map (option_map one_child_more) c else c)
-counts_with p c (Deleted q owner) = if same q p then Some None else (if is_child p q then option_map (option_map one_child_less) c else c)
+counts_with p c (Created q owner) = if same q p then Some (Some first_counts) else (if is_child p q then option_map (option_map one_more) c else c)
+counts_with p c (Deleted q owner) = if same q p then Some None else (if is_child p q then option_map (option_map one_less) c else c)
 counts_with p c (DataSet q) = c
 
 -- how many nodes more a session may own

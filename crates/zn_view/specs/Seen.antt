@@ -1,9 +1,9 @@
 -- A view: what some keys had at one revision, and which paths a node's children had.
-use Rattle.std.specs.Prelude.{◌≡◌, ℤ, pos, ◌≤ℤ◌, List, [], ◌∷◌, take, Option, Some, None, All, codes, if◌then◌else◌, IfSome}
+use Rattle.std.specs.Prelude.{◌≡◌, ℤ, pos, ◌≤ℤ◌, List, [], ◌∷◌, take, Option, Some, None, All, if◌then◌else◌, IfSome}
 use Rattle.ev_types.specs.declared.answer.Kv.{Kv}
 use Rattle.ev_types.specs.Store.{last_revision}
 use Rattle.zx_base.specs.Maps.{Bytes, same}
-use Rattle.zn_layout.specs.Keys.{HeadKey, key_bytes}
+use Rattle.zn_layout.specs.Keys.{HeadKey, counts_front, data_front, head_name, key_bytes, lease_front, session_front}
 use Rattle.zn_layout.specs.Reading.{IsSomeValue}
 use Rattle.zn_layout.specs.Records.{node_value, counts_value, session_value, lease_value, head_value, IsNodeRec, IsCountRec, IsSessionRec, IsLeaseRec, IsHeadRec}
 use Rattle.zn_view.specs.declared.kind.Kind.{Kind}
@@ -58,15 +58,15 @@ head_number (Some kv) = kv.version
 -- by the key's first five bytes
 abbrev pub kind_in : Bytes → Option Kind
 kind_in first =
-    if same first (codes "zk/d/") then Some Data
-    else if same first (codes "zk/c/") then Some Counts
-    else if same first (codes "zk/s/") then Some Nodes
-    else if same first (codes "zk/l/") then Some Life
+    if same first data_front then Some Data
+    else if same first counts_front then Some Counts
+    else if same first session_front then Some Nodes
+    else if same first lease_front then Some Life
     else None
 
 -- the kind that a key's first bytes tell; each key of the layout has one
 abbrev pub kind_of_bytes : Bytes → Option Kind
-kind_of_bytes key = if same key (codes "zk/head") then Some Head else kind_in (take 5 key)
+kind_of_bytes key = if same key head_name then Some Head else kind_in (take 5 key)
 
 -- a value is a record of a kind, within the record's bounds; without a kind any value will do
 abbrev pub IsOfKind : Option Kind → Bytes → Type 0

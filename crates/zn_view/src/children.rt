@@ -11,6 +11,7 @@ ghost use Rattle.zn_view.specs.Asks.{children_start as first_child, children_unt
 use ev_types::Kv;
 use std::alloc::Global;
 use zk_model::Path;
+use zn_layout::DATA_FRONT;
 use zx_base::{Bytes, Memory, Seq};
 
 const SLASH: u8 = b'/';
@@ -44,7 +45,7 @@ fn bound(alloc: Global, path: &Path, last: u8) -> Result<Bytes, Memory>
     let digits = [digit(n / 1000), digit(n / 100), digit(n / 10), digit(n)];
     let own = own_bytes(path);
     let mut key = Vec::with_capacity(alloc, BEFORE_PATH + own.len() + 1)?;
-    key.extend_from_slice(b"zk/d/")?;
+    key.extend_from_slice(DATA_FRONT)?;
     key.extend_from_slice(&digits)?;
     key.extend_from_slice(own)?;
     key.push(last)?;

@@ -11,7 +11,7 @@ use crate::view::View;
 use crate::want::Want;
 use ev_types::{Guard, Kv};
 use std::alloc::Global;
-use zn_layout::head_key;
+use zn_layout::{HEAD_NAME, head_key};
 use zx_base::{Bytes, Memory, Seq};
 
 /// Whether this is the head's key.
@@ -19,7 +19,7 @@ use zx_base::{Bytes, Memory, Seq};
 pub fn is_head(key: &Bytes) -> bool
     ensures { result ≡ same key.now (key_bytes HeadKey) }
 {
-    key.is(b"zk/head")
+    key.is(HEAD_NAME)
 }
 
 /// The revision at which a key was last put, 0 where it is absent.

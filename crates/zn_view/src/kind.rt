@@ -6,7 +6,10 @@ ghost use Rattle.zn_view.specs.Seen.{kind_of_bytes, IsOfKind, IsRecord};
 
 use ev_types::Kv;
 use std::alloc::Global;
-use zn_layout::{head_in, is_counts_record, is_lease_record, is_node_record, session_in};
+use zn_layout::{
+    COUNTS_FRONT, DATA_FRONT, HEAD_NAME, LEASE_FRONT, SESSION_FRONT, head_in, is_counts_record,
+    is_lease_record, is_node_record, session_in,
+};
 use zx_base::Memory;
 
 /// The kinds of key of the layout.
@@ -31,15 +34,15 @@ fn kind_of(key: &[u8]) -> Option<Kind>
     ensures { result ≡ kind_of_bytes key.now }
 {
     let first = &key[..key.len().min(FIRST)];
-    if key == b"zk/head".as_slice() {
+    if key == HEAD_NAME.as_slice() {
         Some(Kind::Head)
-    } else if first == b"zk/d/".as_slice() {
+    } else if first == DATA_FRONT.as_slice() {
         Some(Kind::Data)
-    } else if first == b"zk/c/".as_slice() {
+    } else if first == COUNTS_FRONT.as_slice() {
         Some(Kind::Counts)
-    } else if first == b"zk/s/".as_slice() {
+    } else if first == SESSION_FRONT.as_slice() {
         Some(Kind::Nodes)
-    } else if first == b"zk/l/".as_slice() {
+    } else if first == LEASE_FRONT.as_slice() {
         Some(Kind::Life)
     } else {
         None

@@ -14,8 +14,8 @@ use crate::view::View;
 use ev_types::Kv;
 use std::alloc::Global;
 use zn_layout::{
-    CountRec, LeaseRec, NodeNumbers, SessionRec, counts_in, counts_key, data_key, lease_in,
-    lease_key, node_numbers, session_in, session_key,
+    CountRec, HEAD_NAME, LeaseRec, NodeNumbers, SessionRec, counts_in, counts_key, data_key,
+    lease_in, lease_key, node_numbers, session_in, session_key,
 };
 use zx_base::{Bytes, Memory};
 
@@ -48,7 +48,7 @@ fn listed_among<'a>(lists: &'a [SeenChildren], path: &[u8]) -> Option<&'a [Bytes
 fn head_among(keys: &[SeenKey]) -> Option<&Kv>
     ensures { option_copied result ≡ found_of (seen_in (key_bytes HeadKey) keys.now) }
 {
-    match found_among(keys, b"zk/head") {
+    match found_among(keys, HEAD_NAME) {
         Some(found) => found,
         None => None,
     }

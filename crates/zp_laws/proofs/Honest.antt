@@ -17,7 +17,7 @@ use Rattle.zk_model.specs.declared.node.Node.{Node}
 use Rattle.zk_service.specs.States.{Session, State}
 use Rattle.zx_base.specs.Maps.{Bytes, same}
 use Rattle.zx_base.proofs.MapLaws.{same-true}
-use Rattle.zn_layout.specs.Keys.{Key, HeadKey, DataKey, CountsKey, SessionKey, LeaseKey, front, key_bytes}
+use Rattle.zn_layout.specs.Keys.{CountsKey, DataKey, HeadKey, Key, LeaseKey, SessionKey, counts_front, data_front, front, head_name, key_bytes, lease_front, session_front}
 use Rattle.zn_layout.specs.StandsFor.{CountsMean, DataMeans, HeadMeans, LifeMeans, Means, NodesMean, StandsFor, Stored, at, counts_record, data_record, life_record, stored_of}
 use Rattle.zn_layout.proofs.Commits.{answer-is}
 use Rattle.zn_view.specs.Adding.{AreRecords, IsFirstDamaged}
@@ -51,21 +51,21 @@ life-kept id (Some x) s m = (life_record x m.attaches, (m.fits, m.value))
 
 -- a key has a kind only where it is below `zk/`
 front-or-none : (first : Bytes) → (kind_in first ≡ None) ⊎ ((tail : Bytes) × (first ≡ front ++ tail))
-front-or-none first = go (same first (codes "zk/d/")) (same first (codes "zk/c/")) (same first (codes "zk/s/")) (same first (codes "zk/l/")) refl refl refl refl
+front-or-none first = go (same first data_front) (same first counts_front) (same first session_front) (same first lease_front) refl refl refl refl
   where
-    go : (a b c d : Bool) → same first (codes "zk/d/") ≡ a → same first (codes "zk/c/") ≡ b → same first (codes "zk/s/") ≡ c → same first (codes "zk/l/") ≡ d
+    go : (a b c d : Bool) → same first data_front ≡ a → same first counts_front ≡ b → same first session_front ≡ c → same first lease_front ≡ d
         → (◌≡◌ {A = Option Kind} (if a then Some Data else if b then Some Counts else if c then Some Nodes else if d then Some Life else None) None) ⊎ ((tail : Bytes) × (first ≡ front ++ tail))
-    go true b c d e f g h = inr (codes "d/", same-true first (codes "zk/d/") e)
-    go false true c d e f g h = inr (codes "c/", same-true first (codes "zk/c/") f)
-    go false false true d e f g h = inr (codes "s/", same-true first (codes "zk/s/") g)
-    go false false false true e f g h = inr (codes "l/", same-true first (codes "zk/l/") h)
+    go true b c d e f g h = inr (codes "d/", same-true first data_front e)
+    go false true c d e f g h = inr (codes "c/", same-true first counts_front f)
+    go false false true d e f g h = inr (codes "s/", same-true first session_front g)
+    go false false false true e f g h = inr (codes "l/", same-true first lease_front h)
     go false false false false e f g h = inl refl
 
 kind-or-below : (k : Bytes) → (kind_of_bytes k ≡ None) ⊎ ((rest : Bytes) × (k ≡ front ++ rest))
-kind-or-below k = go (same k (codes "zk/head")) refl (front-or-none (take 5 k))
+kind-or-below k = go (same k head_name) refl (front-or-none (take 5 k))
   where
-    go : (b : Bool) → same k (codes "zk/head") ≡ b → (kind_in (take 5 k) ≡ None) ⊎ ((tail : Bytes) × (take 5 k ≡ front ++ tail)) → (◌≡◌ {A = Option Kind} (if b then Some Head else kind_in (take 5 k)) None) ⊎ ((rest : Bytes) × (k ≡ front ++ rest))
-    go true e first = inr (codes "head", same-true k (codes "zk/head") e)
+    go : (b : Bool) → same k head_name ≡ b → (kind_in (take 5 k) ≡ None) ⊎ ((tail : Bytes) × (take 5 k ≡ front ++ tail)) → (◌≡◌ {A = Option Kind} (if b then Some Head else kind_in (take 5 k)) None) ⊎ ((rest : Bytes) × (k ≡ front ++ rest))
+    go true e first = inr (codes "head", same-true k head_name e)
     go false e (inl none) = inl none
     go false e (inr t) = inr (t.0 ++ drop 5 k, sym (take-append-drop 5 k) ∙ ap (λ l. l ++ drop 5 k) t.1)
 

@@ -15,6 +15,7 @@ use ev_store::{Denied, StoreFault};
 use zk_model::limit::MAX_TIME;
 use zk_service::Fresh;
 use zk_transcript::TranscriptLine;
+use zn_layout::FRONT;
 use zt_text::Why;
 use zx_base::Bytes;
 
@@ -266,5 +267,5 @@ fn lapse_why(denied: &Denied) -> Why
 fn is_kept_key(key: &[u8]) -> bool
     ensures { result ≡ is_kept_key key.now }
 {
-    key.is_empty() || key.starts_with(b"zk/")
+    key.is_empty() || key.starts_with(FRONT.as_slice())
 }

@@ -14,8 +14,9 @@ use Rattle.zn_layout.specs.declared.record.CountRec.{CountRec}
 use Rattle.zn_layout.specs.Changes.{Put, KeyChange, delete_key, put_key, head_put, last, put_or_else, writes_key, are_distinct}
 use Rattle.zn_layout.specs.Keys.{Key, HeadKey, DataKey, CountsKey, SessionKey, LeaseKey, same_key}
 use Rattle.zn_layout.specs.Records.{counts_value}
+use Rattle.zn_layout.specs.Counts.{fewer}
 use Rattle.zn_view.specs.Asks.{IsLeaseless}
-use Rattle.zs_close.specs.Ending.{fewer, put_parent, put_parents, parents, delete_nodes, delete_session, end_changes}
+use Rattle.zs_close.specs.Ending.{put_parent, put_parents, parents, delete_nodes, delete_session, end_changes}
 use Rattle.zs_close.proofs.ParentPaths.{parents-any, parents-apart}
 use Rattle.zs_close.proofs.Removed.{AreApart}
 use Rattle.zs_close.proofs.Written.{gone_if, put_if, put_of, parents_put, parents_leave, nodes_leave-session, nodes_leave-life, data-gone, counts-gone}

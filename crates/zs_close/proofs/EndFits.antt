@@ -27,7 +27,8 @@ use Rattle.zn_layout.specs.Fits.{KeyFits, ChangesFit}
 use Rattle.zn_layout.specs.Keys.{Key, HeadKey, DataKey, CountsKey, SessionKey, LeaseKey}
 use Rattle.zn_layout.specs.Records.{counts_value, IsCountRec}
 use Rattle.zn_layout.specs.StandsFor.{Stored, DataMeans, CountsMean, NodesMean, LifeMeans, counts_record}
-use Rattle.zs_close.specs.Ending.{fewer, end_changes}
+use Rattle.zn_layout.specs.Counts.{fewer}
+use Rattle.zs_close.specs.Ending.{end_changes}
 use Rattle.zs_close.proofs.Removed.{left_over, removed_all-is, num_children-removed_all, AreThere}
 use Rattle.zs_close.proofs.Members.{rising-apart, IsOwned, owned-there, any-member}
 use Rattle.zs_close.proofs.Written.{gone_if, put_if, put_of, life_gone, written-head, written-data, written-counts, written-session, written-life}

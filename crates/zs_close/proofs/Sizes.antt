@@ -10,8 +10,9 @@ use Rattle.zn_layout.specs.Changes.{KeyChange, put_key, delete_key, change_size}
 use Rattle.zn_layout.specs.Keys.{DataKey, CountsKey, SessionKey, LeaseKey}
 use Rattle.zn_layout.specs.Records.{counts_value}
 use Rattle.zn_layout.proofs.Paths.{path_short}
+use Rattle.zn_layout.specs.Counts.{fewer}
 use Rattle.zn_view.proofs.Sizes.{counts-size, counts_value-size, data-size, life-size, session-size, sum_by-most}
-use Rattle.zs_close.specs.Ending.{fewer, put_parent, put_parents, parents, delete_nodes, delete_session, end_changes}
+use Rattle.zs_close.specs.Ending.{put_parent, put_parents, parents, delete_nodes, delete_session, end_changes}
 use Rattle.zs_close.proofs.ParentPaths.{parents-valid, parents-length}
 
 -- ---- changes

@@ -11,10 +11,11 @@ use Rattle.zn_layout.specs.Changes.{act_of, acts_of, put_key}
 use Rattle.zn_layout.specs.Keys.{CountsKey}
 use Rattle.zn_layout.specs.Records.{counts_value}
 use Rattle.zn_layout.proofs.Nodes.{counts_value-injective}
+use Rattle.zn_layout.specs.Counts.{fewer}
 use Rattle.zn_view.specs.Lookups.{sees, IsCountsIn}
 use Rattle.zn_view.specs.Seen.{View}
 use Rattle.zs_close.specs.Closing.{IsTold, TellsCounts, TellsCountsOf}
-use Rattle.zs_close.specs.Ending.{fewer, put_parent, put_parents}
+use Rattle.zs_close.specs.Ending.{put_parent, put_parents}
 
 told_none : (o : Option Kv) (c : Option CountRec) → o ≡ None → IsTold o c → c ≡ None
 told_none None None e h = refl

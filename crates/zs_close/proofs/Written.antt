@@ -10,7 +10,8 @@ use Rattle.zn_layout.specs.Changes.{Put, last, put_or_else}
 use Rattle.zn_layout.specs.Keys.{Key, HeadKey, DataKey, CountsKey, SessionKey, LeaseKey}
 use Rattle.zn_layout.specs.Records.{counts_value}
 use Rattle.zn_layout.proofs.Fits.{last-append}
-use Rattle.zs_close.specs.Ending.{fewer, put_parent, put_parents, parents, delete_nodes, delete_session, end_changes}
+use Rattle.zn_layout.specs.Counts.{fewer}
+use Rattle.zs_close.specs.Ending.{put_parent, put_parents, parents, delete_nodes, delete_session, end_changes}
 use Rattle.zs_close.proofs.ParentPaths.{parents-any}
 
 -- what is written of a key: it is deleted if a test says so

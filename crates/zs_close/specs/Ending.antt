@@ -1,6 +1,6 @@
 -- What the end of a session changes (Programmer's Guide, "Ephemeral Nodes"): its life and the list of its nodes go, and each
 -- of its nodes; and each of their parents counts its children without them.
-use Rattle.std.specs.Prelude.{ℕ, ℤ, pos, nat_abs, ◌-◌, Bool, List, [], ◌∷◌, ◌++◌, flat_map, Option, Some, None, if◌then◌else◌}
+use Rattle.std.specs.Prelude.{ℤ, nat_abs, Bool, List, [], ◌∷◌, ◌++◌, flat_map, Option, Some, None, if◌then◌else◌}
 use Rattle.std.specs.List.{list_any, count_by}
 use Rattle.zk_model.specs.declared.node.Trigger.{Trigger}
 use Rattle.zk_model.specs.Paths.{parent, is_child}
@@ -10,6 +10,7 @@ use Rattle.zk_model.specs.declared.layout.Layout.{Layout}
 use Rattle.zn_layout.specs.declared.record.CountRec.{CountRec}
 use Rattle.zn_layout.specs.declared.record.SessionRec.{SessionRec}
 use Rattle.zn_layout.specs.Changes.{KeyChange, put_key, delete_key}
+use Rattle.zn_layout.specs.Counts.{fewer}
 use Rattle.zn_layout.specs.Keys.{DataKey, CountsKey, SessionKey, LeaseKey}
 use Rattle.zn_layout.specs.Records.{counts_value, has_counts}
 
@@ -27,10 +28,6 @@ abbrev pub parents : List Bytes → List Bytes
 parents ps = parents_from [] ps
 
 -- ---- the changes of keys
-
--- a node's counts with so many children fewer
-abbrev pub fewer : CountRec → ℕ → CountRec
-fewer c n = record { creates = c.creates; children = pos (nat_abs c.children - n) }
 
 -- puts a parent's counts without the nodes that go; a parent without counts is not there
 abbrev pub put_parent : List Bytes → Bytes → Option CountRec → List KeyChange

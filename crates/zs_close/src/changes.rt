@@ -10,30 +10,19 @@ ghost use Rattle.zn_layout.specs.Records.{counts_value, IsCountRec};
 ghost use Rattle.zx_base.specs.Maps.{Bytes as ByteList};
 ghost use Rattle.zn_view.specs.Lookups.{HasSeen};
 ghost use Rattle.zs_close.specs.Closing.{AreWritesAfter, PutsParent, TellsCounts};
-ghost use Rattle.zs_close.specs.Ending.{delete_nodes, delete_session, end_changes, end_triggers as triggers_of_end, fewer as fewer_of, parents as parents_once, put_parents};
+ghost use Rattle.zn_layout.specs.Counts.{fewer as fewer_of};
+ghost use Rattle.zs_close.specs.Ending.{delete_nodes, delete_session, end_changes, end_triggers as triggers_of_end, parents as parents_once, put_parents};
 
 use crate::parents::{children_among, parents};
 use ev_types::Act;
 use std::alloc::Global;
 use zk_model::{Layout, Path, Trigger};
 use zn_layout::{
-    CountRec, SessionRec, delete_counts, delete_node, has_counts, lease_key, put_counts,
+    CountRec, SessionRec, delete_counts, delete_node, fewer, has_counts, lease_key, put_counts,
     session_key,
 };
 use zn_view::View;
 use zx_base::{Memory, Seq};
-
-/// A node's counts with so many children fewer.
-fn fewer(counts: CountRec, gone: usize) -> CountRec
-    requires { IsCountRec counts }
-    ensures is { result ≡ fewer_of counts gone }
-    ensures within { IsCountRec result }
-{
-    CountRec {
-        creates: counts.creates,
-        children: (counts.children as usize).saturating_sub(gone) as i32,
-    }
-}
 
 /// Deletes the session's own keys: the list of its nodes, and the record of its life if it is alive.
 fn delete_own(alloc: Global, alive: bool, session: i64) -> Result<Seq<Act>, Memory>
@@ -91,7 +80,7 @@ fn push_fewer(
     requires within { IsCountRec counts }
     ensures { OnOk result (acts.new ≡ acts.old ++ act_of (put_key (CountsKey parent.now) (counts_value (fewer_of counts (count_by (is_child parent.now) paths.now)))) ∷ []) }
 {
-    let left = fewer(counts, children_among(paths, parent.bytes()));
+    let left = fewer(&counts, children_among(paths, parent.bytes()));
     acts.push(put_counts(alloc, parent.bytes(), &left)?)
 }
 

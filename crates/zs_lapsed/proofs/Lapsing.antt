@@ -1,6 +1,6 @@
 -- Which sessions have lapsed, in words of membership.
 use Rattle.std.proofs.Common.{◌≡◌, ℕ, zero, suc, ◌-◌, ℤ, List, [], ◌∷◌, ◌++◌, length, take, drop, append_assoc, refl, sym, ap, ◌∙◌, subst, arith, inl, inr}
-use Rattle.std.specs.Prelude.{◌⊎◌, Bool, true, false, not, cond, nat_lt, Option, Some, None, option_map, slice_get, Contains, Any, filter, codes, if◌then◌else◌}
+use Rattle.std.specs.Prelude.{◌⊎◌, Bool, true, false, not, cond, nat_lt, Option, Some, None, option_map, slice_get, Contains, Any, filter, if◌then◌else◌}
 use Rattle.std.specs.List.{cons_option}
 use Rattle.std.proofs.lemmas.List.{take-append-drop}
 use Rattle.std.specs.Ordering.{int_eq}
@@ -8,6 +8,7 @@ use Rattle.std.specs.Cmp.{signed_Decides}
 use Rattle.std.proofs.lemmas.List.Elements.{All-contains, All-contains_itself, All-filter, filter_passes}
 use Rattle.std.proofs.lemmas.List.Folds.{Any-from_list_any, list_any-from_Any}
 use Rattle.ev_types.specs.declared.answer.Kv.{Kv}
+use Rattle.zn_layout.specs.Keys.{lease_front, session_front}
 use Rattle.zs_lapsed.specs.Listing.{AreListed, IsLastOpen, IsOpen, Lives, is_among, lapsed_of, numbers_in, max_listed, next_from, session_in}
 use Rattle.zx_base.proofs.Booleans.{false-unless_true, true-not_false}
 
@@ -100,18 +101,18 @@ not-from false denied = refl
 -- ---- the law
 
 pub lapsed_is_open : (opened alive : List Kv) (n : ℤ) → Contains (lapsed_of opened alive) n → IsOpen opened n
-lapsed_is_open opened alive n c = from-numbers (codes "zk/s/") opened n (kept-was (λ m. not (is_among (numbers_in (codes "zk/l/") alive) m)) (numbers_in (codes "zk/s/") opened) n c)
+lapsed_is_open opened alive n c = from-numbers session_front opened n (kept-was (λ m. not (is_among (numbers_in lease_front alive) m)) (numbers_in session_front opened) n c)
 
 pub lapsed_lives_not : (opened alive : List Kv) (n : ℤ) → Contains (lapsed_of opened alive) n → Lives alive n → ⊥
 lapsed_lives_not opened alive n c lives =
-    let living = numbers_in (codes "zk/l/") alive in
-    no-both (is_among living n) (kept-passes (λ m. not (is_among living m)) (numbers_in (codes "zk/s/") opened) n c) (is-among living n (to-numbers (codes "zk/l/") alive n lives.0 lives.1 lives.2))
+    let living = numbers_in lease_front alive in
+    no-both (is_among living n) (kept-passes (λ m. not (is_among living m)) (numbers_in session_front opened) n c) (is-among living n (to-numbers lease_front alive n lives.0 lives.1 lives.2))
 
 pub open_is_lapsed : (opened alive : List Kv) (n : ℤ) → IsOpen opened n → (Lives alive n → ⊥) → Contains (lapsed_of opened alive) n
 open_is_lapsed opened alive n there dead =
-    let living = numbers_in (codes "zk/l/") alive in
-    is-kept (λ m. not (is_among living m)) (numbers_in (codes "zk/s/") opened) n (to-numbers (codes "zk/s/") opened n there.0 there.1 there.2)
-    (not-from (is_among living n) (λ said. dead (from-numbers (codes "zk/l/") alive n (among-is living n said))))
+    let living = numbers_in lease_front alive in
+    is-kept (λ m. not (is_among living m)) (numbers_in session_front opened) n (to-numbers session_front opened n there.0 there.1 there.2)
+    (not-from (is_among living n) (λ said. dead (from-numbers lease_front alive n (among-is living n said))))
 
 -- ---- lists that are cut short
 
@@ -141,8 +142,8 @@ first-pass p (suc k) (x ∷ xs) n c passes = passing-place p k x xs n (λ d. fir
 
 pub no_living_is_lapsed : (opened alive : List Kv) (most : ℕ) (all : List ℤ) (lives : ℤ → Bool) (n : ℤ) → AreListed opened alive most all lives → Contains (lapsed_of opened alive) n → lives n ≡ false
 no_living_is_lapsed opened alive most all lives n listed c =
-    let living = numbers_in (codes "zk/l/") alive in
-    let numbers = numbers_in (codes "zk/s/") opened in
+    let living = numbers_in lease_front alive in
+    let numbers = numbers_in session_front opened in
     let there : Contains (take most all) n = subst (λ (l : List ℤ). Contains l n) listed.first (kept-was (λ m. not (is_among living m)) numbers n c) in
     false-unless_true (lives n) (λ passes. no-both (is_among living n) (kept-passes (λ m. not (is_among living m)) numbers n c) (is-among living n (subst (λ (l : List ℤ). Contains l n) (sym listed.living) (first-pass lives most all n there passes))))
 
@@ -177,7 +178,7 @@ from-last true o last from is e = absurd (none-some from e)
 from-last false None last from is e = absurd (none-last last is)
 from-last false (Some kv) last from is e = sym (same-list (drop 5 kv.key ++ 0 ∷ []) from e) ∙ ap (λ (k : Kv). drop 5 k.key ++ 0 ∷ []) (same-kv kv last is)
 
-pub after_the_last : (opened : List Kv) (last : Kv) (from : List ℕ) → IsLastOpen opened last → next_from opened ≡ Some from → codes "zk/s/" ++ from ≡ last.key ++ 0 ∷ []
+pub after_the_last : (opened : List Kv) (last : Kv) (from : List ℕ) → IsLastOpen opened last → next_from opened ≡ Some from → session_front ++ from ≡ last.key ++ 0 ∷ []
 after_the_last opened last from is next =
     let tail = from-last (nat_lt (length opened) max_listed) (slice_get opened (length opened - 1)) last from is.ends next in
     ap (λ (l : List ℕ). l ++ from) (sym is.kind) ∙ ap (λ (l : List ℕ). take 5 last.key ++ l) tail ∙ sym (append_assoc (take 5 last.key) (drop 5 last.key) (0 ∷ [])) ∙ ap (λ (l : List ℕ). l ++ 0 ∷ []) (take-append-drop 5 last.key)

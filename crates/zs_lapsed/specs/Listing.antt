@@ -15,6 +15,7 @@ use Rattle.ev_types.specs.declared.ask.Ask.TheVariants as ask
 use Rattle.ev_call.specs.Calls.{Call}
 use Rattle.ev_call.specs.declared.etcd.CallFault.{CallFault}
 use Rattle.ev_call.specs.declared.etcd.CallFault.TheVariants as call
+use Rattle.zn_layout.specs.Keys.{lease_front, session_front}
 use Rattle.zt_text.specs.Scripts.{session_id}
 use Rattle.zs_lapsed.specs.declared.calling.TurnFault.{TurnFault}
 use Rattle.zs_lapsed.specs.declared.calling.TurnFault.TheVariants as turn
@@ -38,7 +39,7 @@ behind = codes "g"
 abbrev pub list_ask : List ℕ → List ℕ → Ask
 list_ask from end = ask.Txn (record {
   guards = [];
-  success = names_from (codes "zk/s/") from end ∷ names_from (codes "zk/l/") from end ∷ [];
+  success = names_from session_front from end ∷ names_from lease_front from end ∷ [];
   failure = [];
 })
 
@@ -59,7 +60,7 @@ without_of numbers living = filter (λ n. not (is_among living n)) numbers
 
 -- the open sessions that are not among the living, in the order of their keys
 abbrev pub lapsed_of : List Kv → List Kv → List ℤ
-lapsed_of opened alive = without_of (numbers_in (codes "zk/s/") opened) (numbers_in (codes "zk/l/") alive)
+lapsed_of opened alive = without_of (numbers_in session_front opened) (numbers_in lease_front alive)
 
 -- where the next list begins: right after the last key; nowhere where the list was not full
 abbrev pub next_from : List Kv → Option (List ℕ)
@@ -102,18 +103,18 @@ Lists from end (Err turn.Met) calls = ⊥
 
 -- a session of this number is among the open ones
 abbrev pub IsOpen : List Kv → ℤ → Type 0
-IsOpen opened n = (kv : Kv) × Contains opened kv × (session_in (codes "zk/s/") kv ≡ Some n)
+IsOpen opened n = (kv : Kv) × Contains opened kv × (session_in session_front kv ≡ Some n)
 
 -- the record of its life is among those of the living
 abbrev pub Lives : List Kv → ℤ → Type 0
-Lives alive n = (kv : Kv) × Contains alive kv × (session_in (codes "zk/l/") kv ≡ Some n)
+Lives alive n = (kv : Kv) × Contains alive kv × (session_in lease_front kv ≡ Some n)
 
 -- Of all open sessions, in the order of their keys, the first are listed; and of those that live among all of them, as many.
 pub record AreListed (opened alive : List Kv) (most : ℕ) (all : List ℤ) (lives : ℤ → Bool) : Type 0 where
-  pub first : numbers_in (codes "zk/s/") opened ≡ take most all
-  pub living : numbers_in (codes "zk/l/") alive ≡ take most (filter lives all)
+  pub first : numbers_in session_front opened ≡ take most all
+  pub living : numbers_in lease_front alive ≡ take most (filter lives all)
 
 -- this is the last of these keys, and it is one of an open session
 pub record IsLastOpen (opened : List Kv) (last : Kv) : Type 0 where
   pub ends : slice_get opened (length opened - 1) ≡ Some last
-  pub kind : take 5 last.key ≡ codes "zk/s/"
+  pub kind : take 5 last.key ≡ session_front

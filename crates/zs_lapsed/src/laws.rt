@@ -1,7 +1,8 @@
 //! What the definitions amount to. Each function does nothing, and its contract is the law.
 
-ghost use Rattle.std.specs.Prelude.{◌≡◌, ℕ, ℤ, Bool, false, List, [], ◌∷◌, ◌++◌, codes, Some, Contains};
+ghost use Rattle.std.specs.Prelude.{◌≡◌, ℕ, ℤ, Bool, false, List, [], ◌∷◌, ◌++◌, Some, Contains};
 ghost use Rattle.ev_types.specs.declared.answer.Kv.{Kv};
+ghost use Rattle.zn_layout.specs.Keys.{session_front};
 ghost use Rattle.zs_lapsed.specs.Listing.{AreListed, IsLastOpen, IsOpen, Lives, lapsed_of, next_from};
 
 /// A session has lapsed, by two lists of keys, exactly where it is among the open ones and not among the living.
@@ -22,5 +23,5 @@ pub fn no_living_session_is_shown()
 /// A list begins right after the last key of the one before it: no key stands between a key and that key with a byte 0 at its end.
 pub fn a_list_begins_after_the_last_key()
     ensures { (opened : List Kv) (last : Kv) (from : List ℕ)
-        → IsLastOpen opened last → next_from opened ≡ Some from → codes "zk/s/" ++ from ≡ last.key ++ 0 ∷ [] }
+        → IsLastOpen opened last → next_from opened ≡ Some from → session_front ++ from ≡ last.key ++ 0 ∷ [] }
 {}

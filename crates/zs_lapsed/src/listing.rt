@@ -8,17 +8,12 @@ use crate::calling::{TurnFault, call};
 use ev_call::Etcd;
 use ev_types::{Act, ActAns, Answer, Ask, Kv, RangeReq, TxnReq};
 use std::alloc::Global;
+use zn_layout::{LEASE_FRONT, SESSION_FRONT};
 use zt_text::session_id;
 use zx_base::{Bytes, Memory, Seq};
 
 /// How many keys of each kind are listed by one ask.
 const MAX_LISTED: i64 = 1000;
-
-/// The keys of open sessions begin so.
-const OPEN: &[u8] = b"zk/s/";
-
-/// The keys of sessions that live begin so.
-const ALIVE: &[u8] = b"zk/l/";
 
 /// What stands behind the numbers of all sessions, each 16 hex digits.
 pub(crate) const BEHIND: &[u8] = b"g";
@@ -58,8 +53,8 @@ fn list_ask(alloc: Global, from: &[u8], end: &[u8]) -> Result<Ask, Memory>
     ensures { IfOk result (λ q. q ≡ ask_from from.now end.now) }
 {
     let mut success = Seq::new(alloc);
-    success.push(names(alloc, OPEN, from, end)?)?;
-    success.push(names(alloc, ALIVE, from, end)?)?;
+    success.push(names(alloc, SESSION_FRONT, from, end)?)?;
+    success.push(names(alloc, LEASE_FRONT, from, end)?)?;
     Ok(Ask::Txn(TxnReq {
         guards: Seq::new(alloc),
         success,
@@ -110,8 +105,8 @@ fn without(alloc: Global, numbers: &[i64], living: &[i64]) -> Result<Vec<i64>, M
 fn lapsed(alloc: Global, opened: &[Kv], alive: &[Kv]) -> Result<Seq<i64>, Memory>
     ensures { IfOk result (λ v. v ≡ lapsed_of opened.now alive.now) }
 {
-    let numbers = numbers_in(alloc, OPEN, opened)?;
-    let living = numbers_in(alloc, ALIVE, alive)?;
+    let numbers = numbers_in(alloc, SESSION_FRONT, opened)?;
+    let living = numbers_in(alloc, LEASE_FRONT, alive)?;
     Ok(Seq::from_vec(without(alloc, numbers.as_slice(), living.as_slice())?))
 }
 

@@ -11,6 +11,7 @@ use crate::pace::Pace;
 use ev_call::Etcd;
 use ev_types::{Act, Answer, Ask};
 use std::alloc::Global;
+use zn_layout::COUNTS_FRONT;
 use zp_turns::Reaps;
 use zs_reap::{ReapStep, Reaper};
 use zs_session::StepFault;
@@ -18,14 +19,12 @@ use zs_session::StepFault;
 /// The most asks of one reap in one turn.
 const MAX_ASKS: u32 = 64;
 
-/// What the key of the counts of a node's children begins with; four digits stand between that and the node's path.
-const COUNTS: &[u8] = b"zk/c/";
-
+/// How many digits stand between what a key of counts begins with and the node's path.
 const DEPTH: usize = 4;
 
 /// The path of the node whose counts this key has.
 fn path_in(key: &[u8]) -> Option<&[u8]> {
-    key.strip_prefix(COUNTS)?.get(DEPTH..)
+    key.strip_prefix(COUNTS_FRONT.as_slice())?.get(DEPTH..)
 }
 
 /// The path of the first node whose counts are read.

@@ -10,6 +10,7 @@ use crate::connect::ConnectStep;
 use ev_types::{ActAns, Kv};
 use zk_model::{ConnectRequest, ConnectResponse};
 use zk_service::answered_read_only;
+use zn_layout::HEAD_NAME;
 use zn_view::{Who, last_found};
 
 /// The version of the head among what was found, 0 without one.
@@ -18,7 +19,7 @@ fn number_among(kvs: &[Kv]) -> i64
     ensures { result ≡ head_number (kept_under (key_bytes HeadKey) kvs.now) }
 {
     for kv in kvs {
-        if kv.key.is(b"zk/head") {
+        if kv.key.is(HEAD_NAME) {
             return kv.version;
         }
     }

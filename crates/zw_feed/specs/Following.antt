@@ -1,8 +1,9 @@
 -- The entries that the lines of a watch on the head give: one for each put of the head, which is one update, with consecutive numbers
 -- (etcd API reference, "Watch"; the head's version counts its puts).
-use Rattle.std.specs.Prelude.{◌≡◌, ◌≢◌, ◌⊎◌, ◌≤ℤ◌, ◌<ℤ◌, ◌^◌, All, ℤ, pos, ◌+ℤ◌, List, [], ◌∷◌, ◌++◌, length, codes, filter, Bool, Option, Some, None, Result, Ok, Err}
+use Rattle.std.specs.Prelude.{◌≡◌, ◌≢◌, ◌⊎◌, ◌≤ℤ◌, ◌<ℤ◌, ◌^◌, All, ℤ, pos, ◌+ℤ◌, List, [], ◌∷◌, ◌++◌, length, filter, Bool, Option, Some, None, Result, Ok, Err}
 use Rattle.std.specs.Global.{Vec}
 use Rattle.ev_types.specs.declared.answer.Kv.{Kv}
+use Rattle.zn_layout.specs.Keys.{head_name}
 use Rattle.zn_layout.specs.Reading.{IsNoValue, IsValueOf, head_bytes, IsHeadWithin}
 use Rattle.zn_layout.specs.declared.entry.Entry.{Entry}
 use Rattle.zn_layout.specs.declared.record.HeadRec.{HeadRec}
@@ -19,7 +20,7 @@ pub record FollowerState : Type 0 where
 
 -- a put of the head; any other put of a line is passed over
 abbrev pub is_head : Kv → Bool
-is_head kv = same kv.key (codes "zk/head")
+is_head kv = same kv.key head_name
 
 -- the head that a put left tells the update of this number
 pub record IsEntryOf (number : ℤ) (kv : Kv) (e : Entry) : Type 0 where

@@ -7,7 +7,7 @@ ghost use Rattle.zw_feed.specs.Gathering.{Grows, IsSoFar};
 use crate::fault::FeedFault;
 use ev_types::Kv;
 use std::alloc::Global;
-use zn_layout::{Entry, HeadRec, RecordFault, read_head};
+use zn_layout::{Entry, HEAD_NAME, HeadRec, RecordFault, read_head};
 
 /// The entry of the update with this number, by the head that it put.
 fn entry_of(alloc: Global, number: i64, kv: &Kv) -> Result<Entry, FeedFault>
@@ -34,7 +34,7 @@ fn entry_of(alloc: Global, number: i64, kv: &Kv) -> Result<Entry, FeedFault>
 fn is_head(kv: &Kv) -> bool
     ensures { result ≡ is_head kv.now }
 {
-    kv.key.is(b"zk/head".as_slice())
+    kv.key.is(HEAD_NAME)
 }
 
 /// What some puts gave: entries whose numbers follow `first`, up to `last`.

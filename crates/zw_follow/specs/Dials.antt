@@ -1,5 +1,5 @@
 -- What a worker that follows the head comes to, over all the streams that it dials.
-use Rattle.std.specs.Prelude.{◌≡◌, ◌⊎◌, ℕ, ◌+◌, ◌<◌, ◌≤◌, ℤ, pos, ◌+ℤ◌, Bool, true, false, List, [], ◌∷◌, ◌++◌, length, codes, slice_get, Option, Some, None, unwrap_or, Result, Ok, Err}
+use Rattle.std.specs.Prelude.{◌≡◌, ◌⊎◌, ℕ, ◌+◌, ◌<◌, ◌≤◌, ℤ, pos, ◌+ℤ◌, Bool, true, false, List, [], ◌∷◌, ◌++◌, length, slice_get, Option, Some, None, unwrap_or, Result, Ok, Err}
 use Rattle.ev_addresses.specs.Lists.{addresses_in, local, next_of}
 use Rattle.ev_types.specs.declared.answer.Kv.{Kv}
 use Rattle.ev_types.specs.declared.route.Route.TheVariants as route
@@ -10,6 +10,7 @@ use Rattle.ev_http.specs.Taking.{Told, told}
 use Rattle.ev_http.specs.declared.fault.HttpFault.{HttpFault}
 use Rattle.ev_http.specs.declared.fault.HttpFault.TheVariants as http
 use Rattle.ev_http.specs.declared.lines.Lines.{Lines}
+use Rattle.zn_layout.specs.Keys.{head_name}
 use Rattle.zn_layout.specs.declared.entry.Entry.{Entry}
 use Rattle.zw_hub.specs.Ends.{IsProper}
 use Rattle.zw_hub.specs.Lists.{forgetting, with_end}
@@ -52,7 +53,7 @@ abbrev pub request_with : List ℕ → List ℕ → List ℕ
 request_with host body = request_head host route.Watch (length body) ++ body
 
 abbrev pub watch_request : List ℕ → ℤ → List ℕ
-watch_request host told = request_with host (watch_text (told +ℤ pos 1) (codes "zk/head"))
+watch_request host told = request_with host (watch_text (told +ℤ pos 1) head_name)
 
 -- the dial failed for this, which is counted
 abbrev pub IsFailed : NetFault → NetTold → NetTold → Type 0

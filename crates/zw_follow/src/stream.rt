@@ -20,7 +20,7 @@ use ev_words::Fault;
 use std::alloc::Global;
 use std::collections::VecDeque;
 use std::sync::{Arc, Wait};
-use zn_layout::Entry;
+use zn_layout::{Entry, HEAD_NAME};
 use zw_feed::{FeedFault, Follower};
 use zw_hub::{FeedEnd, Hub};
 use zw_watch::bits_of;
@@ -122,7 +122,7 @@ pub(crate) fn open<N: Net>(
         Ok(ends) => ends,
         Err(fault) => return Err(undialled(fault)),
     };
-    let Ok(text) = write_watch(alloc, revision + 1, b"zk/head".as_slice()) else {
+    let Ok(text) = write_watch(alloc, revision + 1, HEAD_NAME.as_slice()) else {
         return Err(StreamEnd::Closes(FeedEnd::Memory));
     };
     match send_request(alloc, &mut sink, endpoint, Route::Watch, text.as_slice()) {

@@ -22,8 +22,8 @@ returns c =
     let there_is : IsNodeNow c.args.view.now m p there = subst (λ (l : List TreeChange). IsNodeNow c.args.view.now l p there) c.as_slice-2.ensures c.in_ok-there.ensures in
     let owned_is : IsOwnedFor c.args.view.now m c.args.by.now.ephemeral c.args.by.now.session owned =
     subst (λ (l : List TreeChange). IsOwnedFor c.args.view.now l c.args.by.now.ephemeral c.args.by.now.session owned) c.as_slice-3.ensures c.in_ok-owned.ensures in
-    let owner : c.owner_of-owner.result ≡ owner_of c.args.by.now.ephemeral c.args.by.now.session = c.owner_of-owner.ensures in
-    let fits : SFits w64 c.owner_of-owner.result = search rules in
+    let owner : c.creator_id-owner.result ≡ owner_of c.args.by.now.ephemeral c.args.by.now.session = c.creator_id-owner.ensures in
+    let fits : SFits w64 c.creator_id-owner.result = search rules in
     let made : c.create_change.result ≡ create_change p (owner_of c.args.by.now.ephemeral c.args.by.now.session) up c.args.counts there owned = c.create_change.ensures ∙ ap (λ (x : ℤ). create_change p x up c.args.counts there owned) (to_z-of_z w64 _ fits ∙ owner) in
     IfOk-weaker c.with_change.result _ _ (λ (next : Left) is.
     (up, up_is, subst (λ (o : Option Bytes). NodeLeaves c.args.view.now m c.args.by.now.ephemeral c.args.by.now.session up c.args.counts o next) (sym c.in-Some.is) (there, owned, there_is, owned_is, is ∙ ap (with_change m) made))) c.with_change.ensures

@@ -2,7 +2,8 @@
 use Rattle.std.proofs.Common.{◌≡◌, ◌∙◌, w32, w64, rules, to_z, of_z}
 use Rattle.std.proofs.lemmas.Int.{to_z-of_z}
 use mir.Val.{SFits}
-use Rattle.std.specs.Prelude.{pos, ◌*ℤ◌, ◌-ℤ◌}
+use Rattle.std.specs.Prelude.{pos, nat_abs}
+use Rattle.zk_model.specs.Znodes.{cversion as cversion_of}
 use Rattle.zn_layout.specs.StandsFor.{czxid_of}
 use Rattle.zn_reads.proofs.stat.stat_by.Goals as goal
 
@@ -21,7 +22,7 @@ returns c =
     let is : c.czxid.result ≡ czxid_of (to_z w64 (of_z w64 c.args.numbers.czxid)) (to_z w64 (of_z w64 c.args.revision)) = c.czxid.ensures in
     let czxid : to_z w64 (of_z w64 c.czxid.result) ≡ czxid_of c.args.numbers.czxid c.args.revision =
     to_z-of_z w64 _ made ∙ is ∙ (λ i. czxid_of (to_z-of_z w64 _ stored i) (to_z-of_z w64 _ c.ranges.revision i)) in
-    let cversion : to_z w32 (of_z w32 c.cversion.result) ≡ (pos 2 *ℤ c.args.counts.creates) -ℤ c.args.counts.children = to_z-of_z w32 _ counted ∙ c.cversion.ensures in
+    let cversion : to_z w32 (of_z w32 c.cversion.result) ≡ cversion_of c.args.counts.creates (nat_abs c.args.counts.children) = to_z-of_z w32 _ counted ∙ c.cversion.ensures in
     let data_length : to_z w32 (of_z w32 c.data_length.result) ≡ pos c.args.content_length = to_z-of_z w32 _ long ∙ c.data_length.ensures in
     λ i. record {
       czxid = czxid i;
