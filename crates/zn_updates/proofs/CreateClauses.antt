@@ -7,7 +7,6 @@ use Rattle.std.specs.FinMap.{get}
 use Rattle.std.specs.Ordering.{int_eq}
 use Rattle.ev_types.specs.declared.answer.Kv.{Kv}
 use Rattle.zx_base.specs.Maps.{Bytes}
-use Rattle.zx_base.proofs.Options.{some_is}
 use Rattle.zk_model.specs.declared.node.Node.{Node}
 use Rattle.zk_model.specs.declared.node.Trigger.TheVariants.{Created, Children}
 use Rattle.zk_model.specs.declared.request.Acl.{Acl}
@@ -24,13 +23,13 @@ use Rattle.zk_model.proofs.SequenceParents.{parent-sequence}
 use Rattle.zk_model.proofs.SequencePaths.{sequence-valid}
 use Rattle.zk_model.proofs.ValidPaths.{parent-valid}
 use Rattle.zk_service.specs.Answers.{plain_request, told_refusal, tree_reply}
-use Rattle.zk_service.specs.States.{State, Session, IsSound, commit, session_at}
+use Rattle.zk_service.specs.States.{State, Session, IsSound, commit, limit_of, session_at}
 use Rattle.zn_layout.specs.declared.record.CountRec.{CountRec}
+use Rattle.zn_layout.specs.declared.record.SessionRec.{SessionRec}
 use Rattle.zn_layout.specs.Keys.{Key, HeadKey, DataKey, CountsKey, SessionKey, LeaseKey, key_bytes}
-use Rattle.zn_layout.specs.Reading.{IsValueOf}
-use Rattle.zn_layout.specs.Records.{counts_value, IsCountRec, IsHeadRec, IsLongCount, IsSessionRec}
+use Rattle.zn_layout.specs.Records.{IsHeadRec, IsLongCount, IsSessionRec}
+use Rattle.zn_layout.specs.StandsFor.{is_counted_in}
 use Rattle.zn_layout.proofs.Paths.{path_short}
-use Rattle.zn_layout.proofs.Nodes.{counts_value-injective}
 use Rattle.zn_view.specs.declared.plan.Decision.{Decision}
 use Rattle.zn_view.specs.declared.plan.Who.{Who}
 use Rattle.zn_view.specs.declared.want.Want.{Want}
@@ -49,62 +48,63 @@ use Rattle.zn_updates.specs.declared.form.Form.{Form}
 use Rattle.zn_updates.specs.Forms.{IsFormOf}
 use Rattle.zn_updates.proofs.Plans.{choice-by_tree}
 use Rattle.zn_view.specs.Deciding.{IfPlanned, IsToldByForm, is_by_tree}
-use Rattle.zn_updates.specs.Deciding.{IfMakes, IsBySound, IsCreate, IsGuarded, IsOwnPaths, IsUpLookedUp, creates_in, creates_seen, decision_of, on_keys, path_for}
+use Rattle.zn_updates.specs.Deciding.{IfMakes, IsBySound, IsCreate, IsGuarded, AreOwnNodes, IsUpLookedUp, creates_in, creates_seen, decision_of, on_keys, path_for}
 use Rattle.zn_updates.specs.KeysRead.{create_keys, numbered, numbered_at, plain_data, session_nodes, IsParentCreates}
-use Rattle.zn_updates.specs.Making.{IsDataSeen, IsCountsSeen, IsPathsSeen, has_found}
+use Rattle.zn_updates.specs.Making.{IsDataSeen, IsCountsSeen, IsNodesSeen, has_found}
 use Rattle.zn_updates.specs.Right.{IsRight}
 use Rattle.zn_updates.specs.Seen.{ShowsCounts, ShowsOwned}
 use Rattle.zn_updates.proofs.Clauses.{AreKeys, IsShortKey, makes_cond, by_form, by_sound, near_sees, planned, refused_plans}
+use Rattle.zn_updates.proofs.Creates.{creates-are, creates-one}
 use Rattle.zn_updates.proofs.CreateRight.{create_right, created_under}
 use Rattle.zn_updates.specs.Layers.{code_of, IsChosen, Shows}
 use Rattle.zn_updates.proofs.Deciding.{IsPart}
 use Rattle.zn_updates.proofs.NewKeys.{create-new}
-use Rattle.zn_updates.proofs.WellMade.{create-made, paths-listed, two_triggers}
+use Rattle.zn_updates.proofs.WellMade.{create-made, nodes-within, two_triggers}
 use Rattle.zn_updates.proofs.Meanings.{of_abs}
-use Rattle.zn_updates.proofs.Showing.{data-shown, counts-shown, paths-shown, there-shown}
+use Rattle.zn_updates.proofs.Showing.{data-shown, counts-shown, nodes-shown, there-shown}
 
 -- whatever node is there, without the parent's counts nothing is created
-pub same_taken : (p q content : Bytes) (now : ℕ) (ephemeral : Bool) (session : ℤ) (x : Option SeenData) (paths : Option (List Bytes)) (a b : Bool)
-    → create_choice p q content now ephemeral session x None a paths ≡ create_choice p q content now ephemeral session x None b paths
+pub same_taken : (p q content : Bytes) (now : ℕ) (ephemeral : Bool) (session : ℤ) (x : Option SeenData) (nodes : Option SessionRec) (a b : Bool)
+    → create_choice p q content now ephemeral session x None a nodes ≡ create_choice p q content now ephemeral session x None b nodes
 unfolding create_choice
-same_taken p q content now ephemeral session None paths a b = refl
-same_taken p q content now ephemeral session (Some x) paths a b = refl
+same_taken p q content now ephemeral session None nodes a b = refl
+same_taken p q content now ephemeral session (Some x) nodes a b = refl
 
 same_cond : (b : Bool) (x y z w : Choice) → code_of x ≡ code_of z → code_of y ≡ code_of w → code_of (cond b x y) ≡ code_of (cond b z w)
 same_cond true x y z w e f = e
 same_cond false x y z w e f = f
 
-owned_codes : (p q content : Bytes) (now : ℕ) (above : CountRec) (session : ℤ) (paths : Option (List Bytes)) → code_of (create_owned p q content now above session paths) ≡ code_of (create_owned p q content 0 above session paths)
+owned_codes : (p q content : Bytes) (now : ℕ) (above : CountRec) (session : ℤ) (nodes : Option SessionRec) → code_of (create_owned p q content now above session nodes) ≡ code_of (create_owned p q content 0 above session nodes)
 owned_codes p q content now above session None = refl
-owned_codes p q content now above session (Some ps) = same_cond (nat_le max_owned (length ps)) _ _ _ _ refl refl
+owned_codes p q content now above session (Some r) = same_cond (nat_le (max_owned r.layout) (length r.nodes)) _ _ _ _ refl refl
 
-create_codes : (p q content : Bytes) (now : ℕ) (ephemeral : Bool) (session : ℤ) (x : Option SeenData) (c : Option SeenCounts) (taken : Bool) (paths : Option (List Bytes))
-    → code_of (create_choice p q content now ephemeral session x c taken paths) ≡ code_of (create_choice p q content 0 ephemeral session x c taken paths)
+create_codes : (p q content : Bytes) (now : ℕ) (ephemeral : Bool) (session : ℤ) (x : Option SeenData) (c : Option SeenCounts) (taken : Bool) (nodes : Option SessionRec)
+    → code_of (create_choice p q content now ephemeral session x c taken nodes) ≡ code_of (create_choice p q content 0 ephemeral session x c taken nodes)
 unfolding create_choice
-create_codes p q content now ephemeral session None c taken paths = refl
-create_codes p q content now ephemeral session (Some x) None taken paths = refl
-create_codes p q content now ephemeral session (Some x) (Some c) true paths = refl
-create_codes p q content now ephemeral session (Some x) (Some c) false paths =
-    same_cond (not (int_eq x.owner (pos 0))) _ _ _ _ refl (same_cond (int_eq c.counts.creates max_creates) _ _ _ _ refl (same_cond ephemeral _ _ _ _ (owned_codes p q content now c.counts session paths) refl))
+create_codes p q content now ephemeral session None c taken nodes = refl
+create_codes p q content now ephemeral session (Some x) None taken nodes = refl
+create_codes p q content now ephemeral session (Some x) (Some c) true nodes = refl
+create_codes p q content now ephemeral session (Some x) (Some c) false nodes =
+    same_cond (not (int_eq x.owner (pos 0))) _ _ _ _ refl (same_cond (int_eq c.counts.creates max_creates) _ _ _ _ refl (same_cond ephemeral _ _ _ _ (owned_codes p q content now c.counts session nodes) refl))
 
-owned_bounds : (p q content : Bytes) (now : ℕ) (above : CountRec) (session : ℤ) (paths : Option (List Bytes)) → IsTrue (is_path p) → IsTrue (is_path q) → IfMakes IsHeadRec (create_owned p q content now above session paths)
+owned_bounds : (p q content : Bytes) (now : ℕ) (above : CountRec) (session : ℤ) (nodes : Option SessionRec) → IsTrue (is_path p) → IsTrue (is_path q) → IfMakes IsHeadRec (create_owned p q content now above session nodes)
 owned_bounds p q content now above session None valid also = tt
-owned_bounds p q content now above session (Some ps) valid also = makes_cond IsHeadRec (nat_le max_owned (length ps)) _ _ tt (two_triggers (Created p) (Children q) valid also)
+owned_bounds p q content now above session (Some r) valid also = makes_cond IsHeadRec (nat_le (max_owned r.layout) (length r.nodes)) _ _ tt (two_triggers (Created p) (Children q) valid also)
 
-pub create_bounds : (p q content : Bytes) (now : ℕ) (ephemeral : Bool) (session : ℤ) (x : Option SeenData) (c : Option SeenCounts) (taken : Bool) (paths : Option (List Bytes)) → IsTrue (is_path p) → IsTrue (is_path q)
-    → IfMakes IsHeadRec (create_choice p q content now ephemeral session x c taken paths)
+pub create_bounds : (p q content : Bytes) (now : ℕ) (ephemeral : Bool) (session : ℤ) (x : Option SeenData) (c : Option SeenCounts) (taken : Bool) (nodes : Option SessionRec) → IsTrue (is_path p) → IsTrue (is_path q)
+    → IfMakes IsHeadRec (create_choice p q content now ephemeral session x c taken nodes)
 unfolding create_choice
-create_bounds p q content now ephemeral session None c taken paths valid also = tt
-create_bounds p q content now ephemeral session (Some x) None taken paths valid also = tt
-create_bounds p q content now ephemeral session (Some x) (Some c) true paths valid also = tt
-create_bounds p q content now ephemeral session (Some x) (Some c) false paths valid also =
+create_bounds p q content now ephemeral session None c taken nodes valid also = tt
+create_bounds p q content now ephemeral session (Some x) None taken nodes valid also = tt
+create_bounds p q content now ephemeral session (Some x) (Some c) true nodes valid also = tt
+create_bounds p q content now ephemeral session (Some x) (Some c) false nodes valid also =
     makes_cond IsHeadRec (not (int_eq x.owner (pos 0))) _ _ tt
     (makes_cond IsHeadRec (int_eq c.counts.creates max_creates) _ _ tt
-    (makes_cond IsHeadRec ephemeral _ _ (owned_bounds p q content now c.counts session paths valid also) (two_triggers (Created p) (Children q) valid also)))
+    (makes_cond IsHeadRec ephemeral _ _ (owned_bounds p q content now c.counts session nodes valid also) (two_triggers (Created p) (Children q) valid also)))
 
-shown_creates : (z : ℤ) (c : Option SeenCounts) (u : Node) (n : ℕ) → ShowsCounts z c (Some u) n → creates_in c ≡ nat_abs u.creates
-shown_creates z None u n h = absurd h
-shown_creates z (Some w) u n h = ap (λ (r : CountRec). nat_abs r.creates) h.is
+shown_creates : (z : ℤ) (c : Option SeenCounts) (u : Node) (n : ℕ) (d : Bool) → ShowsCounts z c (Some u) n d → creates_in c ≡ nat_abs u.creates
+shown_creates z None u n d h = absurd h
+shown_creates z (Some w) u n d h = ap (λ (r : CountRec). nat_abs r.creates) h.is
 
 pub valid_kind : (path : Bytes) (b : Bool) (n : ℕ) → is_valid b path ≡ true → is_path (if b then sequence_path path n else path) ≡ true
 valid_kind path true n h = sequence-valid path n h
@@ -169,11 +169,11 @@ module _ (path content : Bytes) (acl : List Acl) (flags : ℤ) (formed : form_re
 
   -- ---- on a tree
 
-  effect_is : (s : State) (session z : ℤ) (now : ℕ) (q : Option Bytes) → parent (named flags path) ≡ q → single s.tree max_owned session (Create path content acl flags) z now ≡ create_at s.tree max_owned session flags content z now path q
+  effect_is : (s : State) (limit : ℕ) (session z : ℤ) (now : ℕ) (q : Option Bytes) → parent (named flags path) ≡ q → single s.tree limit session (Create path content acl flags) z now ≡ create_at s.tree limit session flags content z now path q
   unfolding single effect
-  effect_is s session z now q up =
-      ap (λ (o : Option ℤ). unless_refused o (create_at s.tree max_owned session flags content z now path (parent (named flags path)))) formed
-      ∙ ap (create_at s.tree max_owned session flags content z now path) up
+  effect_is s limit session z now q up =
+      ap (λ (o : Option ℤ). unless_refused o (create_at s.tree limit session flags content z now path (parent (named flags path)))) formed
+      ∙ ap (create_at s.tree limit session flags content z now path) up
 
   -- the node's path is valid, and its parent is the one that was tested
   pub valid_path : (n : ℕ) → is_path (if is_sequential flags then sequence_path path n else path) ≡ true
@@ -190,58 +190,62 @@ module _ (path content : Bytes) (acl : List Acl) (flags : ℤ) (formed : form_re
   parent_is_valid q up = (parent-valid _ q (valid_path 0) (made_below q up 0)).0
 
   module _ (who : Who) (v : View) (q : Bytes) (up : parent (named flags path) ≡ Some q) (short : length content ≤ max_frame) (long : IsLongCount who.session)
-      (x : Option SeenData) (c : Option SeenCounts) (paths : Option (List Bytes)) (data_seen : IsDataSeen (sees v (DataKey q)) x) (counts_seen : IsCountsSeen (sees v (CountsKey q)) c)
-      (own_seen : IsOwnPaths v (is_ephemeral flags) who.session paths) (looked_up : (w : SeenCounts) → c ≡ Some w → HasSeen v (DataKey (path_for (is_sequential flags) path c))) where
+      (x : Option SeenData) (c : Option SeenCounts) (nodes : Option SessionRec) (data_seen : IsDataSeen (sees v (DataKey q)) x) (counts_seen : IsCountsSeen x (sees v (CountsKey q)) c)
+      (own_seen : AreOwnNodes v (is_ephemeral flags) who.session nodes) (looked_up : (w : SeenCounts) → c ≡ Some w → HasSeen v (DataKey (path_for (is_sequential flags) path c))) where
     abbrev p : Bytes
     p = path_for (is_sequential flags) path c
 
     abbrev choice : ℕ → Choice
-    choice now = create_choice p q content now (is_ephemeral flags) who.session x c (has_found (sees v (DataKey p))) paths
+    choice now = create_choice p q content now (is_ephemeral flags) who.session x c (has_found (sees v (DataKey p))) nodes
 
     -- ---- where the view has what a state has
 
     module _ (s : State) (z : ℤ) (now : ℕ) (time : now < 2 ^ 62) (sound : IsSound s) (shown : Shows z v s) (y : Session) (opened : session_at who.session s ≡ Some y) where
-      own_shown : is_ephemeral flags ≡ true → ShowsOwned paths (owned s.tree who.session)
-      own_shown is = subst (λ (o : ℤ). ShowsOwned paths (owned s.tree o)) (of_abs who.session long.least)
-          (paths-shown z v s shown (nat_abs who.session) y paths (ap (λ (o : ℤ). session_at o s) (of_abs who.session long.least) ∙ opened) (own_seen is))
+      own_shown : is_ephemeral flags ≡ true → ShowsOwned nodes y (owned s.tree who.session)
+      own_shown is = subst (λ (o : ℤ). ShowsOwned nodes y (owned s.tree o)) (of_abs who.session long.least)
+          (nodes-shown z v s shown (nat_abs who.session) y nodes (ap (λ (o : ℤ). session_at o s) (of_abs who.session long.least) ∙ opened) (own_seen is))
+
+      -- whether the parent has a record of its counts
+      abbrev up_counted : Bool
+      up_counted = is_counted_in s (get s.tree q)
 
       -- by the node at the path that was looked up
-      right_at : IsRight z s (create_choice p q content now (is_ephemeral flags) who.session x c (is_some (get s.tree p)) paths) (created_under s p q content flags who.session z now sound (made_below q up (creates_in c)) (valid_path (creates_in c)) time short y opened long (get s.tree q) (get s.tree p))
-      right_at = create_right s p q content flags who.session z now sound (made_below q up (creates_in c)) (valid_path (creates_in c)) time short y opened long x c paths (get s.tree q) (get s.tree p) refl refl
-          (data-shown z v s shown q x data_seen) (counts-shown z v s shown q c counts_seen) own_shown
+      right_at : IsRight z s (create_choice p q content now (is_ephemeral flags) who.session x c (is_some (get s.tree p)) nodes) (created_under s p q content flags who.session z now sound (made_below q up (creates_in c)) (valid_path (creates_in c)) time short y opened long (get s.tree q) (get s.tree p))
+      right_at = create_right s p q content flags who.session z now sound (made_below q up (creates_in c)) (valid_path (creates_in c)) time short y opened long x c nodes (get s.tree q) (get s.tree p) up_counted refl refl
+          (data-shown z v s shown q x data_seen) (counts-shown z v s shown q x c data_seen counts_seen) own_shown
 
       -- the path that the model makes is the one that was looked up
       same_path : (u : Node) → get s.tree q ≡ Some u → made_path flags path u ≡ p
       same_path u there =
-          let counted = subst (λ (o : Option Node). ShowsCounts z c o (num_children s.tree q)) there (counts-shown z v s shown q c counts_seen) in
-          ap (λ (n : ℕ). if is_sequential flags then sequence_path path n else path) (sym (shown_creates z c u (num_children s.tree q) counted))
+          let counted = subst (λ (o : Option Node). ShowsCounts z c o (num_children s.tree q) up_counted) there (counts-shown z v s shown q x c data_seen counts_seen) in
+          ap (λ (n : ℕ). if is_sequential flags then sequence_path path n else path) (sym (shown_creates z c u (num_children s.tree q) up_counted counted))
 
-      under_is : (u : Option Node) → get s.tree q ≡ u → create_under s.tree max_owned who.session flags content z now path q u
+      under_is : (u : Option Node) → get s.tree q ≡ u → create_under s.tree (limit_of y) who.session flags content z now path q u
           ≡ created_under s p q content flags who.session z now sound (made_below q up (creates_in c)) (valid_path (creates_in c)) time short y opened long u (get s.tree p)
       under_is None there = refl
-      under_is (Some u) there = ap (λ (r : Bytes). create_node s.tree max_owned who.session flags content z now q u r (get s.tree r)) (same_path u there)
+      under_is (Some u) there = ap (λ (r : Bytes). create_node s.tree (limit_of y) who.session flags content z now q u r (get s.tree r)) (same_path u there)
 
-      taken_is : (k : Option SeenCounts) → c ≡ k → create_choice p q content now (is_ephemeral flags) who.session x c (is_some (get s.tree p)) paths ≡ choice now
+      taken_is : (k : Option SeenCounts) → c ≡ k → create_choice p q content now (is_ephemeral flags) who.session x c (is_some (get s.tree p)) nodes ≡ choice now
       taken_is None e =
-          subst (λ (o : Option SeenCounts). create_choice p q content now (is_ephemeral flags) who.session x o (is_some (get s.tree p)) paths ≡ create_choice p q content now (is_ephemeral flags) who.session x o (has_found (sees v (DataKey p))) paths) (sym e)
-          (same_taken p q content now (is_ephemeral flags) who.session x paths _ _)
-      taken_is (Some w) e = ap (λ b. create_choice p q content now (is_ephemeral flags) who.session x c b paths) (sym (there-shown z v s shown p (looked_up w e)))
+          subst (λ (o : Option SeenCounts). create_choice p q content now (is_ephemeral flags) who.session x o (is_some (get s.tree p)) nodes ≡ create_choice p q content now (is_ephemeral flags) who.session x o (has_found (sees v (DataKey p))) nodes) (sym e)
+          (same_taken p q content now (is_ephemeral flags) who.session x nodes _ _)
+      taken_is (Some w) e = ap (λ b. create_choice p q content now (is_ephemeral flags) who.session x c b nodes) (sym (there-shown z v s shown p (looked_up w e)))
 
-      right_here : IsRight z s (choice now) (single s.tree max_owned who.session (Create path content acl flags) z now)
-      right_here = subst (λ (o : Outcome). IsRight z s (choice now) o) (sym (effect_is s who.session z now (Some q) up ∙ under_is (get s.tree q) refl))
+      right_here : IsRight z s (choice now) (single s.tree (limit_of y) who.session (Create path content acl flags) z now)
+      right_here = subst (λ (o : Outcome). IsRight z s (choice now) o) (sym (effect_is s (limit_of y) who.session z now (Some q) up ∙ under_is (get s.tree q) refl))
           (subst (λ (k : Choice). IsRight z s k (created_under s p q content flags who.session z now sound (made_below q up (creates_in c)) (valid_path (creates_in c)) time short y opened long (get s.tree q) (get s.tree p))) (taken_is c refl) right_at)
 
     pub below_chosen : IsChosen (Create path content acl flags) who v choice
     below_chosen = record {
       right = λ s z now time sound shown y opened. right_here s z now time sound shown y opened;
-      same_code = λ now. create_codes p q content now (is_ephemeral flags) who.session x c (has_found (sees v (DataKey p))) paths;
+      same_code = λ now. create_codes p q content now (is_ephemeral flags) who.session x c (has_found (sees v (DataKey p))) nodes;
     }
 
   -- ---- the root
 
   pub root_chosen : (who : Who) (v : View) → parent (named flags path) ≡ None → IsChosen (Create path content acl flags) who v (λ now. Refuse node_exists)
   root_chosen who v none = record {
-    right = λ s z now time sound shown y opened. effect_is s who.session z now None none;
+    right = λ s z now time sound shown y opened. effect_is s (limit_of y) who.session z now None none;
     same_code = λ now. refl;
   }
 
@@ -254,13 +258,9 @@ module _ (path content : Bytes) (acl : List Acl) (flags : ℤ) (formed : form_re
   unfolding reads
   reads_are id = refl
 
-  -- a sequence node's key, from the counts that were seen
-  number_follows : (who : Who) (v : View) (q : Bytes) (n : ℕ) → is_sequential flags ≡ true → parent (named flags path) ≡ Some q → IsCreatesSeen (sees v (CountsKey q)) (Some n) → Follows (req.Create path content acl flags) who.session v (key_want (DataKey (sequence_path path n)))
-  number_follows who v q n sequential up = elim (sees v (CountsKey q)) as (λ o. sees v (CountsKey q) ≡ o → IsCreatesSeen o (Some n) → Follows (req.Create path content acl flags) who.session v (key_want (DataKey (sequence_path path n)))) [
-    | None ↦ λ e h. absurd (cc)
-    | Some None ↦ λ e h. absurd (cc)
-    | Some (Some kv) ↦ λ e h. (sequential, q, sym (ap (λ b. parent (if b then with_one path else path)) sequential) ∙ up, h.0, (h.1.0, (kv, e, h.1.1)), ap (λ (k : ℕ). key_want (DataKey (sequence_path path k))) (some_is h.2))
-  ] refl
+  -- a sequence node's key, from the creates that were seen
+  number_follows : (who : Who) (v : View) (q : Bytes) (n : ℕ) → is_sequential flags ≡ true → parent (named flags path) ≡ Some q → IsCreatesSeen v q (Some n) → Follows (req.Create path content acl flags) who.session v (key_want (DataKey (sequence_path path n)))
+  number_follows who v q n sequential up h = (sequential, q, sym (ap (λ b. parent (if b then with_one path else path)) sequential) ∙ up, n, h, refl)
 
   numbered_follows : (who : Who) (v : View) (creates : Option ℕ) → IsParentCreates v (parent (named flags path)) creates → (k : Key) → In k (numbered (is_sequential flags) path creates) → Follows (req.Create path content acl flags) who.session v (key_want k)
   numbered_follows who v creates is k = elim (is_sequential flags) as (λ b. is_sequential flags ≡ b → In k (if b then numbered_at path creates else []) → Follows (req.Create path content acl flags) who.session v (key_want k)) [
@@ -285,23 +285,17 @@ module _ (path content : Bytes) (acl : List Acl) (flags : ℤ) (formed : form_re
       (λ b. inr (inr (inr (numbered_follows who v creates is k b))))
       (in_either k (fixed who.session) (numbered (is_sequential flags) path creates) h)
 
-  -- the creates that were seen are those of the record
-  same_creates : (v : View) (q : Bytes) (creates : Option ℕ) (r : CountRec) (kv : Kv) → IsParentCreates v (Some q) creates → seen v (key_bytes (CountsKey q)) ≡ Some (Some kv) → IsValueOf counts_value IsCountRec kv.value r → creates ≡ Some (nat_abs r.creates)
-  same_creates v q creates r kv is there value =
-      let at : IsCreatesSeen (Some (Some kv)) creates = subst (λ (o : Option (Option Kv)). IsCreatesSeen o creates) there is in
-      at.2 ∙ ap (λ (k : CountRec). Some (nat_abs k.creates)) (counts_value-injective at.0 r at.1.0 value.0 (sym at.1.1 ∙ value.1))
-
   reads_to : (who : Who) (v : View) (creates : Option ℕ) → IsParentCreates v (parent (named flags path)) creates → (w : Want) → IsRead (req.Create path content acl flags) who v w
       → (k : Key) × In k (create_keys (is_sequential flags) (is_ephemeral flags) path (parent (named flags path)) who.session creates) × (w ≡ key_want k)
   reads_to who v creates is w (inl e) = (HeadKey, inl refl, e)
   reads_to who v creates is w (inr (inl e)) = (LeaseKey (nat_abs who.session), inr (inl refl), e)
   reads_to who v creates is w (inr (inr (inl h))) = (h.0, inr (inr (in_left h.0 (fixed who.session) (numbered (is_sequential flags) path creates) (subst (In h.0) (reads_are who.session) (contains_in h.0 _ h.1)))), h.2)
-  reads_to who v creates is w (inr (inr (inr (sequential, q, up, r, saw, e)))) =
+  reads_to who v creates is w (inr (inr (inr (sequential, q, up, n, saw, e)))) =
       let named_up : parent (named flags path) ≡ Some q = ap (λ b. parent (if b then with_one path else path)) sequential ∙ up in
-      let number = same_creates v q creates r saw.1.0 (subst (λ (o : Option Bytes). IsParentCreates v o creates) named_up is) saw.1.1 (saw.0, saw.1.2) in
-      let inside : In (DataKey (sequence_path path (nat_abs r.creates))) (numbered (is_sequential flags) path creates) =
-      subst (λ (t : Bool × Option ℕ). In (DataKey (sequence_path path (nat_abs r.creates))) (numbered t.0 path t.1)) (λ i. (sym sequential i, sym number i)) (inl refl) in
-      (DataKey (sequence_path path (nat_abs r.creates)), inr (inr (in_right _ (fixed who.session) (numbered (is_sequential flags) path creates) inside)), e)
+      let number : creates ≡ Some n = creates-one (seen v (key_bytes (DataKey q))) (seen v (key_bytes (CountsKey q))) creates n (subst (λ (o : Option Bytes). IsParentCreates v o creates) named_up is) saw in
+      let inside : In (DataKey (sequence_path path n)) (numbered (is_sequential flags) path creates) =
+      subst (λ (t : Bool × Option ℕ). In (DataKey (sequence_path path n)) (numbered t.0 path t.1)) (λ i. (sym sequential i, sym number i)) (inl refl) in
+      (DataKey (sequence_path path n), inr (inr (in_right _ (fixed who.session) (numbered (is_sequential flags) path creates) inside)), e)
 
   pub create_needs : (who : Who) (v : View) (ws : List Want) (q : Option Bytes) (creates : Option ℕ) → q ≡ parent (named flags path) → IsParentCreates v q creates → ws ≡ lacking v (map key_bytes (create_keys (is_sequential flags) (is_ephemeral flags) path q who.session creates))
       → AreNeeds (req.Create path content acl flags) who v ws
@@ -323,16 +317,13 @@ module _ (path content : Bytes) (acl : List Acl) (flags : ℤ) (formed : form_re
   own_looked_up who v whole e = fixed_seen who v whole (SessionKey (nat_abs who.session)) (in_right _ (about_parent (parent (named flags path)) ++ plain_data (is_sequential flags) path) (session_nodes (is_ephemeral flags) who.session)
       (subst (λ b. In (SessionKey (nat_abs who.session)) (session_nodes b who.session)) (sym e) (inl refl)))
 
-  pub path_looked_up : (who : Who) (v : View) → IsWhole (req.Create path content acl flags) who v → (w : SeenCounts) (q : Bytes) → parent (named flags path) ≡ Some q → IsCountsSeen (sees v (CountsKey q)) (Some w) → HasSeen v (DataKey (path_for (is_sequential flags) path (Some w)))
-  path_looked_up who v whole w q up counts_seen = elim (is_sequential flags) as (λ b. is_sequential flags ≡ b → HasSeen v (DataKey (path_for b path (Some w)))) [
+  pub path_looked_up : (who : Who) (v : View) → IsWhole (req.Create path content acl flags) who v → (x : Option SeenData) (w : SeenCounts) (q : Bytes) → parent (named flags path) ≡ Some q
+      → IsDataSeen (sees v (DataKey q)) x → IsCountsSeen x (sees v (CountsKey q)) (Some w) → HasSeen v (DataKey (path_for (is_sequential flags) path (Some w)))
+  path_looked_up who v whole x w q up data_seen counts_seen = elim (is_sequential flags) as (λ b. is_sequential flags ≡ b → HasSeen v (DataKey (path_for b path (Some w)))) [
     | false ↦ λ e. fixed_seen who v whole (DataKey path) (in_left _ _ (session_nodes (is_ephemeral flags) who.session) (in_right _ (about_parent (parent (named flags path))) (plain_data (is_sequential flags) path) (subst (λ b. In (DataKey path) (plain_data b path)) (sym e) (inl refl))))
-    | true ↦ λ e none. whole create_formed (key_want (DataKey (sequence_path path (nat_abs w.counts.creates)))) (inr (inr (inr (number_follows who v q (nat_abs w.counts.creates) e up (creates_of (sees v (CountsKey q)) counts_seen))))) none
+    | true ↦ λ e none. whole create_formed (key_want (DataKey (sequence_path path (nat_abs w.counts.creates))))
+        (inr (inr (inr (number_follows who v q (nat_abs w.counts.creates) e up (creates-are (sees v (DataKey q)) (sees v (CountsKey q)) x (Some w) data_seen counts_seen))))) none
   ] refl
-    where
-      creates_of : (o : Option (Option Kv)) → IsCountsSeen o (Some w) → IsCreatesSeen o (Some (nat_abs w.counts.creates))
-      creates_of None h = absurd h
-      creates_of (Some None) h = absurd h
-      creates_of (Some (Some kv)) h = (h.0, h.1, ap (λ (k : SeenCounts). Some (nat_abs k.counts.creates)) h.2)
 
   pub up_looked_up : (who : Who) (v : View) → IsWhole (req.Create path content acl flags) who v → (q : Option Bytes) → parent (named flags path) ≡ q → IsUpLookedUp v q
   up_looked_up who v whole None up = tt
@@ -340,22 +331,14 @@ module _ (path content : Bytes) (acl : List Acl) (flags : ℤ) (formed : form_re
 
   -- ---- the keys that a plan guards
 
-  -- the creates that the view saw
-  creates_are : (o : Option (Option Kv)) (c : Option SeenCounts) → IsCountsSeen o c → IsCreatesSeen o (creates_seen c)
-  creates_are None c h = absurd h
-  creates_are (Some None) None h = refl
-  creates_are (Some None) (Some w) h = absurd h
-  creates_are (Some (Some kv)) None h = absurd h
-  creates_are (Some (Some kv)) (Some w) h = (h.0, h.1, ap (λ (k : SeenCounts). Some (nat_abs k.counts.creates)) h.2)
-
-  plan_keys : (who : Who) (v : View) (q : Bytes) (c : Option SeenCounts) → parent (named flags path) ≡ Some q → IsCountsSeen (sees v (CountsKey q)) c
+  plan_keys : (who : Who) (v : View) (q : Bytes) (x : Option SeenData) (c : Option SeenCounts) → parent (named flags path) ≡ Some q → IsDataSeen (sees v (DataKey q)) x → IsCountsSeen x (sees v (CountsKey q)) c
       → AreKeys (req.Create path content acl flags) who v (create_keys (is_sequential flags) (is_ephemeral flags) path (Some q) who.session (creates_seen c))
-  plan_keys who v q c up counts_seen =
+  plan_keys who v q x c up data_seen counts_seen =
       let plain : List Key = plain_data (is_sequential flags) path in
       let own : List Key = session_nodes (is_ephemeral flags) who.session in
       let last : List Key = numbered (is_sequential flags) path (creates_seen c) in
       let above = path_short q (parent_is_valid q up) in
-      let is : IsParentCreates v (parent (named flags path)) (creates_seen c) = subst (λ (o : Option Bytes). IsParentCreates v o (creates_seen c)) (sym up) (creates_are (sees v (CountsKey q)) c counts_seen) in
+      let is : IsParentCreates v (parent (named flags path)) (creates_seen c) = subst (λ (o : Option Bytes). IsParentCreates v o (creates_seen c)) (sym up) (creates-are (sees v (DataKey q)) (sees v (CountsKey q)) x c data_seen counts_seen) in
       let same : (l : Option Bytes) → List Key = λ l. create_keys (is_sequential flags) (is_ephemeral flags) path l who.session (creates_seen c) in
       let few_plain = plain-few (is_sequential flags) path in
       let few_own = own-few (is_ephemeral flags) who.session in
@@ -386,7 +369,7 @@ module _ (path content : Bytes) (acl : List Acl) (flags : ℤ) (formed : form_re
       decided at_time = create_choice node q content at_time (is_ephemeral flags) who.session is.0 is.1 (has_found (sees v (DataKey node))) is.2
 
       path_seen : (w : SeenCounts) → is.1 ≡ Some w → HasSeen v (DataKey node)
-      path_seen w e = subst (λ (o : Option SeenCounts). HasSeen v (DataKey (path_for (is_sequential flags) path o))) (sym e) (path_looked_up who v whole w q up (subst (λ (o : Option SeenCounts). IsCountsSeen (sees v (CountsKey q)) o) e is.4))
+      path_seen w e = subst (λ (o : Option SeenCounts). HasSeen v (DataKey (path_for (is_sequential flags) path o))) (sym e) (path_looked_up who v whole is.0 w q up is.3 (subst (λ (o : Option SeenCounts). IsCountsSeen is.0 (sees v (CountsKey q)) o) e is.4))
 
       chosen : IsChosen (Create path content acl flags) who v decided
       chosen = below_chosen who v q up short long is.0 is.1 is.2 is.3 is.4 is.5 path_seen
@@ -404,24 +387,24 @@ module _ (path content : Bytes) (acl : List Acl) (flags : ℤ) (formed : form_re
           (same_taken node q content at_time (is_ephemeral flags) who.session is.0 is.2 _ _)
       near_taken (Some w) e at_time = ap (λ (o : Option (Option Kv)). create_choice node q content at_time (is_ephemeral flags) who.session is.0 is.1 (has_found o) is.2) (path_near w e)
 
-      near_own : IsOwnPaths (on_keys v keys) (is_ephemeral flags) who.session is.2
-      near_own e = subst (λ (o : Option (Option Kv)). IsPathsSeen o is.2) (sym (near_sees v keys (SessionKey (nat_abs who.session)) (own-in (is_sequential flags) (is_ephemeral flags) path q who.session (creates_seen is.1) e))) (is.5 e)
+      near_own : AreOwnNodes (on_keys v keys) (is_ephemeral flags) who.session is.2
+      near_own e = subst (λ (o : Option (Option Kv)). IsNodesSeen o is.2) (sym (near_sees v keys (SessionKey (nat_abs who.session)) (own-in (is_sequential flags) (is_ephemeral flags) path q who.session (creates_seen is.1) e))) (is.5 e)
 
       near : IsChosen (Create path content acl flags) who (on_keys v keys) decided
       near = subst (λ (f : ℕ → Choice). IsChosen (Create path content acl flags) who (on_keys v keys) f) (λ i at_time. near_taken is.1 refl at_time i)
           (below_chosen who (on_keys v keys) q up short long is.0 is.1 is.2
           (subst (λ (o : Option (Option Kv)). IsDataSeen o is.0) (sym (near_sees v keys (DataKey q) (inr (inr (inl refl))))) is.3)
-          (subst (λ (o : Option (Option Kv)). IsCountsSeen o is.1) (sym (near_sees v keys (CountsKey q) (inr (inr (inr (inl refl)))))) is.4)
+          (subst (λ (o : Option (Option Kv)). IsCountsSeen is.0 o is.1) (sym (near_sees v keys (CountsKey q) (inr (inr (inr (inl refl)))))) is.4)
           near_own (λ w e none. path_seen w e (sym (path_near w e) ∙ none)))
 
-      listed : is_ephemeral flags ≡ true → (ps : List Bytes) → is.2 ≡ Some ps → IsSessionRec ps
-      listed e ps es = paths-listed (sees v (SessionKey (nat_abs who.session))) ps (subst (λ (o : Option (List Bytes)). IsPathsSeen (sees v (SessionKey (nat_abs who.session))) o) es (is.5 e))
+      listed : is_ephemeral flags ≡ true → (r : SessionRec) → is.2 ≡ Some r → IsSessionRec r
+      listed e r es = nodes-within (sees v (SessionKey (nat_abs who.session))) r (subst (λ (o : Option SessionRec). IsNodesSeen (sees v (SessionKey (nat_abs who.session))) o) es (is.5 e))
 
       below_promised : IsToldByForm (req.Create path content acl flags) d × IsBySound (req.Create path content acl flags) who v d × IfPlanned (IsGuarded (req.Create path content acl flags) who now v) d
       below_promised = (
         by_form (req.Create path content acl flags) (Create path content acl flags) who v keys decided now create_part chosen time real create_formed d is.6,
         by_sound (req.Create path content acl flags) (Create path content acl flags) who v keys decided now create_part chosen time real create_formed d is.6,
-        planned (req.Create path content acl flags) (Create path content acl flags) who v keys decided now create_part chosen time real create_formed d is.6 near (plan_keys who v q is.1 up is.4) whole
+        planned (req.Create path content acl flags) (Create path content acl flags) who v keys decided now create_part chosen time real create_formed d is.6 near (plan_keys who v q is.0 is.1 up is.3 is.4) whole
             (create-made node q (valid_path (creates_in is.1)) (made_below q up (creates_in is.1)) (Unit {0}) content short now (is_ephemeral flags) who.session is.0 is.1 (has_found (sees v (DataKey node))) is.2 listed)
             (create-new v node q content now (is_ephemeral flags) who.session keys (inr (inr (inr (inl refl)))) (own-in (is_sequential flags) (is_ephemeral flags) path q who.session (creates_seen is.1)) is.0 is.1 (has_found (sees v (DataKey node))) is.2
             (λ w e. (node_in w e, path_seen w e)) refl),

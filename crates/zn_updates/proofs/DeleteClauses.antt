@@ -1,6 +1,6 @@
 -- The decision of a delete is what is promised of it.
 use Rattle.std.proofs.Common.{◌^◌, ◌<◌, ◌≡◌, ◌≢◌, ℕ, ◌≤◌, ℤ, pos, true, false, cond, List, [], ◌∷◌, ◌++◌, Option, Some, None, refl, sym, ap, ◌∙◌, subst, inl, inr, ⊎_elim, length, arith}
-use Rattle.std.specs.Prelude.{◌≤ℤ◌, All, not, nat_abs, map, IsTrue, ◌&&◌}
+use Rattle.std.specs.Prelude.{◌≤ℤ◌, All, IfSome, not, nat_abs, map, IsTrue, ◌&&◌}
 use Rattle.std.proofs.lemmas.List.Elements.{All-cons, All-nil}
 use Rattle.std.specs.FinMap.{get}
 use Rattle.std.specs.Ordering.{int_eq}
@@ -18,11 +18,12 @@ use Rattle.zk_model.specs.Limits.{max_owned}
 use Rattle.zk_model.specs.Paths.{is_path, parent, root}
 use Rattle.zk_model.specs.Single.{Refused, form_refusal, single, effect, delete, unless_refused, matches}
 use Rattle.zk_model.specs.Watches.{no_watches}
-use Rattle.zk_model.specs.Znodes.{owned}
+use Rattle.zk_model.specs.Znodes.{num_children, owned}
 use Rattle.zk_model.proofs.ValidPaths.{parent-valid}
 use Rattle.zk_service.specs.Answers.{plain_request, told_refusal, tree_reply}
-use Rattle.zk_service.specs.States.{State, Session, IsSound, commit, session_at}
+use Rattle.zk_service.specs.States.{State, Session, IsSound, commit, limit_of, session_at}
 use Rattle.zn_layout.specs.declared.record.NodeRec.{NodeRec}
+use Rattle.zn_layout.specs.declared.record.SessionRec.{SessionRec}
 use Rattle.zn_layout.specs.Keys.{Key, HeadKey, DataKey, CountsKey, SessionKey, LeaseKey, key_bytes}
 use Rattle.zn_layout.specs.Reading.{IsValueOf}
 use Rattle.zn_layout.specs.Records.{node_value, IsNodeRec, IsHeadRec}
@@ -46,20 +47,20 @@ use Rattle.zn_updates.specs.declared.seen.SeenCounts.{SeenCounts}
 use Rattle.zn_updates.specs.Choices.{Choice, Refuse, delete_choice, delete_here, delete_owned}
 use Rattle.zn_updates.proofs.Plans.{choice-by_tree}
 use Rattle.zn_view.specs.Deciding.{IfPlanned, IsToldByForm, is_by_tree}
-use Rattle.zn_updates.specs.Deciding.{decision_of, IfMakes, IsBounded, IsBySound, IsDelete, IsGuarded, IsOwnerLookedUp, IsOwnerPaths, on_keys, owner_seen}
+use Rattle.zn_updates.specs.Deciding.{decision_of, IfMakes, IsBounded, IsBySound, IsDelete, IsGuarded, IsOwnerLookedUp, AreOwnerNodes, on_keys, owner_seen}
 use Rattle.zn_updates.specs.KeysRead.{owner_nodes, delete_keys, IsOwnerSeen}
-use Rattle.zn_updates.specs.Making.{IsDataSeen, IsCountsSeen, IsPathsSeen}
+use Rattle.zn_updates.specs.Making.{IsDataSeen, IsCountsSeen, IsNodesSeen}
 use Rattle.zn_updates.specs.Right.{IsRight}
-use Rattle.zn_updates.specs.Seen.{ShowsData, ShowsOwned}
+use Rattle.zn_updates.specs.Seen.{ShowsCounts, ShowsData, ShowsOwned}
 use Rattle.zn_updates.proofs.Clauses.{AreKeys, IsShortKey, makes_cond, by_form, by_sound, near_sees, planned, refused_plans}
 use Rattle.zn_updates.specs.Layers.{IsChosen, Shows}
 use Rattle.zn_updates.proofs.Deciding.{IsPart}
-use Rattle.zn_updates.proofs.DeleteRight.{delete_right}
+use Rattle.zn_updates.proofs.DeleteRight.{delete_right, plain_parent}
 use Rattle.zn_updates.proofs.Forms.{delete_refusal}
 use Rattle.zn_updates.proofs.NewKeys.{delete-new}
-use Rattle.zn_updates.proofs.WellMade.{delete-made, paths-listed, two_triggers}
-use Rattle.zn_updates.proofs.Meanings.{int_eq-apart, of_abs}
-use Rattle.zn_updates.proofs.Showing.{data-shown, counts-shown, paths-shown}
+use Rattle.zn_updates.proofs.WellMade.{delete-made, nodes-within, two_triggers}
+use Rattle.zn_updates.proofs.Meanings.{int_eq-apart, of_abs, plain_counted}
+use Rattle.zn_updates.proofs.Showing.{data-shown, counts-shown, nodes-shown, parent-shown}
 use Rattle.zn_updates.proofs.Telling.{shows, told}
 use Rattle.zx_base.proofs.Booleans.{and-split}
 
@@ -67,27 +68,21 @@ not_root : (p : Bytes) → not (same p root) ≡ true → p ≢ root
 not_root p h e = let t : same p root ≡ true = ap (λ (x : Bytes). same x root) e ∙ same-refl root in let f : not true ≡ true = sym (ap not t) ∙ h in cc
 
 -- the owner's nodes that were seen are those of its session
-module _ (v : View) (s : State) (sound : IsSound s) (z : ℤ) (shown : Shows z v s) (p : Bytes) (y : SeenData) (paths : Option (List Bytes)) where
-  by_session : (id : ℤ) → pos 0 ≤ℤ id → (x : Session) × (session_at id s ≡ Some x) → IsPathsSeen (sees v (SessionKey (nat_abs id))) paths → ShowsOwned paths (owned s.tree id)
-  by_session id least x seen_paths = subst (λ (o : ℤ). ShowsOwned paths (owned s.tree o)) (of_abs id least)
-      (paths-shown z v s shown (nat_abs id) x.0 paths (ap (λ (o : ℤ). session_at o s) (of_abs id least) ∙ x.1) seen_paths)
+module _ (v : View) (s : State) (sound : IsSound s) (z : ℤ) (shown : Shows z v s) where
+  by_session : (id : ℤ) → pos 0 ≤ℤ id → (nodes : Option SessionRec) → IsNodesSeen (sees v (SessionKey (nat_abs id))) nodes → (x : Session) → session_at id s ≡ Some x → ShowsOwned nodes x (owned s.tree id)
+  by_session id least nodes seen_nodes x opened = subst (λ (o : ℤ). ShowsOwned nodes x (owned s.tree o)) (of_abs id least)
+      (nodes-shown z v s shown (nat_abs id) x nodes (ap (λ (o : ℤ). session_at o s) (of_abs id least) ∙ opened) seen_nodes)
 
-  by_node : (n : Option Node) → get s.tree p ≡ n → ShowsData z (Some y) n → (y.owner ≡ pos 0 → ⊥) → IsPathsSeen (sees v (SessionKey (nat_abs y.owner))) paths → ShowsOwned paths (owned s.tree y.owner)
-  by_node None there shows owns seen_paths = absurd shows
-  by_node (Some n) there shows owns seen_paths =
-      let same_owner : y.owner ≡ n.owner = ap (λ (w : SeenData). w.owner) shows.is in
-      let session = sound.owners p n there (λ e. owns (same_owner ∙ e)) in
-      by_session y.owner shows.within.owner.least (session.0, ap (λ (o : ℤ). session_at o s) same_owner ∙ session.1) seen_paths
-
--- and no more than a session may own
-few_owned : (v : View) (s : State) → IsSound s → Shows (pos 0) v s → (p : Bytes) (y : SeenData) (ps : List Bytes) (n : Option Node) → get s.tree p ≡ n → ShowsData (pos 0) (Some y) n → (y.owner ≡ pos 0 → ⊥)
-    → IsPathsSeen (sees v (SessionKey (nat_abs y.owner))) (Some ps) → length ps ≤ max_owned
-few_owned v s sound shown p y ps None there shows owns seen_paths = absurd shows
-few_owned v s sound shown p y ps (Some n) there shows owns seen_paths =
+-- and no more than it may own
+few_owned : (v : View) (s : State) → IsSound s → Shows (pos 0) v s → (p : Bytes) (y : SeenData) (r : SessionRec) (n : Option Node) → get s.tree p ≡ n → ShowsData (pos 0) (Some y) n → (y.owner ≡ pos 0 → ⊥)
+    → IsNodesSeen (sees v (SessionKey (nat_abs y.owner))) (Some r) → length r.paths ≤ max_owned r.layout
+few_owned v s sound shown p y r None there shows owns seen_nodes = absurd shows
+few_owned v s sound shown p y r (Some n) there shows owns seen_nodes =
     let same_owner : y.owner ≡ n.owner = ap (λ (w : SeenData). w.owner) shows.is in
     let session = sound.owners p n there (λ e. owns (same_owner ∙ e)) in
-    let listed = by_node v s sound (pos 0) shown p y (Some ps) (Some n) there shows owns seen_paths in
-    subst (λ (l : List Bytes). length l ≤ max_owned) (sym listed.is) (sound.limited y.owner session.0 (ap (λ (o : ℤ). session_at o s) same_owner ∙ session.1))
+    let opened : session_at y.owner s ≡ Some session.0 = ap (λ (o : ℤ). session_at o s) same_owner ∙ session.1 in
+    let listed = by_session v s sound (pos 0) shown y.owner shows.within.owner.least (Some r) seen_nodes session.0 opened in
+    subst (λ (k : SessionRec). length k.paths ≤ max_owned k.layout) (sym listed.is) (sound.limited y.owner session.0 opened)
 
 module _ (p : Bytes) (version : ℤ) where
   pub delete_plain : plain_request no_watches (req.Delete p version) ≡ told_refusal no_watches (form_refusal (Delete p version))
@@ -104,35 +99,50 @@ module _ (p : Bytes) (version : ℤ) where
   unfolding tree_reply commit
   delete_part = record { told = λ t limit session. refl; done = λ s z session now. refl; after = λ s z session now. refl }
 
-  effect_is : (s : State) (session z : ℤ) (now : ℕ) → (is_path p && not (same p root)) ≡ true → single s.tree max_owned session (Delete p version) z now ≡ delete s.tree p version z (get s.tree p)
+  effect_is : (s : State) (limit : ℕ) (session z : ℤ) (now : ℕ) → (is_path p && not (same p root)) ≡ true → single s.tree limit session (Delete p version) z now ≡ delete s.tree p version z (get s.tree p)
   unfolding single effect
-  effect_is s session z now valid = ap (λ (o : Option ℤ). unless_refused o (delete s.tree p version z (get s.tree p))) (delete_refusal p version true valid)
+  effect_is s limit session z now valid = ap (λ (o : Option ℤ). unless_refused o (delete s.tree p version z (get s.tree p))) (delete_refusal p version true valid)
 
-  pub delete_bounds : (q : Bytes) (x : Option SeenData) (c a : Option SeenCounts) (paths : Option (List Bytes)) → IsTrue (is_path p) → IsTrue (is_path q) → IfMakes IsHeadRec (delete_choice p q version x c a paths)
+  pub delete_bounds : (q : Bytes) (x : Option SeenData) (c a : Option SeenCounts) (nodes : Option SessionRec) → IsTrue (is_path p) → IsTrue (is_path q) → IfMakes IsHeadRec (delete_choice p q version x c a nodes)
   unfolding delete_choice
-  delete_bounds q None c a paths valid also = tt
-  delete_bounds q (Some x) None a paths valid also = tt
-  delete_bounds q (Some x) (Some c) a paths valid also = makes_cond IsHeadRec (not (matches version x.version)) _ _ tt (makes_cond IsHeadRec (not (int_eq c.counts.children (pos 0))) _ _ tt (here a))
+  delete_bounds q None c a nodes valid also = tt
+  delete_bounds q (Some x) None a nodes valid also = tt
+  delete_bounds q (Some x) (Some c) a nodes valid also = makes_cond IsHeadRec (not (matches version x.version)) _ _ tt (makes_cond IsHeadRec (not (int_eq c.counts.children (pos 0))) _ _ tt (here a))
     where
-      owned_by : (o : Option (List Bytes)) (above : SeenCounts) → IfMakes IsHeadRec (delete_owned p q above.counts x.owner o)
+      owned_by : (o : Option SessionRec) (above : SeenCounts) → IfMakes IsHeadRec (delete_owned p q c.is_stored above.counts x.owner o)
       owned_by None above = tt
-      owned_by (Some ps) above = two_triggers (Deleted p) (Children q) valid also
+      owned_by (Some r) above = two_triggers (Deleted p) (Children q) valid also
 
-      here : (o : Option SeenCounts) → IfMakes IsHeadRec (delete_here p q x o paths)
+      here : (o : Option SeenCounts) → IfMakes IsHeadRec (delete_here p q x c.is_stored o nodes)
       here None = tt
-      here (Some above) = makes_cond IsHeadRec (int_eq x.owner (pos 0)) _ _ (two_triggers (Deleted p) (Children q) valid also) (owned_by paths above)
+      here (Some above) = makes_cond IsHeadRec (int_eq x.owner (pos 0)) _ _ (two_triggers (Deleted p) (Children q) valid also) (owned_by nodes above)
 
-  pub delete_chosen : (who : Who) (v : View) (q : Bytes) (x : Option SeenData) (c a : Option SeenCounts) (paths : Option (List Bytes)) → (is_path p && not (same p root)) ≡ true → parent p ≡ Some q
-      → IsDataSeen (sees v (DataKey p)) x → IsCountsSeen (sees v (CountsKey p)) c → IsCountsSeen (sees v (CountsKey q)) a → IsOwnerPaths v x paths
-      → IsChosen (Delete p version) who v (λ now. delete_choice p q version x c a paths)
-  delete_chosen who v q x c a paths valid below data_seen counts_seen above_seen owner_seen = record {
+  -- the parent of a node that is there has a record of its counts; where the node is not there, the parent's counts do not matter
+  above_shown : (s : State) (z : ℤ) (v : View) (q : Bytes) (a : Option SeenCounts) → IsSound s → Shows z v s → parent p ≡ Some q → IsCountsSeen None (sees v (CountsKey q)) a → (n : Option Node) → get s.tree p ≡ n
+      → IfSome n (λ _. ShowsCounts z a (get s.tree q) (num_children s.tree q) true)
+  above_shown s z v q a sound shown below seen_above None there = tt
+  above_shown s z v q a sound shown below seen_above (Some n) there =
+      let up = plain_parent s p q n sound below there in
+      subst (λ (u : Option Node). ShowsCounts z a u (num_children s.tree q) true) (sym up.there)
+      (parent-shown z v s shown q up.node a up.there (plain_counted s up.node sound up.plain) seen_above)
+
+  pub delete_chosen : (who : Who) (v : View) (q : Bytes) (x : Option SeenData) (c a : Option SeenCounts) (nodes : Option SessionRec) → (is_path p && not (same p root)) ≡ true → parent p ≡ Some q
+      → IsDataSeen (sees v (DataKey p)) x → IsCountsSeen x (sees v (CountsKey p)) c → IsCountsSeen None (sees v (CountsKey q)) a → AreOwnerNodes v x nodes
+      → IsChosen (Delete p version) who v (λ now. delete_choice p q version x c a nodes)
+  delete_chosen who v q x c a nodes valid below data_seen counts_seen above_seen owner_seen = record {
     right = λ s z now time sound shown y opened.
-        subst (IsRight z s (delete_choice p q version x c a paths)) (sym (effect_is s who.session z now valid))
-        (delete_right s p q version z sound below x c a paths (get s.tree p) refl (data-shown z v s shown p x data_seen) (counts-shown z v s shown p c counts_seen) (counts-shown z v s shown q a above_seen)
-        (λ w e owns. by_node v s sound z shown p w paths (get s.tree p) refl
-        (data-shown z v s shown p (Some w) (subst (IsDataSeen (sees v (DataKey p))) e data_seen)) owns (subst (λ (o : Option SeenData). IsOwnerPaths v o paths) e owner_seen owns)));
+        subst (IsRight z s (delete_choice p q version x c a nodes)) (sym (effect_is s (limit_of y) who.session z now valid))
+        (delete_right s p q version z sound below x c a nodes (get s.tree p) refl (data-shown z v s shown p x data_seen) (counts-shown z v s shown p x c data_seen counts_seen)
+        (above_shown s z v q a sound shown below above_seen (get s.tree p) refl)
+        (λ w e owns session opened_by.
+        let data_shown : ShowsData z (Some w) (get s.tree p) = data-shown z v s shown p (Some w) (subst (IsDataSeen (sees v (DataKey p))) e data_seen) in
+        by_session v s sound z shown w.owner (owner_least z w (get s.tree p) data_shown) nodes (subst (λ (o : Option SeenData). AreOwnerNodes v o nodes) e owner_seen owns) session opened_by));
     same_code = λ now. refl;
   }
+    where
+      owner_least : (z : ℤ) (w : SeenData) (n : Option Node) → ShowsData z (Some w) n → pos 0 ≤ℤ w.owner
+      owner_least z w None shows = absurd shows
+      owner_least z w (Some n) shows = shows.within.owner.least
 
   -- at a path without a parent there is no node but the root
   no_parent : (s : State) (z : ℤ) → IsSound s → p ≢ root → parent p ≡ None → (n : Option Node) → get s.tree p ≡ n → delete s.tree p version z n ≡ Refused no_node
@@ -141,7 +151,7 @@ module _ (p : Bytes) (version : ℤ) where
 
   pub orphan_chosen : (who : Who) (v : View) → (is_path p && not (same p root)) ≡ true → parent p ≡ None → IsChosen (Delete p version) who v (λ now. Refuse no_node)
   orphan_chosen who v valid none = record {
-    right = λ s z now time sound shown y opened. effect_is s who.session z now valid ∙ no_parent s z sound (not_root p (and-split _ _ valid).1) none (get s.tree p) refl;
+    right = λ s z now time sound shown y opened. effect_is s (limit_of y) who.session z now valid ∙ no_parent s z sound (not_root p (and-split _ _ valid).1) none (get s.tree p) refl;
     same_code = λ now. refl;
   }
 
@@ -290,31 +300,31 @@ module _ (p : Bytes) (version : ℤ) where
       chosen : IsChosen (Delete p version) who v choice
       chosen = delete_chosen who v q is.0 is.1 is.2 is.3 valid below is.4 is.5 is.6 is.7
 
-      near_owner : (x : Option SeenData) → is.0 ≡ x → IsOwnerPaths v x is.3 → IsOwnerPaths (on_keys v keys) x is.3
+      near_owner : (x : Option SeenData) → is.0 ≡ x → AreOwnerNodes v x is.3 → AreOwnerNodes (on_keys v keys) x is.3
       near_owner None e h = tt
-      near_owner (Some x) e h = λ owns. subst (λ (o : Option (Option Kv)). IsPathsSeen o is.3)
+      near_owner (Some x) e h = λ owns. subst (λ (o : Option (Option Kv)). IsNodesSeen o is.3)
           (sym (near_sees v keys (SessionKey (nat_abs x.owner)) (subst (λ (o : Option SeenData). In (SessionKey (nat_abs x.owner)) (delete_keys p (Some q) who.session (owner_seen o))) (sym e)
           (inr (inr (in_right (SessionKey (nat_abs x.owner)) (DataKey p ∷ CountsKey p ∷ CountsKey q ∷ []) (owner_nodes x.owner) (owner_in x.owner owns))))))) (h owns)
 
       near : IsChosen (Delete p version) who (on_keys v keys) choice
       near = delete_chosen who (on_keys v keys) q is.0 is.1 is.2 is.3 valid below
           (subst (λ (o : Option (Option Kv)). IsDataSeen o is.0) (sym (near_sees v keys (DataKey p) (inr (inr (inl refl))))) is.4)
-          (subst (λ (o : Option (Option Kv)). IsCountsSeen o is.1) (sym (near_sees v keys (CountsKey p) (inr (inr (inr (inl refl)))))) is.5)
-          (subst (λ (o : Option (Option Kv)). IsCountsSeen o is.2) (sym (near_sees v keys (CountsKey q) (inr (inr (inr (inr (inl refl))))))) is.6)
+          (subst (λ (o : Option (Option Kv)). IsCountsSeen is.0 o is.1) (sym (near_sees v keys (CountsKey p) (inr (inr (inr (inl refl)))))) is.5)
+          (subst (λ (o : Option (Option Kv)). IsCountsSeen None o is.2) (sym (near_sees v keys (CountsKey q) (inr (inr (inr (inr (inl refl))))))) is.6)
           (near_owner is.0 refl is.7)
 
-      few_paths : (y : SeenData) (ps : List Bytes) → is.0 ≡ Some y → int_eq y.owner (pos 0) ≡ false → is.3 ≡ Some ps → IsSessionRec ps × (IsBounded (req.Delete p version) v → length ps ≤ max_owned)
-      few_paths y ps e owns es =
+      few_nodes : (y : SeenData) (r : SessionRec) → is.0 ≡ Some y → int_eq y.owner (pos 0) ≡ false → is.3 ≡ Some r → IsSessionRec r × (IsBounded (req.Delete p version) v → length r.paths ≤ max_owned r.layout)
+      few_nodes y r e owns es =
           let apart = not_owned y.owner owns in
-          let seen_paths : IsPathsSeen (sees v (SessionKey (nat_abs y.owner))) (Some ps) =
-          subst (λ (o : Option (List Bytes)). IsPathsSeen (sees v (SessionKey (nat_abs y.owner))) o) es (subst (λ (o : Option SeenData). IsOwnerPaths v o is.3) e is.7 apart) in
+          let seen_nodes : IsNodesSeen (sees v (SessionKey (nat_abs y.owner))) (Some r) =
+          subst (λ (o : Option SessionRec). IsNodesSeen (sees v (SessionKey (nat_abs y.owner))) o) es (subst (λ (o : Option SeenData). AreOwnerNodes v o is.3) e is.7 apart) in
           let data_seen : IsDataSeen (sees v (DataKey p)) (Some y) = subst (IsDataSeen (sees v (DataKey p))) e is.4 in (
-            paths-listed (sees v (SessionKey (nat_abs y.owner))) ps seen_paths,
+            nodes-within (sees v (SessionKey (nat_abs y.owner))) r seen_nodes,
             λ bounded.
                 let s = bounded.0 in
                 let of = bounded.2 in
                 let shown = shows (pos 0) v of.0 s of.1 (told v of.0 (agrees-as_seen v of.0 of.2)) in
-                few_owned v s bounded.1 shown p y ps (get s.tree p) refl (data-shown (pos 0) v s shown p (Some y) data_seen) apart seen_paths,
+                few_owned v s bounded.1 shown p y r (get s.tree p) refl (data-shown (pos 0) v s shown p (Some y) data_seen) apart seen_nodes,
           )
 
       below_promised : IsToldByForm (req.Delete p version) d × IsBySound (req.Delete p version) who v d × IfPlanned (IsGuarded (req.Delete p version) who now v) d
@@ -322,7 +332,7 @@ module _ (p : Bytes) (version : ℤ) where
         by_form (req.Delete p version) (Delete p version) who v keys choice now delete_part chosen time real (delete_valid valid) d is.8,
         by_sound (req.Delete p version) (Delete p version) who v keys choice now delete_part chosen time real (delete_valid valid) d is.8,
         planned (req.Delete p version) (Delete p version) who v keys choice now delete_part chosen time real (delete_valid valid) d is.8 near (plan_keys who v q is.0 path below is.4) whole
-            (delete-made p q path below (IsBounded (req.Delete p version) v) version is.0 is.1 is.2 is.3 few_paths) (delete-new v p q who.session version is.0 is.1 is.2 is.3),
+            (delete-made p q path below (IsBounded (req.Delete p version) v) version is.0 is.1 is.2 is.3 few_nodes) (delete-new v p q who.session version is.0 is.1 is.2 is.3),
       )
 
     orphan_promised : parent p ≡ None → d ≡ decision_of v (Refuse no_node) → IsToldByForm (req.Delete p version) d × IsBySound (req.Delete p version) who v d × IfPlanned (IsGuarded (req.Delete p version) who now v) d

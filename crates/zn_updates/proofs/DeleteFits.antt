@@ -1,5 +1,5 @@
 -- The changes of a delete fit it.
-use Rattle.std.proofs.Common.{◌≡◌, ◌≢◌, ℕ, ℤ, pos, ◌-◌, true, false, cond, List, [], ◌∷◌, ◌++◌, Option, Some, None, refl, sym, ap, ◌∙◌, subst, ⊎_elim, arith}
+use Rattle.std.proofs.Common.{◌≡◌, ◌≢◌, ℕ, ℤ, pos, ◌-◌, Bool, true, false, cond, List, [], ◌∷◌, ◌++◌, Option, Some, None, refl, sym, ap, ◌∙◌, subst, ⊎_elim, arith}
 use Rattle.std.specs.Prelude.{◌≤ℤ◌, nat_abs, nat_eq}
 use Rattle.std.specs.Ordering.{int_eq}
 use Rattle.std.specs.FinMap.{get}
@@ -13,20 +13,21 @@ use Rattle.zk_model.specs.Znodes.{num_children, owned}
 use Rattle.zk_service.specs.States.{State, Session, IsSound, session_at}
 use Rattle.zk_service.proofs.Owned.{not_zero}
 use Rattle.zn_layout.specs.declared.record.CountRec.{CountRec}
-use Rattle.zn_layout.specs.Changes.{Put, last, put_or_else}
+use Rattle.zn_layout.specs.declared.record.SessionRec.{SessionRec}
+use Rattle.zn_layout.specs.Changes.{KeyChange, Put, last, put_or_else}
 use Rattle.zn_layout.specs.Fits.{KeyFits, ChangesFit}
 use Rattle.zn_layout.specs.Keys.{Key, HeadKey, DataKey, CountsKey, SessionKey, LeaseKey}
-use Rattle.zn_layout.specs.Records.{counts_value, session_value, IsCountRec, IsSessionRec}
-use Rattle.zn_layout.specs.StandsFor.{counts_record, IsCounts, NodesMean}
+use Rattle.zn_layout.specs.Records.{counts_value, session_value, ArePaths, IsCountRec, IsSessionRec}
+use Rattle.zn_layout.specs.StandsFor.{Stored, counts_record, is_counted_in, nodes_record, CountsMean, IsCounts, Means, NodesMean}
 use Rattle.zn_updates.specs.declared.seen.SeenCounts.{SeenCounts}
 use Rattle.zn_layout.specs.Counts.{one_less}
 use Rattle.zn_updates.specs.Choices.{delete_changes, put_owned}
-use Rattle.zn_updates.specs.OwnedLists.{without}
+use Rattle.zn_updates.specs.OwnedLists.{without, without_node}
 use Rattle.zn_updates.specs.Right.{with_tree}
-use Rattle.zn_updates.specs.Seen.{IsSeenCounts, IsSeenPaths}
+use Rattle.zn_updates.specs.Seen.{IsSeenCounts}
 use Rattle.zn_updates.proofs.Deleting.{delete_tree, delete_gone, delete_parent, delete_other, delete_count_parent, delete_count_other}
 use Rattle.zn_updates.proofs.ListBounds.{without-within}
-use Rattle.zn_updates.proofs.Meanings.{data_along, data_same, counts_along, nodes_along, int_eq-apart, session_is, session_other}
+use Rattle.zn_updates.proofs.Meanings.{counted_along, counts_along, data_along, data_same, int_eq-apart, nodes_along, plain_counted, session_is, session_other, uncounted_none}
 use Rattle.zn_updates.proofs.OwnedLists.{owned-delete, owned-delete_other}
 
 pub one_less-within : (c : CountRec) → IsCountRec c → IsCountRec (one_less c)
@@ -36,7 +37,7 @@ one_less-within c within =
     record { children = omega (arith, ints); fewer = omega (arith, ints); creates = within.creates }
 
 module _ (s : State) (p q : Bytes) (z : ℤ) (up node : Node) (above : SeenCounts) (sound : IsSound s) (below_q : parent p ≡ Some q)
-    (there : get s.tree q ≡ Some up) (here : get s.tree p ≡ Some node) (plain : up.owner ≡ pos 0) (seen : IsSeenCounts z above up (num_children s.tree q)) where
+    (there : get s.tree q ≡ Some up) (here : get s.tree p ≡ Some node) (plain : up.owner ≡ pos 0) (d : Bool) (seen : IsSeenCounts z above up (num_children s.tree q) d) where
   abbrev less : Node
   less = without_child up z
 
@@ -73,10 +74,13 @@ module _ (s : State) (p q : Bytes) (z : ℤ) (up node : Node) (above : SeenCount
   abbrev put_less : Option (Option Put)
   put_less = Some (Some (record { value = counts_value (one_less above.counts); lease = pos 0 }))
 
+  abbrev stored_less : Stored
+  stored_less = record { value = counts_value (one_less above.counts); revision = z; lease = pos 0 }
+
   same_counts : one_less above.counts ≡ counts_record less (num_children s.tree q - 1)
   same_counts = ap one_less seen.is
 
-  less_counts : IsCounts (record { value = counts_value (one_less above.counts); revision = z; lease = pos 0 }) less (num_children s.tree q - 1)
+  less_counts : IsCounts stored_less less (num_children s.tree q - 1)
   less_counts = record {
     fits = subst IsCountRec same_counts (one_less-within above.counts seen.within);
     value = ap counts_value same_counts;
@@ -84,13 +88,46 @@ module _ (s : State) (p q : Bytes) (z : ℤ) (up node : Node) (above : SeenCount
     free = refl;
   }
 
-  counts_fit : (r : Bytes) → KeyFits z (put_or_else (put_or_else (cond (same r q) put_less None) (cond (same r p) (Some None) None)) None) (CountsKey r) s new
-  counts_fit r = elim (same r q) as (λ b. same r q ≡ b → KeyFits z (put_or_else (put_or_else (cond b put_less None) (cond (same r p) (Some None) None)) None) (CountsKey r) s new) [
-    | true ↦ λ h. counts_along _ (Some less) (get new.tree r) (num_children s.tree q - 1) (num_children new.tree r) (ap (get new.tree) (same-true r q h) ∙ parent_here) (ap (num_children new.tree) (same-true r q h) ∙ count_parent) less_counts
+  -- the counts of the node at r, in the new tree
+  abbrev NewCounts : Bytes → Option Stored → Type 0
+  NewCounts r o = Means new (CountsKey r) o
+
+  at_parent : (r : Bytes) → r ≡ q → NewCounts r (Some stored_less)
+  at_parent r e =
+      let there_now : get new.tree r ≡ Some less = ap (get new.tree) e ∙ parent_here in
+      counts_along (Some stored_less) (Some less) (get new.tree r) (num_children s.tree q - 1) (num_children new.tree r) true (is_counted_in new (get new.tree r)) there_now (ap (num_children new.tree) e ∙ count_parent)
+      (counted_along s new.tree (Some less) (get new.tree r) there_now ∙ plain_counted s less sound plain) less_counts
+
+  at_gone : (r : Bytes) → r ≡ p → (o : Option Stored) → CountsMean None (num_children new.tree r) (is_counted_in new (get new.tree r)) o → NewCounts r o
+  at_gone r e o means = counts_along o None (get new.tree r) (num_children new.tree r) (num_children new.tree r) (is_counted_in new (get new.tree r)) (is_counted_in new (get new.tree r)) (ap (get new.tree) e ∙ gone_here) refl refl means
+
+  elsewhere : (r : Bytes) → r ≢ p → r ≢ q → (o : Option Stored) → Means s (CountsKey r) o → NewCounts r o
+  elsewhere r np nq o was =
+      let there_now : get new.tree r ≡ get s.tree r = other_here r np nq in
+      counts_along o (get s.tree r) (get new.tree r) (num_children s.tree r) (num_children new.tree r) (is_counted_in s (get s.tree r)) (is_counted_in new (get new.tree r)) there_now (count_other r nq) (counted_along s new.tree (get s.tree r) (get new.tree r) there_now) was
+
+  -- what was under the key of the node's counts, if they had no record: nothing
+  was_uncounted : is_counted_in s (Some node) ≡ false → (r : Bytes) → r ≡ p → (o : Option Stored) → Means s (CountsKey r) o → CountsMean (Some node) (num_children s.tree r) false o
+  was_uncounted c r e o was =
+      let was_there : Some node ≡ get s.tree r = sym (ap (get s.tree) e ∙ here) in
+      counts_along o (get s.tree r) (Some node) (num_children s.tree r) (num_children s.tree r) (is_counted_in s (get s.tree r)) false was_there refl (sym c ∙ ap (is_counted_in s) was_there) was
+
+  counted_fit : (r : Bytes) → KeyFits z (put_or_else (put_or_else (cond (same r q) put_less None) (cond (same r p) (Some None) None)) None) (CountsKey r) s new
+  counted_fit r = elim (same r q) as (λ b. same r q ≡ b → KeyFits z (put_or_else (put_or_else (cond b put_less None) (cond (same r p) (Some None) None)) None) (CountsKey r) s new) [
+    | true ↦ λ h. at_parent r (same-true r q h)
     | false ↦ λ h. elim (same r p) as (λ b. same r p ≡ b → KeyFits z (put_or_else (put_or_else None (cond b (Some None) None)) None) (CountsKey r) s new) [
-      | true ↦ λ g. counts_along None None (get new.tree r) (num_children new.tree r) (num_children new.tree r) (ap (get new.tree) (same-true r p g) ∙ gone_here) refl tt
-      | false ↦ λ g o was. counts_along o (get s.tree r) (get new.tree r) (num_children s.tree r) (num_children new.tree r) (other_here r (apart-from_same r p g) (apart-from_same r q h)) (count_other r (apart-from_same r q h)) was
+      | true ↦ λ g. at_gone r (same-true r p g) None tt
+      | false ↦ λ g. elsewhere r (apart-from_same r p g) (apart-from_same r q h)
     ] refl
+  ] refl
+
+  uncounted_fit : is_counted_in s (Some node) ≡ false → (r : Bytes) → KeyFits z (put_or_else (cond (same r q) put_less None) None) (CountsKey r) s new
+  uncounted_fit c r = elim (same r q) as (λ b. same r q ≡ b → KeyFits z (put_or_else (cond b put_less None) None) (CountsKey r) s new) [
+    | true ↦ λ h. at_parent r (same-true r q h)
+    | false ↦ λ h o was. ⊎_elim
+        (λ e. at_gone r e o (uncounted_none o node (num_children s.tree r) (num_children new.tree r) (is_counted_in new (get new.tree r)) (was_uncounted c r e o was)))
+        (λ n. elsewhere r n (apart-from_same r q h) o was)
+        (either r p)
   ] refl
 
   -- ---- the sessions' keys
@@ -109,50 +146,92 @@ module _ (s : State) (p q : Bytes) (z : ℤ) (up node : Node) (above : SeenCount
   not_owned : node.owner ≡ pos 0 → (id : ℕ) (y : Session) → session_at (pos id) s ≡ Some y → node.owner ≡ pos id → ⊥
   not_owned free id y opened mine = let real = sound.numbered (pos id) y opened in omega (arith, ints)
 
-  plain_each : node.owner ≡ pos 0 → (k : Key) → KeyFits z (last (delete_changes p q above.counts) k) k s new
-  plain_each free HeadKey = λ o h. h
-  plain_each free (DataKey r) = data_fits r
-  plain_each free (CountsKey r) = counts_fit r
-  plain_each free (SessionKey id) = nodes_stay id (not_owned free id)
-  plain_each free (LeaseKey id) = λ o h. h
+  plain_each : (b : Bool) → is_counted_in s (Some node) ≡ b → node.owner ≡ pos 0 → (k : Key) → KeyFits z (last (delete_changes p q b above.counts) k) k s new
+  plain_each true c free HeadKey = λ o h. h
+  plain_each true c free (DataKey r) = data_fits r
+  plain_each true c free (CountsKey r) = counted_fit r
+  plain_each true c free (SessionKey id) = nodes_stay id (not_owned free id)
+  plain_each true c free (LeaseKey id) = λ o h. h
+  plain_each false c free HeadKey = λ o h. h
+  plain_each false c free (DataKey r) = data_fits r
+  plain_each false c free (CountsKey r) = uncounted_fit c r
+  plain_each false c free (SessionKey id) = nodes_stay id (not_owned free id)
+  plain_each false c free (LeaseKey id) = λ o h. h
 
   -- the delete of a node without an owner
-  pub delete_fits : node.owner ≡ pos 0 → ChangesFit z (delete_changes p q above.counts) s new
-  delete_fits free = record { each = plain_each free }
+  pub delete_fits : (b : Bool) → is_counted_in s (Some node) ≡ b → node.owner ≡ pos 0 → ChangesFit z (delete_changes p q b above.counts) s new
+  delete_fits b c free = record { each = plain_each b c free }
+
+  pub plain_headless : (b : Bool) → last (delete_changes p q b above.counts) HeadKey ≡ None
+  plain_headless true = refl
+  plain_headless false = refl
 
   -- the delete of a session's node
-  module _ (session : Session) (opened : session_at node.owner s ≡ Some session) (paths : List Bytes) (listed : IsSeenPaths paths (owned s.tree node.owner)) where
+  module _ (session : Session) (opened : session_at node.owner s ≡ Some session) (listed : ArePaths (owned s.tree node.owner)) where
     real : pos 1 ≤ℤ node.owner
     real = sound.numbered node.owner session opened
 
-    counted : pos 0 ≤ℤ node.owner
-    counted = let h = real in omega (arith, ints, h)
+    least : pos 0 ≤ℤ node.owner
+    least = let h = real in omega (arith, ints, h)
 
-    abbrev put_paths : Option (Option Put)
-    put_paths = Some (Some (record { value = session_value (without p paths); lease = pos 0 }))
+    -- the nodes of the session before it
+    abbrev nodes : SessionRec
+    nodes = nodes_record session (owned s.tree node.owner)
 
-    same_paths : without p paths ≡ owned new.tree node.owner
-    same_paths = ap (without p) listed.is ∙ sym (owned-delete s.tree p q up less node below_q there here node.owner (plain_up node.owner real) (plain_up node.owner real))
+    abbrev put_nodes : Option (Option Put)
+    put_nodes = Some (Some (record { value = session_value (without_node p nodes); lease = pos 0 }))
 
-    at_owner : NodesMean (Some session) (owned new.tree node.owner) (Some (record { value = session_value (without p paths); revision = z; lease = pos 0 }))
-    at_owner = record { fits = subst IsSessionRec same_paths (without-within p paths listed.within); value = ap session_value same_paths; free = refl }
+    abbrev stored_nodes : Stored
+    stored_nodes = record { value = session_value (without_node p nodes); revision = z; lease = pos 0 }
 
-    owner_key : (id : ℕ) → pos id ≡ node.owner → NodesMean (session_at (pos id) s) (owned new.tree (pos id)) (Some (record { value = session_value (without p paths); revision = z; lease = pos 0 }))
-    owner_key id e = subst (λ (n : ℤ). NodesMean (session_at n s) (owned new.tree n) (Some (record { value = session_value (without p paths); revision = z; lease = pos 0 }))) (sym e)
-        (subst (λ (y : Option Session). NodesMean y (owned new.tree node.owner) (Some (record { value = session_value (without p paths); revision = z; lease = pos 0 }))) (sym opened) at_owner)
+    same_nodes : without_node p nodes ≡ nodes_record session (owned new.tree node.owner)
+    same_nodes = ap (nodes_record session) (sym (owned-delete s.tree p q up less node below_q there here node.owner (plain_up node.owner real) (plain_up node.owner real)))
 
-    nodes_fit : (id : ℕ) → KeyFits z (put_or_else (put_or_else (put_or_else (cond (nat_eq id (nat_abs node.owner)) put_paths None) None) None) None) (SessionKey id) s new
-    nodes_fit id = elim (nat_eq id (nat_abs node.owner)) as (λ b. nat_eq id (nat_abs node.owner) ≡ b → KeyFits z (put_or_else (put_or_else (put_or_else (cond b put_paths None) None) None) None) (SessionKey id) s new) [
-      | true ↦ λ h. owner_key id (session_is id node.owner counted h)
+    at_owner : NodesMean (Some session) (owned new.tree node.owner) (Some stored_nodes)
+    at_owner = record { fits = subst IsSessionRec same_nodes (without-within p (owned s.tree node.owner) listed); value = ap session_value same_nodes; free = refl }
+
+    owner_key : (id : ℕ) → pos id ≡ node.owner → NodesMean (session_at (pos id) s) (owned new.tree (pos id)) (Some stored_nodes)
+    owner_key id e = subst (λ (n : ℤ). NodesMean (session_at n s) (owned new.tree n) (Some stored_nodes)) (sym e)
+        (subst (λ (y : Option Session). NodesMean y (owned new.tree node.owner) (Some stored_nodes)) (sym opened) at_owner)
+
+    nodes_fit : (id : ℕ) → KeyFits z (cond (nat_eq id (nat_abs node.owner)) put_nodes None) (SessionKey id) s new
+    nodes_fit id = elim (nat_eq id (nat_abs node.owner)) as (λ b. nat_eq id (nat_abs node.owner) ≡ b → KeyFits z (cond b put_nodes None) (SessionKey id) s new) [
+      | true ↦ λ h. owner_key id (session_is id node.owner least h)
       | false ↦ λ h. nodes_stay id (λ y e. session_other id node.owner h)
     ] refl
 
-    owned_each : (k : Key) → KeyFits z (last (delete_changes p q above.counts ++ put_owned node.owner (without p paths) ∷ []) k) k s new
-    owned_each HeadKey = λ o h. h
-    owned_each (DataKey r) = data_fits r
-    owned_each (CountsKey r) = counts_fit r
-    owned_each (SessionKey id) = nodes_fit id
-    owned_each (LeaseKey id) = λ o h. h
+    -- an update's other changes do not write the list of nodes
+    alone : (w : Option (Option Put)) → put_or_else w None ≡ w
+    alone None = refl
+    alone (Some x) = refl
 
-    pub delete_owned_fits : ChangesFit z (delete_changes p q above.counts ++ put_owned node.owner (without p paths) ∷ []) s new
-    delete_owned_fits = record { each = owned_each }
+    abbrev Changes : Bool → List KeyChange
+    Changes b = delete_changes p q b above.counts ++ put_owned node.owner (without_node p nodes) ∷ []
+
+    nodes_written : (b : Bool) (id : ℕ) → last (Changes b) (SessionKey id) ≡ cond (nat_eq id (nat_abs node.owner)) put_nodes None
+    nodes_written true id = ap (λ (w : Option (Option Put)). put_or_else (put_or_else w None) None) (alone (cond (nat_eq id (nat_abs node.owner)) put_nodes None))
+        ∙ ap (λ (w : Option (Option Put)). put_or_else w None) (alone (cond (nat_eq id (nat_abs node.owner)) put_nodes None)) ∙ alone (cond (nat_eq id (nat_abs node.owner)) put_nodes None)
+    nodes_written false id = ap (λ (w : Option (Option Put)). put_or_else w None) (alone (cond (nat_eq id (nat_abs node.owner)) put_nodes None)) ∙ alone (cond (nat_eq id (nat_abs node.owner)) put_nodes None)
+
+    owned_nodes : (b : Bool) (id : ℕ) → KeyFits z (last (Changes b) (SessionKey id)) (SessionKey id) s new
+    owned_nodes b id = subst (λ (w : Option (Option Put)). KeyFits z w (SessionKey id) s new) (sym (nodes_written b id)) (nodes_fit id)
+
+    owned_each : (b : Bool) → is_counted_in s (Some node) ≡ b → (k : Key) → KeyFits z (last (Changes b) k) k s new
+    owned_each true c HeadKey = λ o h. h
+    owned_each true c (DataKey r) = data_fits r
+    owned_each true c (CountsKey r) = counted_fit r
+    owned_each true c (SessionKey id) = owned_nodes true id
+    owned_each true c (LeaseKey id) = λ o h. h
+    owned_each false c HeadKey = λ o h. h
+    owned_each false c (DataKey r) = data_fits r
+    owned_each false c (CountsKey r) = uncounted_fit c r
+    owned_each false c (SessionKey id) = owned_nodes false id
+    owned_each false c (LeaseKey id) = λ o h. h
+
+    pub delete_owned_fits : (b : Bool) → is_counted_in s (Some node) ≡ b → ChangesFit z (Changes b) s new
+    delete_owned_fits b c = record { each = owned_each b c }
+
+    -- the head is none of them
+    pub owned_headless : (b : Bool) → last (Changes b) HeadKey ≡ None
+    owned_headless true = refl
+    owned_headless false = refl

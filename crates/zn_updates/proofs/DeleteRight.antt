@@ -1,5 +1,6 @@
 -- The choice of a delete, by records that show the node, its parent and its owner, is what the delete comes to.
 use Rattle.std.proofs.Common.{◌≡◌, ℕ, ℤ, pos, Bool, true, false, cond, not, List, Option, Some, None, refl, sym, ap, ◌∙◌, subst, arith, eqb}
+use Rattle.std.specs.Prelude.{IfSome}
 use Rattle.std.specs.Ordering.{int_eq}
 use Rattle.std.specs.FinMap.{get}
 use Rattle.std.proofs.lemmas.Bool.{true≢false}
@@ -13,16 +14,19 @@ use Rattle.zk_model.specs.Codes.{bad_version, not_empty}
 use Rattle.zk_model.specs.Paths.{parent}
 use Rattle.zk_model.specs.Single.{Outcome, Refused, Done, matches, delete, removed, removed_under, removal, removal_under, at_parent, without_child}
 use Rattle.zk_model.specs.Znodes.{Tree, num_children, owned}
-use Rattle.zk_service.specs.States.{State, IsSound, HasPlain}
+use Rattle.zk_service.specs.States.{State, Session, IsSound, HasPlain, session_at}
 use Rattle.zk_service.proofs.Children.{not_root}
 use Rattle.zn_layout.specs.declared.record.CountRec.{CountRec}
+use Rattle.zn_layout.specs.declared.record.SessionRec.{SessionRec}
+use Rattle.zn_layout.specs.Records.{IsSessionRec}
+use Rattle.zn_layout.specs.StandsFor.{is_counted_in, nodes_record}
 use Rattle.zn_updates.specs.declared.seen.SeenData.{SeenData}
 use Rattle.zn_updates.specs.declared.seen.SeenCounts.{SeenCounts}
-use Rattle.zn_updates.specs.Seen.{IsSeenData, IsSeenCounts, IsSeenPaths, ShowsData, ShowsCounts, ShowsOwned}
+use Rattle.zn_updates.specs.Seen.{IsSeenData, IsSeenCounts, ShowsData, ShowsCounts, ShowsOwned}
 use Rattle.zn_updates.specs.Choices.{Choice, Refuse, Make, delete_changes, delete_triggers, delete_owned, delete_here, delete_choice}
 use Rattle.zn_updates.specs.Right.{IsRight}
 use Rattle.zn_updates.proofs.Deleting.{delete_tree}
-use Rattle.zn_updates.proofs.DeleteFits.{delete_fits, delete_owned_fits}
+use Rattle.zn_updates.proofs.DeleteFits.{delete_fits, delete_owned_fits, owned_headless, plain_headless}
 use Rattle.zx_base.proofs.Booleans.{same-from_int_eq as int_eq-is, same-int as int_eq-same}
 
 is_zero : (n : ℕ) → int_eq (pos n) (pos 0) ≡ eqb n 0
@@ -51,47 +55,56 @@ module _ (s : State) (p q : Bytes) (version z : ℤ) (sound : IsSound s) (below 
     same_owner : x.owner ≡ n.owner
     same_owner = ap (λ (y : SeenData). y.owner) seen.is
 
-    module _ (above : SeenCounts) (counted : IsSeenCounts z above up.node (num_children s.tree q)) where
+    -- the node has a record of its counts, or none
+    module _ (b : Bool) (stored : is_counted_in s (Some n) ≡ b) (above : SeenCounts) (d : Bool) (counted : IsSeenCounts z above up.node (num_children s.tree q) d) where
       abbrev done : Outcome
       done = Done result.Deleted (removed s.tree p z) (removal p)
 
-      plain : int_eq x.owner (pos 0) ≡ true → IsRight z s (Make (delete_changes p q above.counts) (delete_triggers p q) result.Deleted) done
+      plain : int_eq x.owner (pos 0) ≡ true → IsRight z s (Make (delete_changes p q b above.counts) (delete_triggers p q) result.Deleted) done
       plain free = record {
         tree = left;
         done = λ i. Done result.Deleted (same_tree i) (same_triggers i);
-        fits = delete_fits s p q z up.node n above sound below up.there here up.plain counted (sym same_owner ∙ int_eq-is x.owner (pos 0) free);
-        headless = refl;
+        fits = delete_fits s p q z up.node n above sound below up.there here up.plain d counted b stored (sym same_owner ∙ int_eq-is x.owner (pos 0) free);
+        headless = plain_headless s p q z up.node n above sound below up.there here up.plain d counted b;
       }
 
-      from_owner : (paths : List Bytes) → (n.owner ≡ pos 0 → ⊥) → IsSeenPaths paths (owned s.tree n.owner) → IsRight z s (delete_owned p q above.counts n.owner (Some paths)) done
-      from_owner paths has_owner listed =
-          let session = sound.owners p n here has_owner in
-          record {
+      -- the session that owns the node
+      owner_of : (n.owner ≡ pos 0 → ⊥) → (y : Session) × (session_at n.owner s ≡ Some y)
+      owner_of has_owner = sound.owners p n here has_owner
+
+      from_owner : (y : Session) → session_at n.owner s ≡ Some y → (listed : SessionRec) → ShowsOwned (Some listed) y (owned s.tree n.owner) → IsRight z s (delete_owned p q b above.counts n.owner (Some listed)) done
+      from_owner y opened listed shows =
+          let paths = subst IsSessionRec shows.is shows.within in
+          subst (λ (k : SessionRec). IsRight z s (delete_owned p q b above.counts n.owner (Some k)) done) (sym shows.is) (record {
             tree = left;
             done = λ i. Done result.Deleted (same_tree i) (same_triggers i);
-            fits = delete_owned_fits s p q z up.node n above sound below up.there here up.plain counted session.0 session.1 paths listed;
-            headless = refl;
-          }
+            fits = delete_owned_fits s p q z up.node n above sound below up.there here up.plain d counted y opened paths b stored;
+            headless = owned_headless s p q z up.node n above sound below up.there here up.plain d counted y opened paths b;
+          })
 
-      by_paths : (paths : Option (List Bytes)) → (x.owner ≡ pos 0 → ⊥) → ShowsOwned paths (owned s.tree x.owner) → IsRight z s (delete_owned p q above.counts x.owner paths) done
-      by_paths None has_owner shows = absurd shows
-      by_paths (Some paths) has_owner shows =
-          subst (λ (o : ℤ). IsRight z s (delete_owned p q above.counts o (Some paths)) done) (sym same_owner)
-          (from_owner paths (λ e. has_owner (same_owner ∙ e)) (subst (λ (o : ℤ). IsSeenPaths paths (owned s.tree o)) same_owner shows))
+      by_nodes : (listed : Option SessionRec) → (x.owner ≡ pos 0 → ⊥) → ((y : Session) → session_at x.owner s ≡ Some y → ShowsOwned listed y (owned s.tree x.owner)) → IsRight z s (delete_owned p q b above.counts x.owner listed) done
+      by_nodes None has_owner shows =
+          let session = owner_of (λ e. has_owner (same_owner ∙ e)) in
+          absurd (shows session.0 (ap (λ (o : ℤ). session_at o s) same_owner ∙ session.1))
+      by_nodes (Some listed) has_owner shows =
+          let session = owner_of (λ e. has_owner (same_owner ∙ e)) in
+          subst (λ (o : ℤ). IsRight z s (delete_owned p q b above.counts o (Some listed)) done) (sym same_owner)
+          (from_owner session.0 session.1 listed (subst (λ (o : ℤ). ShowsOwned (Some listed) session.0 (owned s.tree o)) same_owner (shows session.0 (ap (λ (o : ℤ). session_at o s) same_owner ∙ session.1))))
 
-      deletes : (paths : Option (List Bytes)) → ((x.owner ≡ pos 0 → ⊥) → ShowsOwned paths (owned s.tree x.owner)) → IsRight z s (delete_here p q x (Some above) paths) done
-      deletes paths shows = elim (int_eq x.owner (pos 0)) as (λ b. int_eq x.owner (pos 0) ≡ b → IsRight z s (cond b (Make (delete_changes p q above.counts) (delete_triggers p q) result.Deleted) (delete_owned p q above.counts x.owner paths)) done) [
+      deletes : (listed : Option SessionRec) → ((x.owner ≡ pos 0 → ⊥) → (y : Session) → session_at x.owner s ≡ Some y → ShowsOwned listed y (owned s.tree x.owner)) → IsRight z s (delete_here p q x b (Some above) listed) done
+      deletes listed shows = elim (int_eq x.owner (pos 0)) as (λ c. int_eq x.owner (pos 0) ≡ c → IsRight z s (cond c (Make (delete_changes p q b above.counts) (delete_triggers p q) result.Deleted) (delete_owned p q b above.counts x.owner listed)) done) [
         | true ↦ plain
         | false ↦ λ e.
             let has_owner : x.owner ≡ pos 0 → ⊥ = λ free. true≢false (sym (int_eq-same x.owner (pos 0) free) ∙ e) in
-            by_paths paths has_owner (shows has_owner)
+            by_nodes listed has_owner (shows has_owner)
       ] refl
 
-    by_parent : (above : Option SeenCounts) (u : Option Node) → u ≡ Some up.node → ShowsCounts z above u (num_children s.tree q) → (paths : Option (List Bytes)) → ((x.owner ≡ pos 0 → ⊥) → ShowsOwned paths (owned s.tree x.owner)) →
-        IsRight z s (delete_here p q x above paths) (Done result.Deleted (removed s.tree p z) (removal p))
-    by_parent above None is counted paths shows = absurd (cc)
-    by_parent None (Some w) is counted paths shows = absurd counted
-    by_parent (Some c) (Some w) is counted paths shows = deletes c (subst (λ (y : Node). IsSeenCounts z c y (num_children s.tree q)) (some_is is) counted) paths shows
+    by_parent : (b : Bool) → is_counted_in s (Some n) ≡ b → (above : Option SeenCounts) (u : Option Node) (d : Bool) → u ≡ Some up.node → ShowsCounts z above u (num_children s.tree q) d → (listed : Option SessionRec)
+        → ((x.owner ≡ pos 0 → ⊥) → (y : Session) → session_at x.owner s ≡ Some y → ShowsOwned listed y (owned s.tree x.owner))
+        → IsRight z s (delete_here p q x b above listed) (Done result.Deleted (removed s.tree p z) (removal p))
+    by_parent b stored above None d is counted listed shows = absurd (cc)
+    by_parent b stored None (Some w) d is counted listed shows = absurd counted
+    by_parent b stored (Some c) (Some w) d is counted listed shows = deletes b stored c d (subst (λ (y : Node). IsSeenCounts z c y (num_children s.tree q) d) (some_is is) counted) listed shows
 
     -- the tests of the version and of the children
     tests : (made : Choice) (done : Outcome) → IsRight z s made done → (b e : Bool) →
@@ -100,24 +113,24 @@ module _ (s : State) (p q : Bytes) (version z : ℤ) (sound : IsSound s) (below 
     tests made over right true false = refl
     tests made over right true true = right
 
-    delete_with : (c : SeenCounts) → IsSeenCounts z c n (num_children s.tree p) → (above : Option SeenCounts) → ShowsCounts z above (get s.tree q) (num_children s.tree q)
-        → (paths : Option (List Bytes)) → ((x.owner ≡ pos 0 → ⊥) → ShowsOwned paths (owned s.tree x.owner))
-        → IsRight z s (delete_choice p q version (Some x) (Some c) above paths) (delete s.tree p version z (Some n))
+    delete_with : (c : SeenCounts) → IsSeenCounts z c n (num_children s.tree p) (is_counted_in s (Some n)) → (above : Option SeenCounts) (d : Bool) → ShowsCounts z above (get s.tree q) (num_children s.tree q) d
+        → (listed : Option SessionRec) → ((x.owner ≡ pos 0 → ⊥) → (y : Session) → session_at x.owner s ≡ Some y → ShowsOwned listed y (owned s.tree x.owner))
+        → IsRight z s (delete_choice p q version (Some x) (Some c) above listed) (delete s.tree p version z (Some n))
     unfolding delete_choice
-    delete_with c own above counted paths shows =
+    delete_with c own above d counted listed shows =
         let same_version : x.version ≡ n.version = ap (λ (y : SeenData). y.version) seen.is in
         let same_count : int_eq c.counts.children (pos 0) ≡ eqb (num_children s.tree p) 0 = ap (λ (k : CountRec). int_eq k.children (pos 0)) own.is ∙ is_zero (num_children s.tree p) in
-        subst (λ (t : ℤ × Bool). IsRight z s (cond (not (matches version t.0)) (Refuse bad_version) (cond (not t.1) (Refuse not_empty) (delete_here p q x above paths))) (delete s.tree p version z (Some n)))
+        subst (λ (t : ℤ × Bool). IsRight z s (cond (not (matches version t.0)) (Refuse bad_version) (cond (not t.1) (Refuse not_empty) (delete_here p q x c.is_stored above listed))) (delete s.tree p version z (Some n)))
         (λ i. (sym same_version i, sym same_count i))
-        (tests (delete_here p q x above paths) (Done result.Deleted (removed s.tree p z) (removal p)) (by_parent above (get s.tree q) up.there counted paths shows) (matches version n.version) (eqb (num_children s.tree p) 0))
+        (tests (delete_here p q x c.is_stored above listed) (Done result.Deleted (removed s.tree p z) (removal p)) (by_parent c.is_stored (sym own.stored) above (get s.tree q) d up.there counted listed shows) (matches version n.version) (eqb (num_children s.tree p) 0))
 
-  pub delete_right : (x : Option SeenData) (c above : Option SeenCounts) (paths : Option (List Bytes)) (n : Option Node) → get s.tree p ≡ n
-      → ShowsData z x n → ShowsCounts z c n (num_children s.tree p) → ShowsCounts z above (get s.tree q) (num_children s.tree q)
-      → ((y : SeenData) → x ≡ Some y → (y.owner ≡ pos 0 → ⊥) → ShowsOwned paths (owned s.tree y.owner))
-      → IsRight z s (delete_choice p q version x c above paths) (delete s.tree p version z n)
+  pub delete_right : (x : Option SeenData) (c above : Option SeenCounts) (listed : Option SessionRec) (n : Option Node) → get s.tree p ≡ n
+      → ShowsData z x n → ShowsCounts z c n (num_children s.tree p) (is_counted_in s n) → IfSome n (λ (u : Node). ShowsCounts z above (get s.tree q) (num_children s.tree q) true)
+      → ((w : SeenData) → x ≡ Some w → (w.owner ≡ pos 0 → ⊥) → (y : Session) → session_at w.owner s ≡ Some y → ShowsOwned listed y (owned s.tree w.owner))
+      → IsRight z s (delete_choice p q version x c above listed) (delete s.tree p version z n)
   unfolding delete_choice
-  delete_right None c above paths None here seen own counted shows = refl
-  delete_right None c above paths (Some n) here seen own counted shows = absurd seen
-  delete_right (Some x) c above paths None here seen own counted shows = absurd seen
-  delete_right (Some x) None above paths (Some n) here seen own counted shows = absurd own
-  delete_right (Some x) (Some c) above paths (Some n) here seen own counted shows = delete_with n x here seen c own above counted paths (shows x refl)
+  delete_right None c above listed None here seen own counted shows = refl
+  delete_right None c above listed (Some n) here seen own counted shows = absurd seen
+  delete_right (Some x) c above listed None here seen own counted shows = absurd seen
+  delete_right (Some x) None above listed (Some n) here seen own counted shows = absurd own
+  delete_right (Some x) (Some c) above listed (Some n) here seen own counted shows = delete_with n x here seen c own above true counted listed (shows x refl)

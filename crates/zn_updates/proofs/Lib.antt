@@ -24,6 +24,7 @@ pub mod Clauses
 pub mod SetDataClauses
 pub mod Plans
 pub mod DeleteClauses
+pub mod Creates
 pub mod CreateClauses
 pub mod Writing
 pub mod WithStat

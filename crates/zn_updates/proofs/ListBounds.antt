@@ -14,7 +14,7 @@ use Rattle.std.proofs.lemmas.List.Kept.{IsStrictlySortedBy-filter}
 use Rattle.std.proofs.lemmas.Map.Keys.{sorted_head, sorted_tail}
 use Rattle.zk_model.specs.Paths.{is_path}
 use Rattle.zx_base.specs.Maps.{Bytes, same}
-use Rattle.zn_layout.specs.Records.{IsSessionRec}
+use Rattle.zn_layout.specs.Records.{ArePaths}
 use Rattle.zn_updates.specs.OwnedLists.{placed, without}
 use Rattle.zx_base.proofs.Lists.{filter-length}
 
@@ -75,7 +75,7 @@ placed-rising p (q ∷ qs) rising =
 
 -- ---- all bounds
 
-pub placed-within : (p : Bytes) (ps : List Bytes) → IsTrue (is_path p) → length ps < 2 ^ 31 - 1 → IsSessionRec ps → IsSessionRec (placed p ps)
+pub placed-within : (p : Bytes) (ps : List Bytes) → IsTrue (is_path p) → length ps < 2 ^ 31 - 1 → ArePaths ps → ArePaths (placed p ps)
 placed-within p ps valid few within = record {
   count = let h = placed-length p ps in omega (arith, h, few);
   valid = placed-valid p ps valid within.valid;
@@ -85,7 +85,7 @@ placed-within p ps valid few within = record {
 pub without-length : (p : Bytes) (ps : List Bytes) → length (without p ps) ≤ length ps
 without-length p ps = filter-length (λ q. not (same p q)) ps
 
-pub without-within : (p : Bytes) (ps : List Bytes) → IsSessionRec ps → IsSessionRec (without p ps)
+pub without-within : (p : Bytes) (ps : List Bytes) → ArePaths ps → ArePaths (without p ps)
 without-within p ps within = record {
   count = let h = without-length p ps in let few = within.count in omega (arith, h, few);
   valid = All-filter (λ q. not (same p q)) (λ q. IsTrue (is_path q)) ps within.valid;

@@ -9,10 +9,11 @@ use Rattle.zk_model.specs.Limits.{max_creates, max_owned, max_version}
 use Rattle.zk_model.specs.Single.{matches}
 use Rattle.zx_base.specs.Maps.{Bytes}
 use Rattle.zn_layout.specs.declared.record.CountRec.{CountRec}
+use Rattle.zn_layout.specs.declared.record.SessionRec.{SessionRec}
 use Rattle.zn_layout.specs.Begin.{new_record, first_counts}
 use Rattle.zn_layout.specs.Changes.{KeyChange, delete_key, put_key}
 use Rattle.zn_layout.specs.Keys.{CountsKey, DataKey, Key, SessionKey}
-use Rattle.zn_layout.specs.Records.{counts_value, node_value}
+use Rattle.zn_layout.specs.Records.{counts_value, has_counts, node_value}
 use Rattle.zn_view.specs.Lookups.{HasSeen, sees}
 use Rattle.zn_view.specs.Seen.{View}
 use Rattle.zn_view.proofs.Members.{In}
@@ -24,7 +25,7 @@ use Rattle.zn_updates.specs.Choices.{Choice, create_changes, create_choice, crea
 use Rattle.zn_updates.specs.Deciding.{owner_seen}
 use Rattle.zn_updates.specs.KeysRead.{delete_keys, set_data_keys}
 use Rattle.zn_updates.specs.Making.{has_found}
-use Rattle.zn_updates.specs.OwnedLists.{placed, without}
+use Rattle.zn_updates.specs.OwnedLists.{with_node, without_node}
 use Rattle.zn_updates.specs.Parts.{IfChanges}
 use Rattle.zn_updates.proofs.WellMade.{changes_cond}
 
@@ -55,29 +56,32 @@ module _ (v : View) (p q : Bytes) (session : ℤ) where
     abbrev keys : List Key
     keys = delete_keys p (Some q) session x.owner
 
-    deleted-new : (above : CountRec) (more : List KeyChange) → All (IsAccounted v keys) more → All (IsAccounted v keys) (delete_changes p q above ++ more)
-    deleted-new above more h =
+    deleted-new : (b : Bool) (above : CountRec) (more : List KeyChange) → All (IsAccounted v keys) more → All (IsAccounted v keys) (delete_changes p q b above ++ more)
+    deleted-new true above more h =
         let put = put_key (CountsKey q) (counts_value (one_less above)) in
         All-cons (IsAccounted v keys) (delete_key (DataKey p)) (delete_key (CountsKey p) ∷ put ∷ more) (inl refl)
         (All-cons (IsAccounted v keys) (delete_key (CountsKey p)) (put ∷ more) (inl refl) (All-cons (IsAccounted v keys) put more (inr (inl (inr (inr (inr (inr (inl refl))))))) h))
+    deleted-new false above more h =
+        let put = put_key (CountsKey q) (counts_value (one_less above)) in
+        All-cons (IsAccounted v keys) (delete_key (DataKey p)) (put ∷ more) (inl refl) (All-cons (IsAccounted v keys) put more (inr (inl (inr (inr (inr (inr (inl refl))))))) h)
 
     owner-in : int_eq x.owner (pos 0) ≡ false → In (SessionKey (nat_abs x.owner)) keys
     owner-in e = inr (inr (inr (inr (inr (subst (λ b. In (SessionKey (nat_abs x.owner)) (if b then [] else SessionKey (nat_abs x.owner) ∷ [])) (sym e) (inl refl))))))
 
-    owned-new : (above : CountRec) (o : Option (List Bytes)) → int_eq x.owner (pos 0) ≡ false → AreAccounted v keys (delete_owned p q above x.owner o)
-    owned-new above None e = tt
-    owned-new above (Some ps) e = deleted-new above (put_owned x.owner (without p ps) ∷ []) (one v keys (put_owned x.owner (without p ps)) (inr (inl (owner-in e))))
+    owned-new : (b : Bool) (above : CountRec) (o : Option SessionRec) → int_eq x.owner (pos 0) ≡ false → AreAccounted v keys (delete_owned p q b above x.owner o)
+    owned-new b above None e = tt
+    owned-new b above (Some r) e = deleted-new b above (put_owned x.owner (without_node p r) ∷ []) (one v keys (put_owned x.owner (without_node p r)) (inr (inl (owner-in e))))
 
-    here-new : (a : Option SeenCounts) (paths : Option (List Bytes)) → AreAccounted v keys (delete_here p q x a paths)
-    here-new None paths = tt
-    here-new (Some above) paths = changes_cond (AreAll v keys) (int_eq x.owner (pos 0)) _ _ (λ _. deleted-new above.counts [] (All-nil (IsAccounted v keys))) (λ e. owned-new above.counts paths e)
+    here-new : (b : Bool) (a : Option SeenCounts) (nodes : Option SessionRec) → AreAccounted v keys (delete_here p q x b a nodes)
+    here-new b None nodes = tt
+    here-new b (Some above) nodes = changes_cond (AreAll v keys) (int_eq x.owner (pos 0)) _ _ (λ _. deleted-new b above.counts [] (All-nil (IsAccounted v keys))) (λ e. owned-new b above.counts nodes e)
 
-  pub delete-new : (version : ℤ) (o : Option SeenData) (c a : Option SeenCounts) (paths : Option (List Bytes)) → AreAccounted v (delete_keys p (Some q) session (owner_seen o)) (delete_choice p q version o c a paths)
+  pub delete-new : (version : ℤ) (o : Option SeenData) (c a : Option SeenCounts) (nodes : Option SessionRec) → AreAccounted v (delete_keys p (Some q) session (owner_seen o)) (delete_choice p q version o c a nodes)
   unfolding delete_choice
-  delete-new version None c a paths = tt
-  delete-new version (Some x) None a paths = tt
-  delete-new version (Some x) (Some c) a paths =
-      changes_cond (AreAll v (keys x)) (not (matches version x.version)) _ _ (λ _. tt) (λ _. changes_cond (AreAll v (keys x)) (not (int_eq c.counts.children (pos 0))) _ _ (λ _. tt) (λ _. here-new x a paths))
+  delete-new version None c a nodes = tt
+  delete-new version (Some x) None a nodes = tt
+  delete-new version (Some x) (Some c) a nodes =
+      changes_cond (AreAll v (keys x)) (not (matches version x.version)) _ _ (λ _. tt) (λ _. changes_cond (AreAll v (keys x)) (not (int_eq c.counts.children (pos 0))) _ _ (λ _. tt) (λ _. here-new x c.is_stored a nodes))
 
 -- ---- create of p below q, by keys that have the parent's counts and, for an ephemeral node, the list of the session's nodes
 
@@ -87,29 +91,33 @@ absent (Some None) some e = refl
 absent (Some (Some kv)) some e = let f : true ≡ false = e in absurd (cc)
 
 module _ (v : View) (p q content : Bytes) (now : ℕ) (ephemeral : Bool) (session : ℤ) (ks : List Key) (above-in : In (CountsKey q) ks) (own-in : ephemeral ≡ true → In (SessionKey (nat_abs session)) ks) where
-  created-new : (owner : ℤ) (above : CountRec) (more : List KeyChange) → In (DataKey p) ks → sees v (DataKey p) ≡ Some None → All (IsAccounted v ks) more → All (IsAccounted v ks) (create_changes p q content now owner above ++ more)
-  created-new owner above more inside none h =
+  created-new : (b : Bool) (owner : ℤ) (above : CountRec) (more : List KeyChange) → In (DataKey p) ks → sees v (DataKey p) ≡ Some None → All (IsAccounted v ks) more → All (IsAccounted v ks) (create_changes p q content now owner b above ++ more)
+  created-new true owner above more inside none h =
       let data_put = put_key (DataKey p) (node_value (new_record content now owner)) in
       let counts_put = put_key (CountsKey p) (counts_value first_counts) in
       let above_put = put_key (CountsKey q) (counts_value (one_more above)) in
       All-cons (IsAccounted v ks) data_put (counts_put ∷ above_put ∷ more) (inr (inl inside))
       (All-cons (IsAccounted v ks) counts_put (above_put ∷ more) (inr (inr (p, refl, inside, none))) (All-cons (IsAccounted v ks) above_put more (inr (inl above-in)) h))
+  created-new false owner above more inside none h =
+      let data_put = put_key (DataKey p) (node_value (new_record content now owner)) in
+      let above_put = put_key (CountsKey q) (counts_value (one_more above)) in
+      All-cons (IsAccounted v ks) data_put (above_put ∷ more) (inr (inl inside)) (All-cons (IsAccounted v ks) above_put more (inr (inl above-in)) h)
 
-  create_owned-new : (above : CountRec) (o : Option (List Bytes)) → In (DataKey p) ks → sees v (DataKey p) ≡ Some None → ephemeral ≡ true → AreAccounted v ks (create_owned p q content now above session o)
+  create_owned-new : (above : CountRec) (o : Option SessionRec) → In (DataKey p) ks → sees v (DataKey p) ≡ Some None → ephemeral ≡ true → AreAccounted v ks (create_owned p q content now above session o)
   create_owned-new above None inside none e = tt
-  create_owned-new above (Some ps) inside none e = changes_cond (AreAll v ks) (nat_le max_owned (length ps)) _ _ (λ _. tt)
-      (λ _. created-new session above (put_owned session (placed p ps) ∷ []) inside none (one v ks (put_owned session (placed p ps)) (inr (inl (own-in e)))))
+  create_owned-new above (Some r) inside none e = changes_cond (AreAll v ks) (nat_le (max_owned r.layout) (length r.paths)) _ _ (λ _. tt)
+      (λ _. created-new (has_counts r.layout) session above (put_owned session (with_node p r) ∷ []) inside none (one v ks (put_owned session (with_node p r)) (inr (inl (own-in e)))))
 
   -- where the parent's counts were seen, so was the key of the node's record
-  pub create-new : (x : Option SeenData) (c : Option SeenCounts) (taken : Bool) (paths : Option (List Bytes)) → ((w : SeenCounts) → c ≡ Some w → In (DataKey p) ks × HasSeen v (DataKey p)) → taken ≡ has_found (sees v (DataKey p))
-      → AreAccounted v ks (create_choice p q content now ephemeral session x c taken paths)
+  pub create-new : (x : Option SeenData) (c : Option SeenCounts) (taken : Bool) (nodes : Option SessionRec) → ((w : SeenCounts) → c ≡ Some w → In (DataKey p) ks × HasSeen v (DataKey p)) → taken ≡ has_found (sees v (DataKey p))
+      → AreAccounted v ks (create_choice p q content now ephemeral session x c taken nodes)
   unfolding create_choice
-  create-new None c taken paths there is = tt
-  create-new (Some x) None taken paths there is = tt
-  create-new (Some x) (Some c) true paths there is = tt
-  create-new (Some x) (Some c) false paths there is =
+  create-new None c taken nodes there is = tt
+  create-new (Some x) None taken nodes there is = tt
+  create-new (Some x) (Some c) true nodes there is = tt
+  create-new (Some x) (Some c) false nodes there is =
       let inside = (there c refl).0 in
       let none = absent (sees v (DataKey p)) (there c refl).1 (sym is) in
       changes_cond (AreAll v ks) (not (int_eq x.owner (pos 0))) _ _ (λ _. tt)
       (λ _. changes_cond (AreAll v ks) (int_eq c.counts.creates max_creates) _ _ (λ _. tt)
-      (λ _. changes_cond (AreAll v ks) ephemeral _ _ (λ e. create_owned-new c.counts paths inside none e) (λ _. created-new (pos 0) c.counts [] inside none (All-nil (IsAccounted v ks)))))
+      (λ _. changes_cond (AreAll v ks) ephemeral _ _ (λ e. create_owned-new c.counts nodes inside none e) (λ _. created-new true (pos 0) c.counts [] inside none (All-nil (IsAccounted v ks)))))

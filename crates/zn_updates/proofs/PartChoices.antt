@@ -10,16 +10,18 @@ use Rattle.zk_model.specs.declared.request.Part.{Part}
 use Rattle.zk_model.specs.declared.request.Part.TheVariants as part
 use Rattle.zk_model.specs.declared.reply.PartResult.TheVariants as result
 use Rattle.zk_model.specs.Codes.{no_node, node_exists, bad_version}
-use Rattle.zk_model.specs.Limits.{max_frame, max_owned}
+use Rattle.zk_model.specs.Limits.{max_frame}
 use Rattle.zk_model.specs.PathFaults.{is_valid}
 use Rattle.zk_model.specs.Paths.{is_path, parent, root}
 use Rattle.zk_model.specs.Single.{Refused, Done, check, effect, form_refusal, is_ephemeral, is_sequential, matches, named, path_refusal, single, unless_refused}
-use Rattle.zk_service.specs.States.{State}
+use Rattle.zk_model.specs.Znodes.{num_children}
+use Rattle.zk_service.specs.States.{State, limit_of}
+use Rattle.zn_layout.specs.declared.record.SessionRec.{SessionRec}
 use Rattle.zn_layout.specs.Fits.{ChangesFit}
 use Rattle.zn_layout.specs.Keys.{Key, HeadKey, DataKey, CountsKey, SessionKey, LeaseKey, key_bytes}
 use Rattle.zn_layout.specs.Records.{IsLongCount}
 use Rattle.zn_view.specs.declared.plan.Who.{Who}
-use Rattle.zn_layout.specs.StandsFor.{Stored, Means}
+use Rattle.zn_layout.specs.StandsFor.{Stored, is_counted_in, Means}
 use Rattle.zn_view.specs.Lookups.{HasSeen, sees}
 use Rattle.zn_view.specs.Seen.{View}
 use Rattle.zn_updates.specs.declared.chosen.Chosen.{Chosen}
@@ -27,14 +29,15 @@ use Rattle.zn_updates.specs.declared.chosen.Chosen.TheVariants as chosen
 use Rattle.zn_updates.specs.declared.seen.SeenData.{SeenData}
 use Rattle.zn_updates.specs.declared.seen.SeenCounts.{SeenCounts}
 use Rattle.zn_updates.specs.Choices.{Choice, Refuse, Make, create_choice, delete_choice, set_data_choice}
-use Rattle.zn_updates.specs.Deciding.{IsOwnerLookedUp, IsOwnerPaths, creates_in, path_for}
+use Rattle.zn_updates.specs.Deciding.{IsOwnerLookedUp, AreOwnerNodes, creates_in, path_for}
 use Rattle.zn_updates.specs.Layers.{IsChosen}
-use Rattle.zn_updates.specs.Making.{IsCountsSeen, IsDataSeen, IsPathsSeen, chosen_of, has_found}
-use Rattle.zn_updates.specs.Parts.{check_choice, IfCounts, IfData, IfPaths, IsCreateSeen, IsCreatedBelow, IsDeletedBelow, IsNarrower, IsPartChoice}
+use Rattle.zn_updates.specs.Making.{IsCountsSeen, IsDataSeen, IsNodesSeen, chosen_of, has_found}
+use Rattle.zn_updates.specs.Parts.{check_choice, IfCounts, IfData, IfNodes, IsCreateSeen, IsCreatedBelow, IsDeletedBelow, IsNarrower, IsPartChoice}
 use Rattle.zn_updates.specs.Right.{IsRight, with_tree}
 use Rattle.zn_updates.specs.Seen.{IsDataWithin, ShowsData}
 use Rattle.zn_updates.proofs.CreateClauses.{below_chosen, parent_is_valid, root_chosen, same_taken, valid_path}
 use Rattle.zn_updates.proofs.DeleteClauses.{delete_chosen, orphan_chosen}
+use Rattle.zn_updates.proofs.Meanings.{counted_along, counts_along}
 use Rattle.zn_updates.proofs.Forms.{delete_refusal, set_refusal}
 use Rattle.zn_updates.proofs.PartRecords.{check-kept, create-kept, delete-kept, set-kept}
 use Rattle.zn_updates.proofs.PartWrites.{check-own, create-own, delete-own, set-own}
@@ -43,15 +46,15 @@ use Rattle.zn_updates.proofs.Showing.{data-shown}
 
 -- ---- a part whose form is refused
 
-refused_single : (s : State) (session z : ℤ) (now : ℕ) (p : Part) (code : ℤ) → form_refusal p ≡ Some code → single s.tree max_owned session p z now ≡ Refused code
+refused_single : (s : State) (limit : ℕ) (session z : ℤ) (now : ℕ) (p : Part) (code : ℤ) → form_refusal p ≡ Some code → single s.tree limit session p z now ≡ Refused code
 unfolding single
-refused_single s session z now p code e = ap (λ (o : Option ℤ). unless_refused o (effect s.tree max_owned session p z now)) e
+refused_single s limit session z now p code e = ap (λ (o : Option ℤ). unless_refused o (effect s.tree limit session p z now)) e
 
 pub refused_part : (p : Part) (who : Who) (now : ℕ) (v : View) (code : ℤ) → form_refusal p ≡ Some code → IsPartChoice p who now v (chosen.Refused code)
 refused_part p who now v code e = record {
   choice = λ _. Refuse code;
   is = refl;
-  chosen = λ near narrow _. record { right = λ s z at time sound shown y opened. refused_single s who.session z at p code e; same_code = λ _. refl };
+  chosen = λ near narrow _. record { right = λ s z at time sound shown y opened. refused_single s (limit_of y) who.session z at p code e; same_code = λ _. refl };
   kept = tt;
   own = tt;
 }
@@ -80,30 +83,33 @@ module _ (path content : Bytes) (acl : List Acl) (flags : ℤ) (who : Who) (now 
     node = path_for (is_sequential flags) path h.above
 
     abbrev chosen_on : View → ℕ → Choice
-    chosen_on w at = create_choice node q content at (is_ephemeral flags) who.session h.up h.above (has_found (sees w (DataKey node))) h.paths
+    chosen_on w at = create_choice node q content at (is_ephemeral flags) who.session h.up h.above (has_found (sees w (DataKey node))) h.nodes
 
     module _ (near : View) (narrow : IsNarrower near v) (here : IsCreateSeen who.session near path flags q) where
-      counts_near : IsCountsSeen (sees near (CountsKey q)) h.above
-      counts_near = near_is near v narrow (λ (o : Option (Option Kv)). IsCountsSeen o h.above) (CountsKey q) here.counts h.above_is
+      up_near : IsDataSeen (sees near (DataKey q)) h.up
+      up_near = near_is near v narrow (λ (o : Option (Option Kv)). IsDataSeen o h.up) (DataKey q) here.up h.up_is
+
+      counts_near : IsCountsSeen h.up (sees near (CountsKey q)) h.above
+      counts_near = near_is near v narrow (λ (o : Option (Option Kv)). IsCountsSeen h.up o h.above) (CountsKey q) here.counts h.above_is
 
       own_near : (w : SeenCounts) → h.above ≡ Some w → HasSeen near (DataKey node)
-      own_near w e = subst (λ (o : Option SeenCounts). HasSeen near (DataKey (path_for (is_sequential flags) path o))) (sym e) (here.own w (subst (IsCountsSeen (sees near (CountsKey q))) e counts_near))
+      own_near w e = subst (λ (o : Option SeenCounts). HasSeen near (DataKey (path_for (is_sequential flags) path o))) (sym e) (here.own h.up w up_near (subst (IsCountsSeen h.up (sees near (CountsKey q))) e counts_near))
 
       near_chosen : IsChosen (part.Create path content acl flags) who near (chosen_on near)
       near_chosen =
-          below_chosen path content acl flags formed valid who near q up short long h.up h.above h.paths
-          (near_is near v narrow (λ (o : Option (Option Kv)). IsDataSeen o h.up) (DataKey q) here.up h.up_is)
+          below_chosen path content acl flags formed valid who near q up short long h.up h.above h.nodes
+          up_near
           counts_near
-          (λ e. near_is near v narrow (λ (o : Option (Option Kv)). IsPathsSeen o h.paths) (SessionKey (nat_abs who.session)) (here.nodes e) (h.paths_are e))
+          (λ e. near_is near v narrow (λ (o : Option (Option Kv)). IsNodesSeen o h.nodes) (SessionKey (nat_abs who.session)) (here.nodes e) (h.nodes_are e))
           own_near
 
       -- whether the node is there was looked up on both
       taken_near : (o : Option SeenCounts) → h.above ≡ o → (at : ℕ) → chosen_on near at ≡ chosen_on v at
       taken_near None e at =
-          subst (λ (o : Option SeenCounts). create_choice node q content at (is_ephemeral flags) who.session h.up o (has_found (sees near (DataKey node))) h.paths ≡ create_choice node q content at (is_ephemeral flags) who.session h.up o (has_found (sees v (DataKey node))) h.paths) (sym e)
-          (same_taken node q content at (is_ephemeral flags) who.session h.up h.paths _ _)
+          subst (λ (o : Option SeenCounts). create_choice node q content at (is_ephemeral flags) who.session h.up o (has_found (sees near (DataKey node))) h.nodes ≡ create_choice node q content at (is_ephemeral flags) who.session h.up o (has_found (sees v (DataKey node))) h.nodes) (sym e)
+          (same_taken node q content at (is_ephemeral flags) who.session h.up h.nodes _ _)
       taken_near (Some w) e at =
-          ap (λ (o : Option (Option Kv)). create_choice node q content at (is_ephemeral flags) who.session h.up h.above (has_found o) h.paths) (sym (near_sees near v narrow (DataKey node) (own_near w e)))
+          ap (λ (o : Option (Option Kv)). create_choice node q content at (is_ephemeral flags) who.session h.up h.above (has_found o) h.nodes) (sym (near_sees near v narrow (DataKey node) (own_near w e)))
 
       chosen_near : IsChosen (part.Create path content acl flags) who near (chosen_on v)
       chosen_near = subst (λ (f : ℕ → Choice). IsChosen (part.Create path content acl flags) who near f) (λ i at. taken_near h.above refl at i) near_chosen
@@ -113,8 +119,8 @@ module _ (path content : Bytes) (acl : List Acl) (flags : ℤ) (who : Who) (now 
       choice = chosen_on v;
       is = h.is;
       chosen = λ near narrow saw. chosen_near near narrow (saw formed q up);
-      kept = create-kept node q (valid_path path content acl flags formed valid (creates_in h.above)) (parent_is_valid path content acl flags formed valid q up) content short now time who.session long (is_ephemeral flags) h.up h.above _ h.paths h.above_within h.paths_within;
-      own = create-own who.session v (part.Create path content acl flags) node q content (valid_path path content acl flags formed valid (creates_in h.above)) (parent_is_valid path content acl flags formed valid q up) now (omega arith) (is_ephemeral flags) who.session h.up h.above _ h.paths (λ e. (e, refl));
+      kept = create-kept node q (valid_path path content acl flags formed valid (creates_in h.above)) (parent_is_valid path content acl flags formed valid q up) content short now time who.session long (is_ephemeral flags) h.up h.above _ h.nodes h.above_within h.nodes_within;
+      own = create-own who.session v (part.Create path content acl flags) node q content (valid_path path content acl flags formed valid (creates_in h.above)) (parent_is_valid path content acl flags formed valid q up) now (omega arith) (is_ephemeral flags) who.session h.up h.above _ h.nodes (λ e. (e, refl));
     }
 
 -- ---- delete
@@ -123,28 +129,28 @@ module _ (p : Bytes) (version : ℤ) (who : Who) (now : ℕ) (v : View) (valid :
   pub deleted_orphan : parent p ≡ None → IsPartChoice (part.Delete p version) who now v (chosen.Refused no_node)
   deleted_orphan none = record { choice = λ _. Refuse no_node; is = refl; chosen = λ near narrow _. orphan_chosen p version who near valid none; kept = tt; own = tt }
 
-  owners : (near : View) → IsNarrower near v → (o : Option SeenData) (paths : Option (List Bytes)) → IsOwnerLookedUp near o → IfSome o (λ (x : SeenData). (x.owner ≡ pos 0 → ⊥) → IfPaths v x.owner paths) → IsOwnerPaths near o paths
-  owners near narrow None paths saw h = tt
-  owners near narrow (Some x) paths saw h = λ owns. near_is near v narrow (λ (o : Option (Option Kv)). IsPathsSeen o paths) (SessionKey (nat_abs x.owner)) (saw owns) (h owns)
+  owners : (near : View) → IsNarrower near v → (o : Option SeenData) (nodes : Option SessionRec) → IsOwnerLookedUp near o → IfSome o (λ (x : SeenData). (x.owner ≡ pos 0 → ⊥) → IfNodes v x.owner nodes) → AreOwnerNodes near o nodes
+  owners near narrow None nodes saw h = tt
+  owners near narrow (Some x) nodes saw h = λ owns. near_is near v narrow (λ (o : Option (Option Kv)). IsNodesSeen o nodes) (SessionKey (nat_abs x.owner)) (saw owns) (h owns)
 
   pub deleted_part : (q : Bytes) → parent p ≡ Some q → IsTrue (is_path p) → IsTrue (is_path q) → (c : Chosen) → IsDeletedBelow v p version q c → IsPartChoice (part.Delete p version) who now v c
   deleted_part q up own above c h = record {
-    choice = λ _. delete_choice p q version h.node h.counts h.above h.paths;
+    choice = λ _. delete_choice p q version h.node h.counts h.above h.nodes;
     is = h.is;
     chosen = λ near narrow saw.
         let here = saw (delete_refusal p version true valid) in
         let node_seen : IsDataSeen (sees near (DataKey p)) h.node = near_is near v narrow (λ (o : Option (Option Kv)). IsDataSeen o h.node) (DataKey p) here.node h.node_is in
-        delete_chosen p version who near q h.node h.counts h.above h.paths valid up node_seen
-        (near_is near v narrow (λ (o : Option (Option Kv)). IsCountsSeen o h.counts) (CountsKey p) here.counts h.counts_are)
-        (near_is near v narrow (λ (o : Option (Option Kv)). IsCountsSeen o h.above) (CountsKey q) (here.above q up) h.above_is)
-        (owners near narrow h.node h.paths (here.owner h.node node_seen) h.paths_are);
-    kept = delete-kept p q own above version h.node h.counts h.above h.paths h.above_within h.paths_within;
-    own = delete-own who.session v p q version own above h.node h.counts h.above h.paths h.node_is;
+        delete_chosen p version who near q h.node h.counts h.above h.nodes valid up node_seen
+        (near_is near v narrow (λ (o : Option (Option Kv)). IsCountsSeen h.node o h.counts) (CountsKey p) here.counts h.counts_are)
+        (near_is near v narrow (λ (o : Option (Option Kv)). IsCountsSeen None o h.above) (CountsKey q) (here.above q up) h.above_is)
+        (owners near narrow h.node h.nodes (here.owner h.node node_seen) h.nodes_are);
+    kept = delete-kept p q own above version h.node h.counts h.above h.nodes h.above_within h.nodes_within;
+    own = delete-own who.session v p q version own above h.node h.counts h.above h.nodes h.node_is;
   }
 
 -- ---- setData
 
-pub set_part : (p content : Bytes) (version : ℤ) (who : Who) (now : ℕ) (v : View) → IsTrue (is_path p) → length content ≤ max_frame → now < 2 ^ 62 → (x : Option SeenData) (k : Option SeenCounts) → IfData v p x → IfCounts v p k → IfSome x IsDataWithin
+pub set_part : (p content : Bytes) (version : ℤ) (who : Who) (now : ℕ) (v : View) → IsTrue (is_path p) → length content ≤ max_frame → now < 2 ^ 62 → (x : Option SeenData) (k : Option SeenCounts) → IfData v p x → IfCounts v p x k → IfSome x IsDataWithin
     → (c : Chosen) → c ≡ chosen_of (set_data_choice p content version now x k) → IsPartChoice (part.SetData p content version) who now v c
 set_part p content version who now v valid short time x k data_is counts_are within c is = record {
   choice = λ at. set_data_choice p content version at x k;
@@ -153,7 +159,7 @@ set_part p content version who now v valid short time x k data_is counts_are wit
       let here = saw (set_refusal p content version true valid) in
       set_chosen p content version who near x k valid short
       (near_is near v narrow (λ (o : Option (Option Kv)). IsDataSeen o x) (DataKey p) here.0 data_is)
-      (near_is near v narrow (λ (o : Option (Option Kv)). IsCountsSeen o k) (CountsKey p) here.1 counts_are);
+      (near_is near v narrow (λ (o : Option (Option Kv)). IsCountsSeen x o k) (CountsKey p) here.1 counts_are);
   kept = set-kept p content now valid time short version x k within;
   own = set-own who.session v p content version now x k valid;
 }
@@ -163,7 +169,7 @@ set_part p content version who now v valid short time x k data_is counts_are wit
 same_means : (s : State) (k : Key) (o : Option Stored) → Means s k o → Means (with_tree s s.tree) k o
 same_means s HeadKey o h = h
 same_means s (DataKey p) o h = h
-same_means s (CountsKey p) o h = h
+same_means s (CountsKey p) o h = counts_along o (get s.tree p) (get s.tree p) (num_children s.tree p) (num_children s.tree p) (is_counted_in s (get s.tree p)) (is_counted_in (with_tree s s.tree) (get s.tree p)) refl refl (counted_along s s.tree (get s.tree p) (get s.tree p) refl) h
 same_means s (SessionKey id) o h = h
 same_means s (LeaseKey id) o h = h
 
@@ -182,9 +188,9 @@ check_right z s version (Some x) (Some n) shown =
     by_version false = refl
     by_version true = record { tree = s.tree; done = refl; fits = unchanged z s; headless = refl }
 
-checked_single : (s : State) (session z : ℤ) (now : ℕ) (p : Bytes) (version : ℤ) → is_path p ≡ true → single s.tree max_owned session (part.Check p version) z now ≡ check s.tree version (get s.tree p)
+checked_single : (s : State) (limit : ℕ) (session z : ℤ) (now : ℕ) (p : Bytes) (version : ℤ) → is_path p ≡ true → single s.tree limit session (part.Check p version) z now ≡ check s.tree version (get s.tree p)
 unfolding single form_refusal effect
-checked_single s session z now p version valid = ap (λ b. unless_refused (path_refusal b) (check s.tree version (get s.tree p))) valid
+checked_single s limit session z now p version valid = ap (λ b. unless_refused (path_refusal b) (check s.tree version (get s.tree p))) valid
 
 pub check_refusal : (p : Bytes) (version : ℤ) (valid : Bool) → is_path p ≡ valid → form_refusal (part.Check p version) ≡ path_refusal valid
 unfolding form_refusal
@@ -196,7 +202,7 @@ checked_part p version who now v valid x data_is c is = record {
   is = is;
   chosen = λ near narrow saw. record {
     right = λ s z at time sound shown y opened.
-        subst (IsRight z s (check_choice version x)) (sym (checked_single s who.session z at p version valid)) (check_right z s version x (get s.tree p) (data-shown z near s shown p x
+        subst (IsRight z s (check_choice version x)) (sym (checked_single s (limit_of y) who.session z at p version valid)) (check_right z s version x (get s.tree p) (data-shown z near s shown p x
         (near_is near v narrow (λ (o : Option (Option Kv)). IsDataSeen o x) (DataKey p) (saw (check_refusal p version true valid)) data_is)));
     same_code = λ _. refl;
   };

@@ -10,14 +10,15 @@ use Rattle.zk_model.specs.declared.node.Trigger.TheVariants.{Changed}
 use Rattle.zk_model.specs.declared.request.Part.TheVariants.{SetData}
 use Rattle.zk_model.specs.declared.request.Request.TheVariants as req
 use Rattle.zk_model.specs.Codes.{bad_arguments}
-use Rattle.zk_model.specs.Limits.{max_frame, max_owned, max_version}
+use Rattle.zk_model.specs.Limits.{max_frame, max_version}
 use Rattle.zk_model.specs.Paths.{is_path}
 use Rattle.zk_model.specs.Single.{form_refusal, single, effect, set_data, unless_refused, matches}
 use Rattle.zk_model.specs.Watches.{no_watches}
 use Rattle.zk_service.specs.Answers.{plain_request, told_refusal, tree_reply}
-use Rattle.zk_service.specs.States.{State, commit}
+use Rattle.zk_service.specs.States.{State, commit, limit_of}
 use Rattle.zn_layout.specs.Keys.{Key, HeadKey, DataKey, CountsKey, LeaseKey, key_bytes}
 use Rattle.zn_layout.specs.Records.{IsHeadRec}
+use Rattle.zn_layout.specs.StandsFor.{is_counted_in}
 use Rattle.zn_layout.proofs.Paths.{path_short}
 use Rattle.zn_view.specs.declared.plan.Decision.{Decision}
 use Rattle.zn_view.specs.declared.plan.Who.{Who}
@@ -63,9 +64,9 @@ module _ (p content : Bytes) (version : ℤ) where
   unfolding tree_reply commit
   set_part = record { told = λ t limit session. refl; done = λ s z session now. refl; after = λ s z session now. refl }
 
-  effect_is : (s : State) (session z : ℤ) (now : ℕ) → is_path p ≡ true → single s.tree max_owned session (SetData p content version) z now ≡ set_data s.tree p content version z now (get s.tree p)
+  effect_is : (s : State) (limit : ℕ) (session z : ℤ) (now : ℕ) → is_path p ≡ true → single s.tree limit session (SetData p content version) z now ≡ set_data s.tree p content version z now (get s.tree p)
   unfolding single effect
-  effect_is s session z now valid = ap (λ (o : Option ℤ). unless_refused o (set_data s.tree p content version z now (get s.tree p))) (set_refusal p content version true valid)
+  effect_is s limit session z now valid = ap (λ (o : Option ℤ). unless_refused o (set_data s.tree p content version z now (get s.tree p))) (set_refusal p content version true valid)
 
   same_cond : (b : Bool) (x y w : Choice) → code_of y ≡ code_of w → code_of (cond b x y) ≡ code_of (cond b x w)
   same_cond true x y w e = refl
@@ -83,12 +84,12 @@ module _ (p content : Bytes) (version : ℤ) where
   set_bounds (Some x) None now valid = tt
   set_bounds (Some x) (Some c) now valid = makes_cond IsHeadRec (not (matches version x.version)) _ _ tt (makes_cond IsHeadRec (int_eq x.version max_version) _ _ tt (one_trigger (Changed p) valid))
 
-  pub set_chosen : (who : Who) (v : View) (x : Option SeenData) (c : Option SeenCounts) → is_path p ≡ true → length content ≤ max_frame → IsDataSeen (sees v (DataKey p)) x → IsCountsSeen (sees v (CountsKey p)) c
+  pub set_chosen : (who : Who) (v : View) (x : Option SeenData) (c : Option SeenCounts) → is_path p ≡ true → length content ≤ max_frame → IsDataSeen (sees v (DataKey p)) x → IsCountsSeen x (sees v (CountsKey p)) c
       → IsChosen (SetData p content version) who v (λ now. set_data_choice p content version now x c)
   set_chosen who v x c valid short data_seen counts_seen = record {
     right = λ s z now time sound shown y opened.
-        subst (IsRight z s (set_data_choice p content version now x c)) (sym (effect_is s who.session z now valid))
-        (set_data_right s p content version z now time short x c (get s.tree p) refl (data-shown z v s shown p x data_seen) (counts-shown z v s shown p c counts_seen));
+        subst (IsRight z s (set_data_choice p content version now x c)) (sym (effect_is s (limit_of y) who.session z now valid))
+        (set_data_right s p content version z now time short x c (get s.tree p) (is_counted_in s (get s.tree p)) refl (data-shown z v s shown p x data_seen) (counts-shown z v s shown p x c data_seen counts_seen));
     same_code = set_codes x c;
   }
 
@@ -139,7 +140,7 @@ module _ (p content : Bytes) (version : ℤ) where
     near : IsChosen (SetData p content version) who (on_keys v keys) choice
     near = set_chosen who (on_keys v keys) is.0 is.1 valid short
         (subst (λ (o : Option (Option Kv)). IsDataSeen o is.0) (sym (near_sees v keys (DataKey p) (inr (inr (inl refl))))) is.2)
-        (subst (λ (o : Option (Option Kv)). IsCountsSeen o is.1) (sym (near_sees v keys (CountsKey p) (inr (inr (inr (inl refl)))))) is.3)
+        (subst (λ (o : Option (Option Kv)). IsCountsSeen is.0 o is.1) (sym (near_sees v keys (CountsKey p) (inr (inr (inr (inl refl)))))) is.3)
 
     pub set_by_form : IsToldByForm (req.SetData p content version) d
     set_by_form = by_form (req.SetData p content version) (SetData p content version) who v keys choice now set_part (set_chosen who v is.0 is.1 valid short is.2 is.3) time real (set_valid valid) d is.4

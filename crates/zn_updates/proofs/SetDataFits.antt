@@ -15,12 +15,12 @@ use Rattle.zn_layout.specs.Changes.{last}
 use Rattle.zn_layout.specs.Fits.{KeyFits, ChangesFit}
 use Rattle.zn_layout.specs.Keys.{Key, HeadKey, DataKey, CountsKey, SessionKey, LeaseKey}
 use Rattle.zn_layout.specs.Records.{node_value, IsNodeRec}
-use Rattle.zn_layout.specs.StandsFor.{data_record, IsData}
+use Rattle.zn_layout.specs.StandsFor.{data_record, is_counted_in, IsData}
 use Rattle.zn_updates.specs.declared.seen.SeenData.{SeenData}
 use Rattle.zn_updates.specs.Seen.{IsSeenData, IsDataWithin}
 use Rattle.zn_updates.specs.Choices.{set_record, set_changes}
 use Rattle.zn_updates.specs.Right.{with_tree}
-use Rattle.zn_updates.proofs.Meanings.{data_along, counts_along, counts_same, nodes_along, below_most, time_within}
+use Rattle.zn_updates.proofs.Meanings.{data_along, counted_along, counts_along, counts_same, nodes_along, below_most, time_within}
 use Rattle.zn_updates.proofs.OwnedLists.{owned-change}
 
 -- the record that is put keeps its bounds
@@ -67,9 +67,15 @@ module _ (s : State) (p content : Bytes) (z : ℤ) (now : ℕ) (n : Node) (x : S
   counts_fit : (r : Bytes) → KeyFits z None (CountsKey r) s new
   counts_fit r o was =
       let count = num_children-change s.tree p changed n r here in ⊎_elim
-      (λ e. counts_along o (Some changed) (get new.tree r) (num_children s.tree r) (num_children new.tree r) (ap (get new.tree) e ∙ get-insert_same s.tree p changed) count
-      (counts_same o n changed (num_children s.tree r) refl refl (counts_along o (get s.tree r) (Some n) (num_children s.tree r) (num_children s.tree r) (sym (ap (get s.tree) e ∙ here)) refl was)))
-      (λ far. counts_along o (get s.tree r) (get new.tree r) (num_children s.tree r) (num_children new.tree r) (get-insert_other s.tree p r changed far) count was)
+      (λ e.
+      let now_there : get new.tree r ≡ Some changed = ap (get new.tree) e ∙ get-insert_same s.tree p changed in
+      let was_there : Some n ≡ get s.tree r = sym (ap (get s.tree) e ∙ here) in
+      counts_along o (Some changed) (get new.tree r) (num_children s.tree r) (num_children new.tree r) (is_counted_in s (Some n)) (is_counted_in new (get new.tree r)) now_there count (counted_along s new.tree (Some changed) (get new.tree r) now_there)
+      (counts_same o n changed (num_children s.tree r) (is_counted_in s (Some n)) refl refl refl
+      (counts_along o (get s.tree r) (Some n) (num_children s.tree r) (num_children s.tree r) (is_counted_in s (get s.tree r)) (is_counted_in s (Some n)) was_there refl (ap (is_counted_in s) was_there) was)))
+      (λ far.
+      let same_there : get new.tree r ≡ get s.tree r = get-insert_other s.tree p r changed far in
+      counts_along o (get s.tree r) (get new.tree r) (num_children s.tree r) (num_children new.tree r) (is_counted_in s (get s.tree r)) (is_counted_in new (get new.tree r)) same_there count (counted_along s new.tree (get s.tree r) (get new.tree r) same_there) was)
       (either r p)
 
   nodes_fit : (id : ℕ) → KeyFits z None (SessionKey id) s new

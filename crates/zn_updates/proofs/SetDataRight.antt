@@ -25,14 +25,14 @@ module _ (s : State) (p content : Bytes) (version z : ℤ) (now : ℕ) (time : n
   abbrev set_data_done : Node → Outcome
   set_data_done n = Done (result.Set (stat_of s.tree p (with_content n content z now))) (insert s.tree p (with_content n content z now)) (Changed p ∷ [])
 
-  module _ (n : Node) (x : SeenData) (c : SeenCounts) (here : get s.tree p ≡ Some n) (seen : IsSeenData z x n) (counted : IsSeenCounts z c n (num_children s.tree p)) where
+  module _ (n : Node) (x : SeenData) (c : SeenCounts) (here : get s.tree p ≡ Some n) (seen : IsSeenData z x n) (d : Bool) (counted : IsSeenCounts z c n (num_children s.tree p) d) where
     abbrev changed : Node
     changed = with_content n content z now
 
     same_stat : own_stat z (set_stat x c content now) ≡ stat_of s.tree p changed
     same_stat =
         ap (λ (y : SeenData). own_stat z (set_stat (record y { czxid = x.czxid }) c content now)) seen.is
-        ∙ ap (λ (k : CountRec). own_stat z (set_stat (seen_data x.czxid n) (record { counts = k; pzxid = c.pzxid }) content now)) counted.is
+        ∙ ap (λ (k : CountRec). own_stat z (set_stat (seen_data x.czxid n) (record { counts = k; pzxid = c.pzxid; is_stored = c.is_stored }) content now)) counted.is
         ∙ (λ i. record (stat_of s.tree p changed) { czxid = sym seen.czxid i; pzxid = sym counted.pzxid i })
 
     made : int_eq x.version max_version ≡ false → IsRight z s (Make (set_changes p x content now) (Changed p ∷ []) (result.Set (set_stat x c content now))) (set_data_done n)
@@ -60,11 +60,11 @@ module _ (s : State) (p content : Bytes) (version z : ℤ) (now : ℕ) (time : n
         (set_data s.tree p content version z now (Some n))) (sym same_version)
         (tests (matches version n.version) (int_eq n.version max_version) (λ e. ap (λ (v : ℤ). int_eq v max_version) same_version ∙ e))
 
-  pub set_data_right : (x : Option SeenData) (c : Option SeenCounts) (n : Option Node) → get s.tree p ≡ n → ShowsData z x n → ShowsCounts z c n (num_children s.tree p) →
+  pub set_data_right : (x : Option SeenData) (c : Option SeenCounts) (n : Option Node) (d : Bool) → get s.tree p ≡ n → ShowsData z x n → ShowsCounts z c n (num_children s.tree p) d →
       IsRight z s (set_data_choice p content version now x c) (set_data s.tree p content version z now n)
   unfolding set_data_choice
-  set_data_right None c None here seen counted = refl
-  set_data_right None c (Some n) here seen counted = absurd seen
-  set_data_right (Some x) c None here seen counted = absurd seen
-  set_data_right (Some x) None (Some n) here seen counted = absurd counted
-  set_data_right (Some x) (Some c) (Some n) here seen counted = set_with n x c here seen counted
+  set_data_right None c None d here seen counted = refl
+  set_data_right None c (Some n) d here seen counted = absurd seen
+  set_data_right (Some x) c None d here seen counted = absurd seen
+  set_data_right (Some x) None (Some n) d here seen counted = absurd counted
+  set_data_right (Some x) (Some c) (Some n) d here seen counted = set_with n x c here seen d counted

@@ -1,5 +1,5 @@
 -- What a view saw under a node's and a session's keys shows what a state has that the view shows.
-use Rattle.std.proofs.Common.{◌≡◌, ℕ, ℤ, pos, Bool, List, Option, Some, None, refl, subst}
+use Rattle.std.proofs.Common.{◌≡◌, ℕ, ℤ, pos, Bool, true, List, Option, Some, None, refl, subst}
 use Rattle.std.specs.Prelude.{is_some}
 use Rattle.std.specs.FinMap.{get}
 use Rattle.ev_types.specs.declared.answer.Kv.{Kv}
@@ -9,7 +9,7 @@ use Rattle.zk_model.specs.Znodes.{num_children, owned}
 use Rattle.zk_service.specs.States.{State, Session, session_at}
 use Rattle.zn_layout.specs.declared.record.SessionRec.{SessionRec}
 use Rattle.zn_layout.specs.Keys.{HeadKey, DataKey, CountsKey, SessionKey}
-use Rattle.zn_layout.specs.StandsFor.{is_counted_in, DataMeans, NodesMean}
+use Rattle.zn_layout.specs.StandsFor.{is_counted_in, CountsMean, DataMeans, NodesMean}
 use Rattle.zn_view.specs.Lookups.{sees}
 use Rattle.zn_view.specs.Seen.{View}
 use Rattle.zn_updates.specs.declared.seen.SeenData.{SeenData}
@@ -17,7 +17,7 @@ use Rattle.zn_updates.specs.declared.seen.SeenCounts.{SeenCounts}
 use Rattle.zn_updates.specs.Layers.{stored_own, Shows}
 use Rattle.zn_updates.specs.Making.{IsDataSeen, IsCountsSeen, IsNodesSeen, has_found}
 use Rattle.zn_updates.specs.Seen.{ShowsData, ShowsCounts, ShowsOwned}
-use Rattle.zn_updates.proofs.Telling.{data_shows, counts_shows, nodes_shows}
+use Rattle.zn_updates.proofs.Telling.{data_shows, counts_shows, nodes_shows, parent_shows}
 
 data_not_head : (p : Bytes) → DataKey p ≡ HeadKey → ⊥
 data_not_head p e = cc
@@ -43,6 +43,15 @@ module _ (z : ℤ) (v : View) (s : State) (shows : Shows z v s) where
   counts-shown p x y node = elim (sees v (CountsKey p)) as (λ o. sees v (CountsKey p) ≡ o → IsCountsSeen x o y → ShowsCounts z y (get s.tree p) (num_children s.tree p) (counted_at p)) [
     | None ↦ λ e h. absurd h
     | Some o ↦ λ e h. counts_shows z (get s.tree p) (num_children s.tree p) (counted_at p) o x y (data-shown p x node) h (shows (CountsKey p) (counts_not_head p) o e).0
+  ] refl
+
+  -- the counts of a node that is known to have a record of them
+  pub parent-shown : (q : Bytes) (n : Node) (y : Option SeenCounts) → get s.tree q ≡ Some n → is_counted_in s (Some n) ≡ true → IsCountsSeen None (sees v (CountsKey q)) y → ShowsCounts z y (Some n) (num_children s.tree q) true
+  parent-shown q n y there counted = elim (sees v (CountsKey q)) as (λ o. sees v (CountsKey q) ≡ o → IsCountsSeen None o y → ShowsCounts z y (Some n) (num_children s.tree q) true) [
+    | None ↦ λ e h. absurd h
+    | Some o ↦ λ e h.
+        let means = subst (λ (u : Option Node). CountsMean u (num_children s.tree q) (is_counted_in s u) (stored_own z o)) there (shows (CountsKey q) (counts_not_head q) o e).0 in
+        parent_shows z n (num_children s.tree q) o y h (subst (λ (b : Bool). CountsMean (Some n) (num_children s.tree q) b (stored_own z o)) counted means)
   ] refl
 
   pub nodes-shown : (id : ℕ) (y : Session) (x : Option SessionRec) → session_at (pos id) s ≡ Some y → IsNodesSeen (sees v (SessionKey id)) x → ShowsOwned x y (owned s.tree (pos id))

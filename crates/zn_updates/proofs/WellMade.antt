@@ -15,21 +15,22 @@ use Rattle.zk_model.specs.Paths.{is_path, parent}
 use Rattle.zk_model.specs.Single.{matches}
 use Rattle.zk_model.proofs.ValidPaths.{parent-valid}
 use Rattle.zn_layout.specs.declared.record.CountRec.{CountRec}
+use Rattle.zn_layout.specs.declared.record.SessionRec.{SessionRec}
 use Rattle.zn_layout.specs.Begin.{new_record, first_counts}
 use Rattle.zn_layout.specs.Changes.{KeyChange, are_distinct, change_size, delete_key, head_put, put_key}
 use Rattle.zn_layout.specs.Keys.{DataKey, CountsKey}
-use Rattle.zn_layout.specs.Records.{counts_value, node_value, IsHeadRec, IsSessionRec}
+use Rattle.zn_layout.specs.Records.{counts_value, has_counts, node_value, IsHeadRec, IsSessionRec}
 use Rattle.zk_model.specs.Watches.{trigger_path}
 use Rattle.zn_layout.proofs.Paths.{path_short}
 use Rattle.zn_view.specs.Asks.{IsLeaseless}
-use Rattle.zn_view.proofs.Sizes.{counts-size, counts_value-size, data-size, node_value-size, session-size, session_value-size}
+use Rattle.zn_view.proofs.Sizes.{counts-size, counts_value-size, data-size, node_value-size, owned-most, session-size, session_value-size}
 use Rattle.zn_updates.specs.declared.seen.SeenData.{SeenData}
 use Rattle.zn_updates.specs.declared.seen.SeenCounts.{SeenCounts}
 use Rattle.zn_layout.specs.Counts.{one_less, one_more}
 use Rattle.zn_updates.specs.Choices.{Choice, create_changes, create_choice, create_owned, create_triggers, delete_changes, delete_choice, delete_here, delete_owned, delete_triggers, put_owned, set_data_choice, set_record}
-use Rattle.zn_updates.specs.Making.{IsPathsSeen}
+use Rattle.zn_updates.specs.Making.{IsNodesSeen}
 use Rattle.zn_updates.specs.Parts.{IfChanges}
-use Rattle.zn_updates.specs.OwnedLists.{placed, without}
+use Rattle.zn_updates.specs.OwnedLists.{with_node, without_node}
 use Rattle.zn_updates.proofs.ListBounds.{placed-length, placed-within, without-length, without-within}
 
 -- ---- triggers within their bounds
@@ -90,72 +91,91 @@ module _ (p q : Bytes) (valid : is_path p ≡ true) (below : parent p ≡ Some q
   module _ (P : Type 0) where
     -- ---- delete
 
-    delete_leases : (above : CountRec) (more : List KeyChange) → All IsLeaseless more → All IsLeaseless (delete_changes p q above ++ more)
-    delete_leases above more rest = All-cons IsLeaseless (delete_key (DataKey p)) (delete_key (CountsKey p) ∷ put_key (CountsKey q) (counts_value (one_less above)) ∷ more) tt
+    delete_leases : (b : Bool) (above : CountRec) (more : List KeyChange) → All IsLeaseless more → All IsLeaseless (delete_changes p q b above ++ more)
+    delete_leases true above more rest = All-cons IsLeaseless (delete_key (DataKey p)) (delete_key (CountsKey p) ∷ put_key (CountsKey q) (counts_value (one_less above)) ∷ more) tt
         (All-cons IsLeaseless (delete_key (CountsKey p)) (put_key (CountsKey q) (counts_value (one_less above)) ∷ more) tt
         (All-cons IsLeaseless (put_key (CountsKey q) (counts_value (one_less above))) more refl rest))
+    delete_leases false above more rest = All-cons IsLeaseless (delete_key (DataKey p)) (put_key (CountsKey q) (counts_value (one_less above)) ∷ more) tt
+        (All-cons IsLeaseless (put_key (CountsKey q) (counts_value (one_less above))) more refl rest)
 
-    delete_plain : (above : CountRec) → AreWellMade P (delete_changes p q above) (delete_triggers p q)
-    delete_plain above = record {
+    delete_plain : (b : Bool) (above : CountRec) → AreWellMade P (delete_changes p q b above) (delete_triggers p q)
+    delete_plain true above = record {
       once = counts_once;
-      leases = delete_leases above [] (All-nil IsLeaseless);
+      leases = delete_leases true above [] (All-nil IsLeaseless);
       triggers = two_triggers (Deleted p) (Children q) valid parent-path;
       told = omega arith;
       few = omega arith;
       small = λ h. omega (arith, data-size p, counts-size p, counts-size q, counts_value-size (one_less above), keys_short.0, keys_short.1);
     }
-
-    delete_from : (above : CountRec) (owner : ℤ) (ps : List Bytes) → IsSessionRec ps → (P → length ps ≤ max_owned) → AreWellMade P (delete_changes p q above ++ put_owned owner (without p ps) ∷ []) (delete_triggers p q)
-    delete_from above owner ps listed few = record {
-      once = counts_once;
-      leases = delete_leases above (put_owned owner (without p ps) ∷ []) (All-cons IsLeaseless (put_owned owner (without p ps)) [] refl (All-nil IsLeaseless));
+    delete_plain false above = record {
+      once = refl;
+      leases = delete_leases false above [] (All-nil IsLeaseless);
       triggers = two_triggers (Deleted p) (Children q) valid parent-path;
       told = omega arith;
       few = omega arith;
-      small = λ h. omega (
-        arith,
-        data-size p,
-        counts-size p,
-        counts-size q,
-        counts_value-size (one_less above),
-        session-size (nat_abs owner),
-        session_value-size (without p ps) (without-within p ps listed).valid,
-        without-length p ps,
-        few h,
-        keys_short.0,
-        keys_short.1,
-      );
+      small = λ h. omega (arith, data-size p, counts-size q, counts_value-size (one_less above), keys_short.0, keys_short.1);
     }
 
-    pub delete-made : (version : ℤ) (x : Option SeenData) (c a : Option SeenCounts) (paths : Option (List Bytes))
-        → ((y : SeenData) (ps : List Bytes) → x ≡ Some y → int_eq y.owner (pos 0) ≡ false → paths ≡ Some ps → IsSessionRec ps × (P → length ps ≤ max_owned))
-        → IfChanges (AreWellMade P) (delete_choice p q version x c a paths)
+    -- the list of the owner's nodes is small
+    left_small : (owner : ℤ) (r : SessionRec) → IsSessionRec r → length r.paths ≤ max_owned r.layout → change_size (put_owned owner (without_node p r)) ≤ 62000
+    left_small owner r listed few = omega (
+      arith,
+      session-size (nat_abs owner),
+      session_value-size (without_node p r) (without-within p r.paths listed).valid,
+      without-length p r.paths,
+      few,
+      owned-most r.layout,
+    )
+
+    delete_from : (b : Bool) (above : CountRec) (owner : ℤ) (r : SessionRec) → IsSessionRec r → (P → length r.paths ≤ max_owned r.layout) → AreWellMade P (delete_changes p q b above ++ put_owned owner (without_node p r) ∷ []) (delete_triggers p q)
+    delete_from true above owner r listed few = record {
+      once = counts_once;
+      leases = delete_leases true above (put_owned owner (without_node p r) ∷ []) (All-cons IsLeaseless (put_owned owner (without_node p r)) [] refl (All-nil IsLeaseless));
+      triggers = two_triggers (Deleted p) (Children q) valid parent-path;
+      told = omega arith;
+      few = omega arith;
+      small = λ h. omega (arith, data-size p, counts-size p, counts-size q, counts_value-size (one_less above), left_small owner r listed (few h), keys_short.0, keys_short.1);
+    }
+    delete_from false above owner r listed few = record {
+      once = refl;
+      leases = delete_leases false above (put_owned owner (without_node p r) ∷ []) (All-cons IsLeaseless (put_owned owner (without_node p r)) [] refl (All-nil IsLeaseless));
+      triggers = two_triggers (Deleted p) (Children q) valid parent-path;
+      told = omega arith;
+      few = omega arith;
+      small = λ h. omega (arith, data-size p, counts-size q, counts_value-size (one_less above), left_small owner r listed (few h), keys_short.0, keys_short.1);
+    }
+
+    pub delete-made : (version : ℤ) (x : Option SeenData) (c a : Option SeenCounts) (nodes : Option SessionRec)
+        → ((y : SeenData) (r : SessionRec) → x ≡ Some y → int_eq y.owner (pos 0) ≡ false → nodes ≡ Some r → IsSessionRec r × (P → length r.paths ≤ max_owned r.layout))
+        → IfChanges (AreWellMade P) (delete_choice p q version x c a nodes)
     unfolding delete_choice
-    delete-made version None c a paths few = tt
-    delete-made version (Some x) None a paths few = tt
-    delete-made version (Some x) (Some c) a paths few =
+    delete-made version None c a nodes few = tt
+    delete-made version (Some x) None a nodes few = tt
+    delete-made version (Some x) (Some c) a nodes few =
         changes_cond (AreWellMade P) (not (matches version x.version)) _ _ (λ _. tt) (λ _. changes_cond (AreWellMade P) (not (int_eq c.counts.children (pos 0))) _ _ (λ _. tt) (λ _. here a))
       where
-        owned_by : int_eq x.owner (pos 0) ≡ false → (o : Option (List Bytes)) → paths ≡ o → (above : SeenCounts) → IfChanges (AreWellMade P) (delete_owned p q above.counts x.owner o)
+        owned_by : int_eq x.owner (pos 0) ≡ false → (o : Option SessionRec) → nodes ≡ o → (above : SeenCounts) → IfChanges (AreWellMade P) (delete_owned p q c.is_stored above.counts x.owner o)
         owned_by owns None e above = tt
-        owned_by owns (Some ps) e above = let listed = few x ps refl owns e in delete_from above.counts x.owner ps listed.0 listed.1
+        owned_by owns (Some r) e above = let listed = few x r refl owns e in delete_from c.is_stored above.counts x.owner r listed.0 listed.1
 
-        here : (o : Option SeenCounts) → IfChanges (AreWellMade P) (delete_here p q x o paths)
+        here : (o : Option SeenCounts) → IfChanges (AreWellMade P) (delete_here p q x c.is_stored o nodes)
         here None = tt
-        here (Some above) = changes_cond (AreWellMade P) (int_eq x.owner (pos 0)) _ _ (λ _. delete_plain above.counts) (λ owns. owned_by owns paths refl above)
+        here (Some above) = changes_cond (AreWellMade P) (int_eq x.owner (pos 0)) _ _ (λ _. delete_plain c.is_stored above.counts) (λ owns. owned_by owns nodes refl above)
 
     -- ---- create
 
     module _ (content : Bytes) (short : length content ≤ max_frame) (now : ℕ) where
-      create_leases : (owner : ℤ) (above : CountRec) (more : List KeyChange) → All IsLeaseless more → All IsLeaseless (create_changes p q content now owner above ++ more)
-      create_leases owner above more rest = All-cons IsLeaseless (put_key (DataKey p) (node_value (new_record content now owner))) (put_key (CountsKey p) (counts_value first_counts) ∷ put_key (CountsKey q) (counts_value (one_more above)) ∷ more) refl
+      create_leases : (b : Bool) (owner : ℤ) (above : CountRec) (more : List KeyChange) → All IsLeaseless more → All IsLeaseless (create_changes p q content now owner b above ++ more)
+      create_leases true owner above more rest = All-cons IsLeaseless (put_key (DataKey p) (node_value (new_record content now owner))) (put_key (CountsKey p) (counts_value first_counts) ∷ put_key (CountsKey q) (counts_value (one_more above)) ∷ more) refl
           (All-cons IsLeaseless (put_key (CountsKey p) (counts_value first_counts)) (put_key (CountsKey q) (counts_value (one_more above)) ∷ more) refl
           (All-cons IsLeaseless (put_key (CountsKey q) (counts_value (one_more above))) more refl rest))
+      create_leases false owner above more rest = All-cons IsLeaseless (put_key (DataKey p) (node_value (new_record content now owner))) (put_key (CountsKey q) (counts_value (one_more above)) ∷ more) refl
+          (All-cons IsLeaseless (put_key (CountsKey q) (counts_value (one_more above))) more refl rest)
 
-      create_plain : (above : CountRec) → AreWellMade P (create_changes p q content now (pos 0) above) (create_triggers p q)
+      create_plain : (above : CountRec) → AreWellMade P (create_changes p q content now (pos 0) true above) (create_triggers p q)
       create_plain above = record {
         once = counts_once;
-        leases = create_leases (pos 0) above [] (All-nil IsLeaseless);
+        leases = create_leases true (pos 0) above [] (All-nil IsLeaseless);
         triggers = two_triggers (Created p) (Children q) valid parent-path;
         told = omega arith;
         few = omega arith;
@@ -173,10 +193,21 @@ module _ (p q : Bytes) (valid : is_path p ≡ true) (below : parent p ≡ Some q
         );
       }
 
-      create_among : (above : CountRec) (session : ℤ) (ps : List Bytes) → IsSessionRec ps → length ps < 40 → AreWellMade P (create_changes p q content now session above ++ put_owned session (placed p ps) ∷ []) (create_triggers p q)
-      create_among above session ps listed few = record {
+      -- the list of the session's nodes is small
+      more_small : (session : ℤ) (r : SessionRec) → IsSessionRec r → length r.paths < max_owned r.layout → change_size (put_owned session (with_node p r)) ≤ 63000
+      more_small session r listed few = omega (
+        arith,
+        session-size (nat_abs session),
+        session_value-size (with_node p r) (placed-within p r.paths valid (omega (arith, few, owned-most r.layout)) listed).valid,
+        placed-length p r.paths,
+        few,
+        owned-most r.layout,
+      )
+
+      create_among : (b : Bool) (above : CountRec) (session : ℤ) (r : SessionRec) → IsSessionRec r → length r.paths < max_owned r.layout → AreWellMade P (create_changes p q content now session b above ++ put_owned session (with_node p r) ∷ []) (create_triggers p q)
+      create_among true above session r listed few = record {
         once = counts_once;
-        leases = create_leases session above (put_owned session (placed p ps) ∷ []) (All-cons IsLeaseless (put_owned session (placed p ps)) [] refl (All-nil IsLeaseless));
+        leases = create_leases true session above (put_owned session (with_node p r) ∷ []) (All-cons IsLeaseless (put_owned session (with_node p r)) [] refl (All-nil IsLeaseless));
         triggers = two_triggers (Created p) (Children q) valid parent-path;
         told = omega arith;
         few = omega arith;
@@ -188,33 +219,49 @@ module _ (p q : Bytes) (valid : is_path p ≡ true) (below : parent p ≡ Some q
           node_value-size (new_record content now session),
           counts_value-size first_counts,
           counts_value-size (one_more above),
-          session-size (nat_abs session),
-          session_value-size (placed p ps) (placed-within p ps valid (omega (arith, few)) listed).valid,
-          placed-length p ps,
-          few,
+          more_small session r listed few,
+          keys_short.0,
+          keys_short.1,
+          short,
+        );
+      }
+      create_among false above session r listed few = record {
+        once = refl;
+        leases = create_leases false session above (put_owned session (with_node p r) ∷ []) (All-cons IsLeaseless (put_owned session (with_node p r)) [] refl (All-nil IsLeaseless));
+        triggers = two_triggers (Created p) (Children q) valid parent-path;
+        told = omega arith;
+        few = omega arith;
+        small = λ h. omega (
+          arith,
+          data-size p,
+          counts-size q,
+          node_value-size (new_record content now session),
+          counts_value-size (one_more above),
+          more_small session r listed few,
           keys_short.0,
           keys_short.1,
           short,
         );
       }
 
-      create_for : (above : CountRec) (session : ℤ) (paths : Option (List Bytes)) → ((ps : List Bytes) → paths ≡ Some ps → IsSessionRec ps) → IfChanges (AreWellMade P) (create_owned p q content now above session paths)
+      create_for : (above : CountRec) (session : ℤ) (nodes : Option SessionRec) → ((r : SessionRec) → nodes ≡ Some r → IsSessionRec r) → IfChanges (AreWellMade P) (create_owned p q content now above session nodes)
       create_for above session None listed = tt
-      create_for above session (Some ps) listed = changes_cond (AreWellMade P) (nat_le max_owned (length ps)) _ _ (λ _. tt) (λ e. create_among above session ps (listed ps refl) (leb-false max_owned (length ps) e))
+      create_for above session (Some r) listed = changes_cond (AreWellMade P) (nat_le (max_owned r.layout) (length r.paths)) _ _ (λ _. tt)
+          (λ e. create_among (has_counts r.layout) above session r (listed r refl) (leb-false (max_owned r.layout) (length r.paths) e))
 
-      pub create-made : (ephemeral : Bool) (session : ℤ) (x : Option SeenData) (c : Option SeenCounts) (taken : Bool) (paths : Option (List Bytes)) → (ephemeral ≡ true → (ps : List Bytes) → paths ≡ Some ps → IsSessionRec ps)
-          → IfChanges (AreWellMade P) (create_choice p q content now ephemeral session x c taken paths)
+      pub create-made : (ephemeral : Bool) (session : ℤ) (x : Option SeenData) (c : Option SeenCounts) (taken : Bool) (nodes : Option SessionRec) → (ephemeral ≡ true → (r : SessionRec) → nodes ≡ Some r → IsSessionRec r)
+          → IfChanges (AreWellMade P) (create_choice p q content now ephemeral session x c taken nodes)
       unfolding create_choice
-      create-made ephemeral session None c taken paths listed = tt
-      create-made ephemeral session (Some x) None taken paths listed = tt
-      create-made ephemeral session (Some x) (Some c) true paths listed = tt
-      create-made ephemeral session (Some x) (Some c) false paths listed =
+      create-made ephemeral session None c taken nodes listed = tt
+      create-made ephemeral session (Some x) None taken nodes listed = tt
+      create-made ephemeral session (Some x) (Some c) true nodes listed = tt
+      create-made ephemeral session (Some x) (Some c) false nodes listed =
           changes_cond (AreWellMade P) (not (int_eq x.owner (pos 0))) _ _ (λ _. tt)
           (λ _. changes_cond (AreWellMade P) (int_eq c.counts.creates max_creates) _ _ (λ _. tt)
-          (λ _. changes_cond (AreWellMade P) ephemeral _ _ (λ e. create_for c.counts session paths (listed e)) (λ _. create_plain c.counts)))
+          (λ _. changes_cond (AreWellMade P) ephemeral _ _ (λ e. create_for c.counts session nodes (listed e)) (λ _. create_plain c.counts)))
 
--- the paths of a session's nodes that were seen
-pub paths-listed : (o : Option (Option Kv)) (ps : List Bytes) → IsPathsSeen o (Some ps) → IsSessionRec ps
-paths-listed None ps h = absurd h
-paths-listed (Some None) ps h = absurd h
-paths-listed (Some (Some kv)) ps h = h.0
+-- the record of a session's nodes that was seen
+pub nodes-within : (o : Option (Option Kv)) (r : SessionRec) → IsNodesSeen o (Some r) → IsSessionRec r
+nodes-within None r h = absurd h
+nodes-within (Some None) r h = absurd h
+nodes-within (Some (Some kv)) r h = h.0

@@ -13,6 +13,9 @@ use Rattle.ev_types.specs.Sizes.{act_size, guard_size}
 use Rattle.ev_types.specs.Store.{mod_of}
 use Rattle.zk_model.specs.declared.node.Trigger.{Trigger}
 use Rattle.zk_model.specs.declared.node.Trigger.TheVariants.{Created, Deleted, Changed, Children}
+use Rattle.zk_model.specs.declared.layout.Layout.{Layout}
+use Rattle.zk_model.specs.declared.layout.Layout.TheVariants.{One, Two}
+use Rattle.zk_model.specs.Limits.{max_owned}
 use Rattle.zk_model.specs.Paths.{is_path}
 use Rattle.zk_jute.proofs.Lengths.{length-int_bytes, length-long_bytes, length-string_bytes, length-vector_bytes}
 use Rattle.zk_jute.specs.JuteWriting.{int_bytes, long_bytes, string_bytes}
@@ -103,6 +106,11 @@ node_value-size r = omega (
   length-long_bytes r.mtime,
   length-long_bytes r.owner,
 )
+
+-- a session owns at most 60 nodes, whatever its layout
+pub owned-most : (l : Layout) → max_owned l ≤ 60
+owned-most One = omega arith
+owned-most Two = omega arith
 
 path-size : (p : Bytes) → IsTrue (is_path p) → length (string_bytes p) ≤ 1028
 path-size p h = omega (arith, length-string_bytes p, path_short p h)

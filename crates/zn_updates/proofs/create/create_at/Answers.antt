@@ -13,7 +13,7 @@ use Rattle.zn_view.specs.Asks.{narrowed}
 use Rattle.zn_view.specs.Lookups.{sees}
 use Rattle.zx_base.specs.Maps.{Bytes}
 use Rattle.zn_updates.specs.Choices.{create_choice}
-use Rattle.zn_updates.specs.Deciding.{creates_seen, decision_of, path_for, IsOwnPaths}
+use Rattle.zn_updates.specs.Deciding.{creates_seen, decision_of, path_for, AreOwnNodes}
 use Rattle.zn_updates.specs.KeysRead.{create_keys}
 use Rattle.zn_updates.specs.Making.{chosen_of, has_found}
 use Rattle.zn_updates.proofs.Clauses.{if_made}
@@ -36,16 +36,16 @@ returns c =
     first_of (search rules, grind (arith, common_steps, creates, to_z-of_z w64 _ fits)) in
     let path : c.in_ok-path.path ≡ path_for c.args.new.now.sequential c.args.new.now.path.now c.in_ok-above.above = c.in_ok-path.ensures in
     let taken : c.in_ok-taken.taken ≡ has_found (sees c.args.view.now (DataKey (path_for c.args.new.now.sequential c.args.new.now.path.now c.in_ok-above.above))) = c.in_ok-taken.ensures ∙ ap (λ (q : Bytes). has_found (sees c.args.view.now (DataKey q))) path in
-    let made : c.in_ok-chosen.chosen ≡ chosen_of (create_choice c.in_ok-path.path c.args.parent.now c.args.new.now.content.now c.args.new.now.time c.args.new.now.ephemeral c.args.new.now.session c.in_ok-up.up c.in_ok-above.above c.in_ok-taken.taken c.in_ok-paths.paths) =
+    let made : c.in_ok-chosen.chosen ≡ chosen_of (create_choice c.in_ok-path.path c.args.parent.now c.args.new.now.content.now c.args.new.now.time c.args.new.now.ephemeral c.args.new.now.session c.in_ok-up.up c.in_ok-above.above c.in_ok-taken.taken c.in_ok-nodes.nodes) =
     first_of (search rules, grind (arith, common_steps)) in
-    let chosen = made ∙ (λ i. chosen_of (create_choice (path i) c.args.parent.now c.args.new.now.content.now c.args.new.now.time c.args.new.now.ephemeral c.args.new.now.session c.in_ok-up.up c.in_ok-above.above (taken i) c.in_ok-paths.paths)) in
+    let chosen = made ∙ (λ i. chosen_of (create_choice (path i) c.args.parent.now c.args.new.now.content.now c.args.new.now.time c.args.new.now.ephemeral c.args.new.now.session c.in_ok-up.up c.in_ok-above.above (taken i) c.in_ok-nodes.nodes)) in
     IfOk-weaker c.decision.result _ _ (λ d is. (
       c.in_ok-up.up,
       c.in_ok-above.above,
-      c.in_ok-paths.paths,
+      c.in_ok-nodes.nodes,
       c.in_ok-up.ensures.is,
       c.in_ok-above.ensures.is,
-      subst (λ (z : ℤ). IsOwnPaths c.args.view.now c.args.new.now.ephemeral z c.in_ok-paths.paths) (to_z-of_z w64 _ fits) c.in_ok-paths.ensures.is,
+      subst (λ (z : ℤ). AreOwnNodes c.args.view.now c.args.new.now.ephemeral z c.in_ok-nodes.nodes) (to_z-of_z w64 _ fits) c.in_ok-nodes.ensures.is,
       is _ chosen ∙ ap (λ (ks : List Bytes). decision_of (narrowed c.args.view.now ks) (create_choice (path_for c.args.new.now.sequential c.args.new.now.path.now c.in_ok-above.above) c.args.parent.now c.args.new.now.content.now c.args.new.now.time c.args.new.now.ephemeral c.args.new.now.session c.in_ok-up.up c.in_ok-above.above
-          (has_found (sees c.args.view.now (DataKey (path_for c.args.new.now.sequential c.args.new.now.path.now c.in_ok-above.above)))) c.in_ok-paths.paths)) keys,
+          (has_found (sees c.args.view.now (DataKey (path_for c.args.new.now.sequential c.args.new.now.path.now c.in_ok-above.above)))) c.in_ok-nodes.nodes)) keys,
     )) c.decision.ensures

@@ -31,15 +31,15 @@ pub returns : goal.returns
 returns c =
     let fits : SFits w64 c.args.session = search rules in
     let keys : c.as_slice.result.now ≡ map key_bytes (delete_keys c.args.path.now (Some c.args.parent.now) c.args.session (owner_seen c.in_ok-node.node)) = first_of (search rules, grind (arith, common_steps, to_z-of_z w64 _ fits)) in
-    let chosen : c.in_ok-chosen.chosen ≡ chosen_of (delete_choice c.args.path.now c.args.parent.now c.args.version c.in_ok-node.node c.in_ok-counts.counts c.in_ok-above.above c.in_ok-paths.paths) = first_of (search rules, grind (arith, common_steps)) in
+    let chosen : c.in_ok-chosen.chosen ≡ chosen_of (delete_choice c.args.path.now c.args.parent.now c.args.version c.in_ok-node.node c.in_ok-counts.counts c.in_ok-above.above c.in_ok-nodes.nodes) = first_of (search rules, grind (arith, common_steps)) in
     IfOk-weaker c.decision.result _ _ (λ d is. (
       c.in_ok-node.node,
       c.in_ok-counts.counts,
       c.in_ok-above.above,
-      c.in_ok-paths.paths,
+      c.in_ok-nodes.nodes,
       c.in_ok-node.ensures.is,
       c.in_ok-counts.ensures.is,
       c.in_ok-above.ensures.is,
-      c.in_ok-paths.ensures.is,
-      is _ chosen ∙ ap (λ (ks : List Bytes). decision_of (narrowed c.args.view.now ks) (delete_choice c.args.path.now c.args.parent.now c.args.version c.in_ok-node.node c.in_ok-counts.counts c.in_ok-above.above c.in_ok-paths.paths)) keys,
+      c.in_ok-nodes.ensures.is,
+      is _ chosen ∙ ap (λ (ks : List Bytes). decision_of (narrowed c.args.view.now ks) (delete_choice c.args.path.now c.args.parent.now c.args.version c.in_ok-node.node c.in_ok-counts.counts c.in_ok-above.above c.in_ok-nodes.nodes)) keys,
     )) c.decision.ensures

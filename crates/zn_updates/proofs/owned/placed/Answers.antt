@@ -4,7 +4,7 @@ use Rattle.std.specs.List.{insert}
 use Rattle.zx_base.specs.Maps.{Bytes, same}
 use Rattle.zx_base.proofs.MapLaws.{same-true, same-refl}
 use Rattle.zn_updates.specs.OwnedLists.{IsPlaceOf}
-use Rattle.zn_layout.specs.Records.{IsSessionRec}
+use Rattle.zn_layout.specs.Records.{ArePaths}
 use Rattle.zn_updates.proofs.ListBounds.{placed-within}
 use Rattle.zn_updates.proofs.Places.{placed-there, placed-new}
 use Rattle.zn_updates.proofs.owned.placed.Goals as goal
@@ -44,7 +44,7 @@ pub returns-clause-is : goal.returns-clause-is
 returns-clause-is c = new c
 
 pub returns-then-stands_at-clause-within : goal.returns-then-stands_at-clause-within
-returns-then-stands_at-clause-within c = λ valid few within. subst IsSessionRec (sym (there c)) (placed-within c.args.path.now c.args.paths valid few within)
+returns-then-stands_at-clause-within c = λ valid few within. subst ArePaths (sym (there c)) (placed-within c.args.path.now c.args.paths valid few within)
 
 pub returns-clause-within : goal.returns-clause-within
-returns-clause-within c = λ valid few within. subst IsSessionRec (sym (new c)) (placed-within c.args.path.now c.args.paths valid few within)
+returns-clause-within c = λ valid few within. subst ArePaths (sym (new c)) (placed-within c.args.path.now c.args.paths valid few within)

@@ -2,7 +2,7 @@
 use Rattle.std.proofs.Common.{not, rules, sym, ap, ◌∙◌, subst}
 use Rattle.std.proofs.lemmas.Fn.{filter_same}
 use Rattle.zx_base.specs.Maps.{Bytes, same}
-use Rattle.zn_layout.specs.Records.{IsSessionRec}
+use Rattle.zn_layout.specs.Records.{ArePaths}
 use Rattle.zn_updates.proofs.ListBounds.{without-within}
 use Rattle.zn_updates.specs.OwnedLists.{without}
 use Rattle.zn_updates.proofs.owned.without.Goals as goal
@@ -15,4 +15,4 @@ pub returns-clause-is : goal.returns-clause-is
 returns-clause-is c = kept c
 
 pub returns-clause-within : goal.returns-clause-within
-returns-clause-within c = λ within. subst IsSessionRec (sym (kept c)) (without-within c.args.path.now c.args.paths within)
+returns-clause-within c = λ within. subst ArePaths (sym (kept c)) (without-within c.args.path.now c.args.paths within)

@@ -11,7 +11,7 @@ use Rattle.zn_updates.specs.Choices.{create_choice}
 use Rattle.zn_updates.specs.Deciding.{path_for}
 use Rattle.zn_updates.specs.Layers.{layered}
 use Rattle.zn_updates.specs.Making.{chosen_of, has_found}
-use Rattle.zn_updates.specs.Parts.{IfPaths}
+use Rattle.zn_updates.specs.Parts.{IfNodes}
 use Rattle.zn_updates.proofs.part.created_below.Goals as goal
 
 pub returns : goal.returns
@@ -20,17 +20,17 @@ returns c =
     let v : View = layered c.args.over.now c.args.view.now in
     let path : c.in_ok-path.path ≡ path_for c.args.new.now.sequential c.args.new.now.path.now c.in_ok-above.above = c.in_ok-path.ensures in
     let taken : c.in_ok-taken.taken ≡ has_found (sees v (DataKey (path_for c.args.new.now.sequential c.args.new.now.path.now c.in_ok-above.above))) = c.in_ok-taken.ensures ∙ ap (λ (q : Bytes). has_found (sees v (DataKey q))) path in
-    let paths : c.args.new.now.ephemeral ≡ true → IfPaths v c.args.new.now.session c.in_ok-paths.paths = subst (λ (z : ℤ). c.args.new.now.ephemeral ≡ true → IfPaths v z c.in_ok-paths.paths) (to_z-of_z w64 _ fits) c.in_ok-paths.ensures.is in
+    let paths : c.args.new.now.ephemeral ≡ true → IfNodes v c.args.new.now.session c.in_ok-nodes.nodes = subst (λ (z : ℤ). c.args.new.now.ephemeral ≡ true → IfNodes v z c.in_ok-nodes.nodes) (to_z-of_z w64 _ fits) c.in_ok-nodes.ensures.is in
     IfOk-weaker c.choose_create.result _ _ (λ d is. record {
       up = c.in_ok-up.up;
       above = c.in_ok-above.above;
-      paths = c.in_ok-paths.paths;
+      nodes = c.in_ok-nodes.nodes;
       up_is = c.in_ok-up.ensures.is;
       above_is = c.in_ok-above.ensures.is;
       above_within = c.in_ok-above.ensures.within;
-      paths_are = paths;
-      paths_within = c.in_ok-paths.ensures.within;
+      nodes_are = paths;
+      nodes_within = c.in_ok-nodes.ensures.within;
       is =
-          let made : d ≡ chosen_of (create_choice c.in_ok-path.path c.args.parent.now c.args.new.now.content.now c.args.new.now.time c.args.new.now.ephemeral c.args.new.now.session c.in_ok-up.up c.in_ok-above.above c.in_ok-taken.taken c.in_ok-paths.paths) = first_of (search rules, grind (arith, common_steps, is, to_z-of_z w64 _ fits)) in
-          made ∙ (λ i. chosen_of (create_choice (path i) c.args.parent.now c.args.new.now.content.now c.args.new.now.time c.args.new.now.ephemeral c.args.new.now.session c.in_ok-up.up c.in_ok-above.above (taken i) c.in_ok-paths.paths));
+          let made : d ≡ chosen_of (create_choice c.in_ok-path.path c.args.parent.now c.args.new.now.content.now c.args.new.now.time c.args.new.now.ephemeral c.args.new.now.session c.in_ok-up.up c.in_ok-above.above c.in_ok-taken.taken c.in_ok-nodes.nodes) = first_of (search rules, grind (arith, common_steps, is, to_z-of_z w64 _ fits)) in
+          made ∙ (λ i. chosen_of (create_choice (path i) c.args.parent.now c.args.new.now.content.now c.args.new.now.time c.args.new.now.ephemeral c.args.new.now.session c.in_ok-up.up c.in_ok-above.above (taken i) c.in_ok-nodes.nodes));
     }) c.choose_create.ensures
