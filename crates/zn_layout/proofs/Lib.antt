@@ -9,6 +9,7 @@ pub mod Paths
 pub mod Numbers
 pub mod Nodes
 pub mod Lookups
+pub mod Counted
 pub mod First
 pub mod FirstUpdate
 pub mod Digits

@@ -25,12 +25,13 @@ use Rattle.zn_layout.specs.Records.{has_counts, node_value, counts_value, sessio
 use Rattle.zn_layout.specs.StandsFor.{Stored, counts_record, is_counted, is_counted_in, nodes_record, CountsMean, IsData, IsCounts, IsUncounted, Means, NodesMean}
 use Rattle.zn_updates.specs.declared.seen.SeenCounts.{SeenCounts}
 use Rattle.zn_layout.specs.Counts.{one_more}
+use Rattle.zn_layout.proofs.Counted.{plain-counted}
 use Rattle.zn_updates.specs.Choices.{create_changes, put_owned}
 use Rattle.zn_updates.specs.OwnedLists.{placed, with_node}
 use Rattle.zn_updates.specs.Right.{with_tree}
 use Rattle.zn_updates.specs.Seen.{IsSeenCounts}
 use Rattle.zn_updates.proofs.ListBounds.{placed-within}
-use Rattle.zn_updates.proofs.Meanings.{below_most, counted_along, counts_along, data_along, data_same, int_eq-apart, nodes_along, none_uncounted, plain_counted, session_is, session_other, time_within, zero_within}
+use Rattle.zn_updates.proofs.Meanings.{below_most, counted_along, counts_along, data_along, data_same, int_eq-apart, nodes_along, none_uncounted, session_is, session_other, time_within, zero_within}
 use Rattle.zn_updates.proofs.OwnedLists.{owned-create}
 use Rattle.zn_updates.proofs.Telling.{no_counts-within}
 use Rattle.zx_base.proofs.Booleans.{same-int as int_eq-same}
@@ -136,7 +137,7 @@ module _ (s : State) (p q content : Bytes) (z : ℤ) (now : ℕ) (up : Node) (ab
   at_parent r e =
       let here : get new.tree r ≡ Some more = ap (get new.tree) e ∙ parent_here in
       counts_along (Some stored_more) (Some more) (get new.tree r) (num_children s.tree q + 1) (num_children new.tree r) true (is_counted_in new (get new.tree r)) here (ap (num_children new.tree) e ∙ count_parent)
-      (counted_along s new.tree (Some more) (get new.tree r) here ∙ plain_counted s more sound plain) more_counts
+      (counted_along s new.tree (Some more) (get new.tree r) here ∙ plain-counted s more sound plain) more_counts
 
   at_new : (b : Bool) → is_counted_in s (Some fresh) ≡ b → (r : Bytes) → r ≡ p → (o : Option Stored) → CountsMean (Some fresh) 0 b o → NewCounts r o
   at_new b c r e o means =
@@ -189,7 +190,7 @@ module _ (s : State) (p q content : Bytes) (z : ℤ) (now : ℕ) (up : Node) (ab
   plain_each : owner ≡ pos 0 → (k : Key) → KeyFits z (last (create_changes p q content now owner true above.counts) k) k s new
   plain_each free HeadKey = λ o h. h
   plain_each free (DataKey r) = data_fits r
-  plain_each free (CountsKey r) = counted_fit (plain_counted s fresh sound free) r
+  plain_each free (CountsKey r) = counted_fit (plain-counted s fresh sound free) r
   plain_each free (SessionKey id) = nodes_stay id (not_owned free id)
   plain_each free (LeaseKey id) = λ o h. h
 

@@ -30,6 +30,7 @@ use Rattle.zn_layout.specs.Records.{node_value, IsNodeRec, IsHeadRec}
 use Rattle.zn_layout.specs.Records.{IsSessionRec}
 use Rattle.zn_layout.proofs.Nodes.{node_value-injective}
 use Rattle.zn_layout.proofs.Paths.{path_short}
+use Rattle.zn_layout.proofs.Counted.{plain-counted}
 use Rattle.zn_view.specs.declared.plan.Decision.{Decision}
 use Rattle.zn_view.specs.declared.plan.Who.{Who}
 use Rattle.zn_view.specs.declared.want.Want.{Want}
@@ -59,7 +60,7 @@ use Rattle.zn_updates.proofs.DeleteRight.{delete_right, plain_parent}
 use Rattle.zn_updates.proofs.Forms.{delete_refusal}
 use Rattle.zn_updates.proofs.NewKeys.{delete-new}
 use Rattle.zn_updates.proofs.WellMade.{delete-made, nodes-within, two_triggers}
-use Rattle.zn_updates.proofs.Meanings.{int_eq-apart, of_abs, plain_counted}
+use Rattle.zn_updates.proofs.Meanings.{int_eq-apart, of_abs}
 use Rattle.zn_updates.proofs.Showing.{data-shown, counts-shown, nodes-shown, parent-shown}
 use Rattle.zn_updates.proofs.Telling.{shows, told}
 use Rattle.zx_base.proofs.Booleans.{and-split}
@@ -124,7 +125,7 @@ module _ (p : Bytes) (version : ℤ) where
   above_shown s z v q a sound shown below seen_above (Some n) there =
       let up = plain_parent s p q n sound below there in
       subst (λ (u : Option Node). ShowsCounts z a u (num_children s.tree q) true) (sym up.there)
-      (parent-shown z v s shown q up.node a up.there (plain_counted s up.node sound up.plain) seen_above)
+      (parent-shown z v s shown q up.node a up.there (plain-counted s up.node sound up.plain) seen_above)
 
   pub delete_chosen : (who : Who) (v : View) (q : Bytes) (x : Option SeenData) (c a : Option SeenCounts) (nodes : Option SessionRec) → (is_path p && not (same p root)) ≡ true → parent p ≡ Some q
       → IsDataSeen (sees v (DataKey p)) x → IsCountsSeen x (sees v (CountsKey p)) c → IsCountsSeen None (sees v (CountsKey q)) a → AreOwnerNodes v x nodes

@@ -21,13 +21,14 @@ use Rattle.zn_layout.specs.Records.{counts_value, session_value, ArePaths, IsCou
 use Rattle.zn_layout.specs.StandsFor.{Stored, counts_record, is_counted_in, nodes_record, CountsMean, IsCounts, Means, NodesMean}
 use Rattle.zn_updates.specs.declared.seen.SeenCounts.{SeenCounts}
 use Rattle.zn_layout.specs.Counts.{one_less}
+use Rattle.zn_layout.proofs.Counted.{plain-counted}
 use Rattle.zn_updates.specs.Choices.{delete_changes, put_owned}
 use Rattle.zn_updates.specs.OwnedLists.{without, without_node}
 use Rattle.zn_updates.specs.Right.{with_tree}
 use Rattle.zn_updates.specs.Seen.{IsSeenCounts}
 use Rattle.zn_updates.proofs.Deleting.{delete_tree, delete_gone, delete_parent, delete_other, delete_count_parent, delete_count_other}
 use Rattle.zn_updates.proofs.ListBounds.{without-within}
-use Rattle.zn_updates.proofs.Meanings.{counted_along, counts_along, data_along, data_same, int_eq-apart, nodes_along, plain_counted, session_is, session_other, uncounted_none}
+use Rattle.zn_updates.proofs.Meanings.{counted_along, counts_along, data_along, data_same, int_eq-apart, nodes_along, session_is, session_other, uncounted_none}
 use Rattle.zn_updates.proofs.OwnedLists.{owned-delete, owned-delete_other}
 
 pub one_less-within : (c : CountRec) → IsCountRec c → IsCountRec (one_less c)
@@ -96,7 +97,7 @@ module _ (s : State) (p q : Bytes) (z : ℤ) (up node : Node) (above : SeenCount
   at_parent r e =
       let there_now : get new.tree r ≡ Some less = ap (get new.tree) e ∙ parent_here in
       counts_along (Some stored_less) (Some less) (get new.tree r) (num_children s.tree q - 1) (num_children new.tree r) true (is_counted_in new (get new.tree r)) there_now (ap (num_children new.tree) e ∙ count_parent)
-      (counted_along s new.tree (Some less) (get new.tree r) there_now ∙ plain_counted s less sound plain) less_counts
+      (counted_along s new.tree (Some less) (get new.tree r) there_now ∙ plain-counted s less sound plain) less_counts
 
   at_gone : (r : Bytes) → r ≡ p → (o : Option Stored) → CountsMean None (num_children new.tree r) (is_counted_in new (get new.tree r)) o → NewCounts r o
   at_gone r e o means = counts_along o None (get new.tree r) (num_children new.tree r) (num_children new.tree r) (is_counted_in new (get new.tree r)) (is_counted_in new (get new.tree r)) (ap (get new.tree) e ∙ gone_here) refl refl means

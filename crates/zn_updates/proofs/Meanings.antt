@@ -7,9 +7,9 @@ use Rattle.std.proofs.lemmas.Int.{ints}
 use Rattle.zx_base.specs.Maps.{Bytes}
 use Rattle.zk_model.specs.declared.node.Node.{Node}
 use Rattle.zk_model.specs.Znodes.{Tree}
-use Rattle.zk_service.specs.States.{State, Session, IsSound, session_at}
+use Rattle.zk_service.specs.States.{State, Session}
 use Rattle.zn_layout.specs.Records.{node_value, counts_value, IsLongCount, IsNodeRec, IsCountRec}
-use Rattle.zn_layout.specs.StandsFor.{Stored, data_record, is_counted, is_counted_in, IsUncounted, DataMeans, CountsMean, NodesMean}
+use Rattle.zn_layout.specs.StandsFor.{Stored, data_record, is_counted_in, IsUncounted, DataMeans, CountsMean, NodesMean}
 use Rattle.zn_updates.specs.Right.{with_tree}
 use Rattle.zx_base.proofs.Booleans.{same-from_int_eq, same-int}
 
@@ -62,16 +62,6 @@ counted_same s t (Some n) = refl
 -- a change of the tree leaves the sessions, and so this
 pub counted_along : (s : State) (t : Tree) (a b : Option Node) → b ≡ a → is_counted_in (with_tree s t) b ≡ is_counted_in s a
 counted_along s t a b e = counted_same s t b ∙ ap (is_counted_in s) e
-
-no_session : (s : State) → IsSound s → session_at (pos 0) s ≡ None
-no_session s sound = elim (session_at (pos 0) s) as (λ (x : Option Session). session_at (pos 0) s ≡ x → x ≡ None) [
-  | None ↦ λ e. refl
-  | Some y ↦ λ e. let h = sound.numbered (pos 0) y e in absurd (omega (arith, ints, h))
-] refl
-
--- a node that no session owns has one
-pub plain_counted : (s : State) (n : Node) → IsSound s → n.owner ≡ pos 0 → is_counted_in s (Some n) ≡ true
-plain_counted s n sound free = ap (λ (o : ℤ). is_counted (session_at o s)) free ∙ ap is_counted (no_session s sound)
 
 closed_means : (a b : List Bytes) (o : Option Stored) → NodesMean None a o → NodesMean None b o
 closed_means a b None h = h

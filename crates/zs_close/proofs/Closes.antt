@@ -16,6 +16,7 @@ use Rattle.zk_model.specs.Watches.{no_watches}
 use Rattle.zk_service.specs.Answers.{tree_reply}
 use Rattle.zk_service.specs.States.{State, Session, IsSound, limit_of, session_at, session_ended}
 use Rattle.zx_base.specs.Maps.{Bytes}
+use Rattle.zn_layout.specs.declared.record.SessionRec.{SessionRec}
 use Rattle.zn_layout.specs.Keys.{SessionKey, LeaseKey, key_bytes}
 use Rattle.zn_layout.specs.StandsFor.{NodesMean, LifeMeans, StandsFor, stored_of}
 use Rattle.zn_view.specs.declared.plan.Decision.{Decision}
@@ -51,9 +52,9 @@ pub record IsPlannedClose (who : Who) (v : View) (p : Plan) : Type 0 where
   pub mine : life.mod_revision ≡ who.mine
   pub kv : Kv
   pub saw : sees v (SessionKey (nat_abs who.session)) ≡ Some (Some kv)
-  pub ps : List Bytes
-  pub nodes : IsNodesIn kv ps
-  pub plan : IsEndPlan true who.session v ps p
+  pub nodes : SessionRec
+  pub found : IsNodesIn kv nodes
+  pub plan : IsEndPlan true who.session v nodes p
 
 pub if_planned : (P Q : Plan → Type 0) (d : Decision) → ((p : Plan) → P p → Q p) → IfPlanned P d → IfPlanned Q d
 if_planned P Q (Planned p) f h = f p h
@@ -83,15 +84,16 @@ module _ (who : Who) (v : View) (real : pos 1 ≤ℤ who.session) where
   listless (Some x) own kv lives nodes = nodes
 
   -- it has no more nodes than it may own
-  too_many : (n : ℕ) → nat_le n max_owned ≡ false → n ≤ max_owned → ⊥
-  too_many n e few = both_ways _ e (le-leb n max_owned few)
+  too_many : (n most : ℕ) → nat_le n most ≡ false → n ≤ most → ⊥
+  too_many n most e few = both_ways _ e (le-leb n most few)
 
   module _ (life_kv : Kv) (saw_life : life ≡ Some (Some life_kv)) (here : int_eq life_kv.mod_revision who.mine ≡ true) (d : Decision) where
-    with_decides : (kv : Kv) (ps : List Bytes) → session_seen ≡ Some (Some kv) → IsNodesIn kv ps → IsClosedWith who.session v ps d → IsDecision req.Close who v d
-    with_decides kv ps saw nodes h =
-        elim (nat_le (length ps) max_owned) as (λ b. nat_le (length ps) max_owned ≡ b → MatchBool b ((p : Plan) × (d ≡ Planned p) × IsEndPlan true who.session v ps p) (d ≡ unsound) → IsDecision req.Close who v d) [
+    with_decides : (kv : Kv) (r : SessionRec) → session_seen ≡ Some (Some kv) → IsNodesIn kv r → IsClosedWith who.session v r d → IsDecision req.Close who v d
+    with_decides kv r saw found h =
+        elim (nat_le (length r.paths) (max_owned r.layout)) as (λ b. nat_le (length r.paths) (max_owned r.layout) ≡ b → MatchBool b ((p : Plan) × (d ≡ Planned p) × IsEndPlan true who.session v r p) (d ≡ unsound) → IsDecision req.Close who v d) [
           | true ↦ λ e is. planned_decides d is.0 life_kv saw_life here is.1
-          | false ↦ λ e is. no_state d life_kv saw_life here (λ m s sound stands agrees. too_many (length ps) e (nodes-few v who.session real m s stands ps (agrees-for v who.session ps m agrees) kv saw nodes sound))
+          | false ↦ λ e is. no_state d life_kv saw_life here (λ m s sound stands agrees.
+              too_many (length r.paths) (max_owned r.layout) e (nodes-few v who.session real m s stands r.paths (agrees-for v who.session r.paths m agrees) r refl kv saw found sound))
         ] refl h
 
     by_decides : (o : Option (Option Kv)) → session_seen ≡ o → IsClosedBy who.session v o d → IsDecision req.Close who v d
@@ -100,10 +102,10 @@ module _ (who : Who) (v : View) (real : pos 1 ≤ℤ who.session) where
         listless (session_at who.session s) (owned s.tree who.session) life_kv (life-means v who.session real m s stands [] seen (Some life_kv) saw_life) (nodes-mean v who.session real m s stands [] seen None saw))
     by_decides (Some (Some kv)) saw h = with_decides kv h.0 saw h.1 h.2
 
-    with_planned : (kv : Kv) (ps : List Bytes) → session_seen ≡ Some (Some kv) → IsNodesIn kv ps → IsClosedWith who.session v ps d → IfPlanned (IsPlannedClose who v) d
-    with_planned kv ps saw nodes h =
-        elim (nat_le (length ps) max_owned) as (λ b. MatchBool b ((p : Plan) × (d ≡ Planned p) × IsEndPlan true who.session v ps p) (d ≡ unsound) → IfPlanned (IsPlannedClose who v) d) [
-          | true ↦ λ is. subst (IfPlanned (IsPlannedClose who v)) (sym is.1) (record { life = life_kv; saw_life = saw_life; mine = (Decides-int_eq life_kv.mod_revision who.mine).0 here; kv = kv; saw = saw; ps = ps; nodes = nodes; plan = is.2 })
+    with_planned : (kv : Kv) (r : SessionRec) → session_seen ≡ Some (Some kv) → IsNodesIn kv r → IsClosedWith who.session v r d → IfPlanned (IsPlannedClose who v) d
+    with_planned kv r saw found h =
+        elim (nat_le (length r.paths) (max_owned r.layout)) as (λ b. MatchBool b ((p : Plan) × (d ≡ Planned p) × IsEndPlan true who.session v r p) (d ≡ unsound) → IfPlanned (IsPlannedClose who v) d) [
+          | true ↦ λ is. subst (IfPlanned (IsPlannedClose who v)) (sym is.1) (record { life = life_kv; saw_life = saw_life; mine = (Decides-int_eq life_kv.mod_revision who.mine).0 here; kv = kv; saw = saw; nodes = r; found = found; plan = is.2 })
           | false ↦ λ is. subst (IfPlanned (IsPlannedClose who v)) (sym is) tt
         ] h
 
@@ -142,7 +144,7 @@ module _ (who : Who) (v : View) (real : pos 1 ≤ℤ who.session) where
   closed_by_tree d None h = absurd h
   closed_by_tree d (Some None) h = ap is_by_tree h
   closed_by_tree d (Some (Some kv)) h =
-      elim (nat_le (length h.0) max_owned) as (λ b. MatchBool b ((p : Plan) × (d ≡ Planned p) × IsEndPlan true who.session v h.0 p) (d ≡ unsound) → is_by_tree d ≡ true) [
+      elim (nat_le (length h.0.paths) (max_owned h.0.layout)) as (λ b. MatchBool b ((p : Plan) × (d ≡ Planned p) × IsEndPlan true who.session v h.0 p) (d ≡ unsound) → is_by_tree d ≡ true) [
         | true ↦ λ is. ap is_by_tree is.1
         | false ↦ λ is. ap is_by_tree is
       ] h.2
@@ -169,26 +171,26 @@ module _ (who : Who) (v : View) (real : pos 1 ≤ℤ who.session) where
     close-plan now = record {
       carries = λ m s z sound stands may later high.
           let low : pos 1 ≤ℤ z = omega (arith, ints, zxid-least m s stands, later) in
-          ended-carries v who.session real m s stands is.ps (commits-for p v who.session is.ps m (is.plan).guards may) is.kv is.saw is.nodes sound true (not_lapsed s) p is.plan z low high;
+          ended-carries v who.session real m s stands (is.nodes).paths (commits-for p v who.session (is.nodes).paths m (is.plan).guards may) is.nodes refl is.kv is.saw is.found sound true (not_lapsed s) p is.plan z low high;
       answers = λ m s z sound stands may later high. record {
         made = record { response = body.Empty; tree = (session_ended s z who.session).tree; triggers = (session_ended s z who.session).triggers };
         commits = refl;
-        triggers = ended-triggers v who.session real m s stands is.ps (commits-for p v who.session is.ps m (is.plan).guards may) is.kv is.saw is.nodes sound true (not_lapsed s) p is.plan z;
+        triggers = ended-triggers v who.session real m s stands (is.nodes).paths (commits-for p v who.session (is.nodes).paths m (is.plan).guards may) is.nodes refl is.kv is.saw is.found sound true (not_lapsed s) p is.plan z;
         answers = ap (finished z) (is.plan).draft;
       };
     }
 
     abbrev keys : List SeenKey
-    keys = picked v (read_keys who.session is.ps)
+    keys = picked v (read_keys who.session (is.nodes).paths)
 
     close-asked : IsAskedPlan who v p
     close-asked =
         let k : Bytes = key_bytes (LeaseKey (nat_abs who.session)) in
-        let inside = in_mapped key_bytes (LeaseKey (nat_abs who.session)) (end_keys who.session is.ps) (inr (inl refl)) in
-        let guarded = seen-guarded k is.life keys (life-apart (nat_abs who.session)) (picked-told v (read_keys who.session is.ps) k (Some is.life) inside is.saw_life) in
+        let inside = in_mapped key_bytes (LeaseKey (nat_abs who.session)) (end_keys who.session (is.nodes).paths) (inr (inl refl)) in
+        let guarded = seen-guarded k is.life keys (life-apart (nat_abs who.session)) (picked-told v (read_keys who.session (is.nodes).paths) k (Some is.life) inside is.saw_life) in
         record {
           keys = keys;
-          among = picked-among v (read_keys who.session is.ps);
+          among = picked-among v (read_keys who.session (is.nodes).paths);
           guards = (is.plan).guards;
           again = (is.plan).again;
           lease = subst (λ (gs : List Guard). Contains gs (lease_guard who)) (sym (is.plan).guards)
@@ -196,11 +198,11 @@ module _ (who : Who) (v : View) (real : pos 1 ≤ℤ who.session) where
           shows = (is.plan).shows;
         }
 
-    nodes_seen : IsNodesSeen session_seen is.ps
-    nodes_seen = subst (λ (o : Option (Option Kv)). IsNodesSeen o is.ps) (sym is.saw) is.nodes
+    nodes_seen : IsNodesSeen session_seen (is.nodes).paths
+    nodes_seen = subst (λ (o : Option (Option Kv)). IsNodesSeen o (is.nodes).paths) (sym is.saw) (is.nodes, is.found, refl)
 
     close-reads : GuardsReads req.Close who v p
-    close-reads = end-reads v who is.ps p nodes_seen (is.plan).guards (is.plan).again
+    close-reads = end-reads v who (is.nodes).paths p nodes_seen (is.plan).guards (is.plan).again
 
     pub close-good : (now : ℕ) → IsGood req.Close who now v p
     close-good now = record {
@@ -208,5 +210,5 @@ module _ (who : Who) (v : View) (real : pos 1 ≤ℤ who.session) where
       asked = close-asked;
       reads = close-reads;
       writes = (is.plan).writes;
-      taken = end-taken true who.session v real is.kv is.ps is.saw is.nodes p is.plan;
+      taken = end-taken true who.session v real is.kv is.nodes is.saw is.found p is.plan;
     }

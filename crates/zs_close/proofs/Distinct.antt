@@ -7,10 +7,13 @@ use Rattle.std.proofs.Math.Bool.{or-false}
 use Rattle.std.proofs.lemmas.List.Folds.{list_any-append}
 use Rattle.std.proofs.lemmas.List.Elements.{All-nil, All-cons, All-append}
 use Rattle.zk_model.specs.declared.node.Trigger.{Trigger}
+use Rattle.zk_model.specs.declared.layout.Layout.{Layout}
+use Rattle.zk_model.specs.declared.layout.Layout.TheVariants.{One, Two}
 use Rattle.zk_model.specs.Paths.{is_child}
 use Rattle.zx_base.specs.Maps.{Bytes, same}
 use Rattle.zx_base.proofs.MapLaws.{same-refl}
 use Rattle.zn_layout.specs.declared.record.CountRec.{CountRec}
+use Rattle.zn_layout.specs.declared.record.SessionRec.{SessionRec}
 use Rattle.zn_layout.specs.Changes.{Put, KeyChange, delete_key, put_key, head_put, last, put_or_else, writes_key, are_distinct}
 use Rattle.zn_layout.specs.Keys.{Key, HeadKey, DataKey, CountsKey, SessionKey, LeaseKey, same_key}
 use Rattle.zn_layout.specs.Records.{counts_value}
@@ -61,11 +64,14 @@ session-distinct false id = refl
 once_gone : (b : Bool) → b ≡ false → gone_if b ≡ None
 once_gone b e = ap gone_if e
 
-nodes-distinct : (ps : List Bytes) → AreApart ps → are_distinct (delete_nodes ps) ≡ true
-nodes-distinct [] apart = refl
-nodes-distinct (p ∷ ps) apart = and_from _ _
-    (ap not (unwritten (DataKey p) (delete_nodes ps) (data-gone ps p ∙ once_gone (list_any (same p) ps) apart.0)))
-    (and_from _ _ (ap not (unwritten (CountsKey p) (delete_nodes ps) (counts-gone ps p ∙ once_gone (list_any (same p) ps) apart.0))) (nodes-distinct ps apart.1))
+nodes-distinct : (layout : Layout) (ps : List Bytes) → AreApart ps → are_distinct (delete_nodes layout ps) ≡ true
+nodes-distinct layout [] apart = refl
+nodes-distinct One (p ∷ ps) apart = and_from _ _
+    (ap not (unwritten (DataKey p) (delete_nodes One ps) (data-gone One ps p ∙ once_gone (list_any (same p) ps) apart.0)))
+    (and_from _ _ (ap not (unwritten (CountsKey p) (delete_nodes One ps) (counts-gone One ps p ∙ once_gone (list_any (same p) ps) apart.0))) (nodes-distinct One ps apart.1))
+nodes-distinct Two (p ∷ ps) apart = and_from _ _
+    (ap not (unwritten (DataKey p) (delete_nodes Two ps) (data-gone Two ps p ∙ once_gone (list_any (same p) ps) apart.0)))
+    (nodes-distinct Two ps apart.1)
 
 parent_distinct : (ps : List Bytes) (q : Bytes) (o : Option CountRec) → are_distinct (put_parent ps q o) ≡ true
 parent_distinct ps q None = refl
@@ -83,9 +89,9 @@ parents-distinct counts ps (q ∷ qs) apart = distinct-append (put_parent ps q (
 
 -- ---- the parts are apart
 
-session_from_nodes : (alive : Bool) (id : ℤ) (ps : List Bytes) → ApartFrom (delete_nodes ps) (delete_session alive id)
-session_from_nodes true id ps = (nodes_leave-life ps (nat_abs id), (nodes_leave-session ps (nat_abs id), tt))
-session_from_nodes false id ps = (nodes_leave-session ps (nat_abs id), tt)
+session_from_nodes : (alive : Bool) (id : ℤ) (layout : Layout) (ps : List Bytes) → ApartFrom (delete_nodes layout ps) (delete_session alive id)
+session_from_nodes true id layout ps = (nodes_leave-life layout ps (nat_abs id), (nodes_leave-session layout ps (nat_abs id), tt))
+session_from_nodes false id layout ps = (nodes_leave-session layout ps (nat_abs id), tt)
 
 module _ (counts : Bytes → Option CountRec) (ps : List Bytes) (childless : (r : Bytes) → list_any (same r) ps ≡ true → list_any (is_child r) ps ≡ false) where
   abbrev puts : List KeyChange
@@ -102,22 +108,26 @@ module _ (counts : Bytes → Option CountRec) (ps : List Bytes) (childless : (r 
   or_right true b h = refl
   or_right false b h = h
 
-  nodes_from_parents : (rs : List Bytes) → ((r : Bytes) → list_any (same r) rs ≡ true → list_any (same r) ps ≡ true) → ApartFrom puts (delete_nodes rs)
-  nodes_from_parents [] inside = tt
-  nodes_from_parents (r ∷ rs) inside = (
+  nodes_from_parents : (layout : Layout) (rs : List Bytes) → ((r : Bytes) → list_any (same r) rs ≡ true → list_any (same r) ps ≡ true) → ApartFrom puts (delete_nodes layout rs)
+  nodes_from_parents layout [] inside = tt
+  nodes_from_parents One (r ∷ rs) inside = (
     parents_leave counts ps (parents ps) (DataKey r) tt,
     (
       no_parent r (inside r (ap (λ b. b || list_any (same r) rs) (same-refl r))),
-      nodes_from_parents rs (λ q h. inside q (or_right (same q r) (list_any (same q) rs) h)),
+      nodes_from_parents One rs (λ q h. inside q (or_right (same q r) (list_any (same q) rs) h)),
     ),
   )
+  nodes_from_parents Two (r ∷ rs) inside = (
+    parents_leave counts ps (parents ps) (DataKey r) tt,
+    nodes_from_parents Two rs (λ q h. inside q (or_right (same q r) (list_any (same q) rs) h)),
+  )
 
-  pub end-distinct : (alive : Bool) (id : ℤ) → AreApart ps → are_distinct (end_changes alive id counts ps) ≡ true
+  pub end-distinct : (alive : Bool) (id : ℤ) (layout : Layout) → AreApart ps → are_distinct (end_changes alive id counts (record { layout = layout; paths = ps })) ≡ true
   unfolding end_changes
-  end-distinct alive id apart = distinct-append (delete_session alive id ++ delete_nodes ps) puts
-      (distinct-append (delete_session alive id) (delete_nodes ps) (session-distinct alive id) (nodes-distinct ps apart) (session_from_nodes alive id ps))
+  end-distinct alive id layout apart = distinct-append (delete_session alive id ++ delete_nodes layout ps) puts
+      (distinct-append (delete_session alive id) (delete_nodes layout ps) (session-distinct alive id) (nodes-distinct layout ps apart) (session_from_nodes alive id layout ps))
       (parents-distinct counts ps (parents ps) (parents-apart ps))
-      (apart-append puts (delete_session alive id) (delete_nodes ps) (session_from_parents alive id) (nodes_from_parents ps (λ r h. h)))
+      (apart-append puts (delete_session alive id) (delete_nodes layout ps) (session_from_parents alive id) (nodes_from_parents layout ps (λ r h. h)))
 
 -- ---- and the head
 
@@ -146,9 +156,10 @@ pub session-leaseless : (alive : Bool) (id : ℤ) → All IsLeaseless (delete_se
 session-leaseless true id = All-cons IsLeaseless (delete_key (LeaseKey (nat_abs id))) (delete_key (SessionKey (nat_abs id)) ∷ []) tt (list-leaseless id)
 session-leaseless false id = list-leaseless id
 
-pub nodes-leaseless : (ps : List Bytes) → All IsLeaseless (delete_nodes ps)
-nodes-leaseless [] = All-nil IsLeaseless
-nodes-leaseless (p ∷ ps) = All-cons IsLeaseless (delete_key (DataKey p)) (delete_key (CountsKey p) ∷ delete_nodes ps) tt (All-cons IsLeaseless (delete_key (CountsKey p)) (delete_nodes ps) tt (nodes-leaseless ps))
+pub nodes-leaseless : (layout : Layout) (ps : List Bytes) → All IsLeaseless (delete_nodes layout ps)
+nodes-leaseless layout [] = All-nil IsLeaseless
+nodes-leaseless One (p ∷ ps) = All-cons IsLeaseless (delete_key (DataKey p)) (delete_key (CountsKey p) ∷ delete_nodes One ps) tt (All-cons IsLeaseless (delete_key (CountsKey p)) (delete_nodes One ps) tt (nodes-leaseless One ps))
+nodes-leaseless Two (p ∷ ps) = All-cons IsLeaseless (delete_key (DataKey p)) (delete_nodes Two ps) tt (nodes-leaseless Two ps)
 
 parent-leaseless : (ps : List Bytes) (q : Bytes) (o : Option CountRec) → All IsLeaseless (put_parent ps q o)
 parent-leaseless ps q None = All-nil IsLeaseless
@@ -158,8 +169,8 @@ parents-leaseless : (counts : Bytes → Option CountRec) (ps qs : List Bytes) �
 parents-leaseless counts ps [] = All-nil IsLeaseless
 parents-leaseless counts ps (q ∷ qs) = All-append IsLeaseless (put_parent ps q (counts q)) (put_parents counts ps qs) (parent-leaseless ps q (counts q)) (parents-leaseless counts ps qs)
 
-pub end-leaseless : (alive : Bool) (id : ℤ) (counts : Bytes → Option CountRec) (ps : List Bytes) → All IsLeaseless (end_changes alive id counts ps)
+pub end-leaseless : (alive : Bool) (id : ℤ) (counts : Bytes → Option CountRec) (nodes : SessionRec) → All IsLeaseless (end_changes alive id counts nodes)
 unfolding end_changes
-end-leaseless alive id counts ps = All-append IsLeaseless (delete_session alive id ++ delete_nodes ps) (put_parents counts ps (parents ps))
-    (All-append IsLeaseless (delete_session alive id) (delete_nodes ps) (session-leaseless alive id) (nodes-leaseless ps))
-    (parents-leaseless counts ps (parents ps))
+end-leaseless alive id counts nodes = All-append IsLeaseless (delete_session alive id ++ delete_nodes nodes.layout nodes.paths) (put_parents counts nodes.paths (parents nodes.paths))
+    (All-append IsLeaseless (delete_session alive id) (delete_nodes nodes.layout nodes.paths) (session-leaseless alive id) (nodes-leaseless nodes.layout nodes.paths))
+    (parents-leaseless counts nodes.paths (parents nodes.paths))

@@ -1,13 +1,13 @@
 -- The changes at the end of a session are those from its state to the one in which it has ended.
 use Rattle.std.proofs.Common.{◌≡◌, ◌≢◌, ℕ, ℤ, pos, ◌+◌, ◌-◌, Bool, true, false, cond, List, [], ◌∷◌, Option, Some, None, refl, sym, ap, ◌∙◌, subst, ◌||◌, arith, eqb-true}
-use Rattle.std.specs.Prelude.{◌≤ℤ◌, nat_abs, nat_eq, option_map}
+use Rattle.std.specs.Prelude.{◌≤ℤ◌, ◌&&◌, nat_abs, nat_eq, option_map}
 use Rattle.std.specs.List.{list_any, count_by}
 use Rattle.std.specs.List.Sorted.{IsStrictlySortedBy}
 use Rattle.std.specs.Ordering.{int_eq, nat_cmp}
 use Rattle.std.specs.Cmp.Lexicographic.{slice_cmp}
 use Rattle.std.specs.FinMap.{get, keys, remove}
 use Rattle.std.proofs.lemmas.Bool.Decides.{Decides-int_eq}
-use Rattle.std.proofs.lemmas.Bool.{eqb-false}
+use Rattle.std.proofs.lemmas.Bool.{eqb-false, true≢false}
 use Rattle.std.proofs.lemmas.Int.{ints}
 use Rattle.std.proofs.lemmas.List.Sums.{sum_by-cons}
 use Rattle.zx_base.specs.Maps.{Bytes, same}
@@ -22,15 +22,17 @@ use Rattle.zk_service.specs.States.{State, Session, IsSound, session_at, session
 use Rattle.zk_service.proofs.Owned.{if_owned, get-owned_as}
 use Rattle.zk_service.proofs.SessionMaps.{at-remove_same, at-remove_other}
 use Rattle.zn_layout.specs.declared.record.CountRec.{CountRec}
+use Rattle.zn_layout.specs.declared.record.SessionRec.{SessionRec}
 use Rattle.zn_layout.specs.Changes.{Put, last, put_or_else}
 use Rattle.zn_layout.specs.Fits.{KeyFits, ChangesFit}
 use Rattle.zn_layout.specs.Keys.{Key, HeadKey, DataKey, CountsKey, SessionKey, LeaseKey}
-use Rattle.zn_layout.specs.Records.{counts_value, IsCountRec}
-use Rattle.zn_layout.specs.StandsFor.{Stored, DataMeans, CountsMean, NodesMean, LifeMeans, counts_record}
+use Rattle.zn_layout.specs.Records.{counts_value, has_counts, IsCountRec}
+use Rattle.zn_layout.specs.StandsFor.{Stored, is_counted, is_counted_in, DataMeans, CountsMean, NodesMean, LifeMeans, counts_record, nodes_record}
+use Rattle.zn_layout.proofs.Counted.{counted-same, plain-counted}
 use Rattle.zn_layout.specs.Counts.{fewer}
 use Rattle.zs_close.specs.Ending.{end_changes}
 use Rattle.zs_close.proofs.Removed.{left_over, removed_all-is, num_children-removed_all, AreThere}
-use Rattle.zs_close.proofs.Members.{rising-apart, IsOwned, owned-there, any-member}
+use Rattle.zs_close.proofs.Members.{rising-apart, IsOwned, owned-among, owned-there, any-member}
 use Rattle.zs_close.proofs.Written.{gone_if, put_if, put_of, life_gone, written-head, written-data, written-counts, written-session, written-life}
 
 -- ---- what the keys of a node mean where a child of it goes
@@ -51,6 +53,18 @@ nodes_along None a b None same h = h
 nodes_along None a b (Some o) same h = h
 nodes_along (Some y) a b o same h = subst (λ (ps : List Bytes). NodesMean (Some y) ps o) (sym (same y refl)) h
 
+uncounted_none : (x : Node) (m n : ℕ) (b : Bool) (o : Option Stored) → CountsMean (Some x) m false o → CountsMean None n b o
+uncounted_none x m n b None h = tt
+uncounted_none x m n b (Some o) h = absurd h
+
+and-true : (b : Bool) → (b && true) ≡ b
+and-true true = refl
+and-true false = refl
+
+and-false : (b : Bool) → (b && false) ≡ false
+and-false true = refl
+and-false false = refl
+
 no_children : (r : Bytes) (ps : List Bytes) → list_any (is_child r) ps ≡ false → count_by (is_child r) ps ≡ 0
 no_children r [] h = refl
 no_children r (p ∷ ps) h =
@@ -60,11 +74,15 @@ no_children r (p ∷ ps) h =
     ] refl h
 
 module _ (s : State) (z id : ℤ) (alive : Bool) (counts : Bytes → Option CountRec) (sound : IsSound s) (real : pos 1 ≤ℤ id)
-    (told : (q : Bytes) (n : Node) → get s.tree q ≡ Some n → counts q ≡ Some (counts_record n (num_children s.tree q)))
+    (told : (q : Bytes) (n : Node) → get s.tree q ≡ Some n → n.owner ≡ pos 0 → counts q ≡ Some (counts_record n (num_children s.tree q))) (session : Session) (opened : session_at id s ≡ Some session)
     (rising : IsStrictlySortedBy (slice_cmp nat_cmp) (owned s.tree id))
     (lapsed : alive ≡ false → (x : Session) → session_at id s ≡ Some x → x.lapsed ≡ true) where
   abbrev ps : List Bytes
   ps = owned s.tree id
+
+  -- its nodes, as they are listed
+  abbrev nodes : SessionRec
+  nodes = nodes_record session ps
 
   abbrev new : State
   new = session_ended s z id
@@ -117,6 +135,24 @@ module _ (s : State) (z id : ℤ) (alive : Bool) (counts : Bytes → Option Coun
   pub childless : (r : Bytes) → list_any (same r) ps ≡ true → list_any (is_child r) ps ≡ false
   childless r h = elim (list_any (is_child r) ps) as (λ b. list_any (is_child r) ps ≡ b → b ≡ false) [ true ↦ λ e. absurd (plain_not_mine r (parent_plain r e) h) | false ↦ λ e. refl ] refl
 
+  -- ---- which nodes have a record of their counts
+
+  -- a node that stays is no node of this session
+  stays_foreign : (r : Bytes) (n : Node) → get s.tree r ≡ Some n → list_any (same r) ps ≡ false → n.owner ≢ id
+  stays_foreign r n there h e = true≢false (sym (owned-among s.tree id r n there e) ∙ h)
+
+  counted_still : (r : Bytes) (n : Node) → n.owner ≢ id → is_counted_in new (Some n) ≡ is_counted_in s (Some n)
+  counted_still r n apart = counted-same s new n (at-remove_other s.sessions id n.owner apart)
+
+  counted_left : (r : Bytes) (o : Option Node) → get s.tree r ≡ o → list_any (same r) ps ≡ false → is_counted_in new o ≡ is_counted_in s o
+  counted_left r None there h = refl
+  counted_left r (Some n) there h = counted_still r n (stays_foreign r n there h)
+
+  counted_mine : (r : Bytes) → list_any (same r) ps ≡ true → is_counted_in s (get s.tree r) ≡ has_counts session.layout
+  counted_mine r h =
+      let own = mine r h in
+      ap (is_counted_in s) own.there ∙ ap (λ (i : ℤ). is_counted (session_at i s)) own.owner ∙ ap is_counted opened
+
   -- ---- the nodes' keys
 
   data_fits : (r : Bytes) → KeyFits z (gone_if (list_any (same r) ps)) (DataKey r) s new
@@ -139,28 +175,50 @@ module _ (s : State) (z id : ℤ) (alive : Bool) (counts : Bytes → Option Coun
       let left : num_children s.tree r - count_by (is_child r) ps ≡ num_children new.tree r = omega arith in
       ap (λ (k : ℕ). record { creates = n.creates; children = pos k }) left
 
-  parent_fits : (r : Bytes) → IsPlain r → get new.tree r ≡ left_over (list_any (same r) ps) true z (get s.tree r) → KeyFits z (put_or_else (put_of ps r (counts r)) (gone_if (list_any (same r) ps))) (CountsKey r) s new
-  parent_fits r p is =
+  parent_counted : (r : Bytes) (p : IsPlain r) → is_counted_in new (Some (without_child p.node z)) ≡ true
+  parent_counted r p =
+      let apart : p.node.owner ≢ id = λ e. let zero : pos 0 ≡ id = sym p.plain ∙ e in omega (arith, ints) in
+      counted_still r (without_child p.node z) apart ∙ plain-counted s (without_child p.node z) sound p.plain
+
+  parent_fits : (r : Bytes) (w : Option (Option Put)) → IsPlain r → get new.tree r ≡ left_over (list_any (same r) ps) true z (get s.tree r) → KeyFits z (put_or_else (put_of ps r (counts r)) w) (CountsKey r) s new
+  parent_fits r w p is =
       let left : get new.tree r ≡ Some (without_child p.node z) = is ∙ (λ i. left_over (not_mine r p i) true z (p.there i)) in
-      subst (λ (w : Option (Option Put)). KeyFits z w (CountsKey r) s new)
-      (sym (ap (λ (c : Option CountRec). put_or_else (put_of ps r c) (gone_if (list_any (same r) ps))) (told r p.node p.there)))
-      (subst (λ (n : Option Node). CountsMean n (num_children new.tree r) (Some (record { value = counts_value (fewer (counts_record p.node (num_children s.tree r)) (count_by (is_child r) ps)); revision = z; lease = pos 0 }))) (sym left)
-      (record { fits = counts_within r p.node p.there; value = ap counts_value (counts_is r p.node); pzxid = refl; free = refl }))
+      let stored : Stored = record { value = counts_value (fewer (counts_record p.node (num_children s.tree r)) (count_by (is_child r) ps)); revision = z; lease = pos 0 } in
+      subst (λ (x : Option (Option Put)). KeyFits z x (CountsKey r) s new)
+      (sym (ap (λ (c : Option CountRec). put_or_else (put_of ps r c) w) (told r p.node p.there p.plain)))
+      (subst (λ (n : Option Node). CountsMean n (num_children new.tree r) (is_counted_in new n) (Some stored)) (sym left)
+      (subst (λ (b : Bool). CountsMean (Some (without_child p.node z)) (num_children new.tree r) b (Some stored)) (sym (parent_counted r p))
+      (record { fits = counts_within r p.node p.there; value = ap counts_value (counts_is r p.node); pzxid = refl; free = refl })))
 
-  leaf_fits : (r : Bytes) → list_any (is_child r) ps ≡ false → get new.tree r ≡ left_over (list_any (same r) ps) false z (get s.tree r) → KeyFits z (gone_if (list_any (same r) ps)) (CountsKey r) s new
-  leaf_fits r none = elim (list_any (same r) ps) as (λ b. get new.tree r ≡ left_over b false z (get s.tree r) → KeyFits z (gone_if b) (CountsKey r) s new) [
-    | true ↦ λ is. subst (λ (n : Option Node). CountsMean n (num_children new.tree r) None) (sym is) tt
-    | false ↦ λ is o was.
-        let less = fewer_left r in
-        let zero = no_children r ps none in
-        let same_count : num_children s.tree r ≡ num_children new.tree r = omega arith in
-        subst (λ (n : Option Node). CountsMean n (num_children new.tree r) o) (sym is) (subst (λ (k : ℕ). CountsMean (get s.tree r) k o) same_count was)
-  ]
+  -- a node that goes, and whose counts had a record or none
+  gone_fits : (r : Bytes) (c : Bool) → has_counts session.layout ≡ c → list_any (same r) ps ≡ true → get new.tree r ≡ None → KeyFits z (gone_if c) (CountsKey r) s new
+  gone_fits r true e h is = subst (λ (n : Option Node). CountsMean n (num_children new.tree r) (is_counted_in new n) None) (sym is) tt
+  gone_fits r false e h is o was =
+      let own = mine r h in
+      let counted : is_counted_in s (get s.tree r) ≡ false = counted_mine r h ∙ e in
+      let before = subst (λ (b : Bool). CountsMean (get s.tree r) (num_children s.tree r) b o) counted was in
+      subst (λ (n : Option Node). CountsMean n (num_children new.tree r) (is_counted_in new n) o) (sym is)
+      (uncounted_none own.node (num_children s.tree r) (num_children new.tree r) true o (subst (λ (n : Option Node). CountsMean n (num_children s.tree r) false o) own.there before))
 
-  counts_fits : (r : Bytes) → KeyFits z (put_or_else (put_if (list_any (is_child r) ps) (put_of ps r (counts r))) (gone_if (list_any (same r) ps))) (CountsKey r) s new
+  stay_fits : (r : Bytes) → list_any (same r) ps ≡ false → list_any (is_child r) ps ≡ false → get new.tree r ≡ get s.tree r → KeyFits z None (CountsKey r) s new
+  stay_fits r h none is o was =
+      let less = fewer_left r in
+      let zero = no_children r ps none in
+      let same_count : num_children s.tree r ≡ num_children new.tree r = omega arith in
+      subst (λ (n : Option Node). CountsMean n (num_children new.tree r) (is_counted_in new n) o) (sym is)
+      (subst (λ (b : Bool). CountsMean (get s.tree r) (num_children new.tree r) b o) (sym (counted_left r (get s.tree r) refl h))
+      (subst (λ (k : ℕ). CountsMean (get s.tree r) k (is_counted_in s (get s.tree r)) o) same_count was))
+
+  leaf_fits : (r : Bytes) → list_any (is_child r) ps ≡ false → get new.tree r ≡ left_over (list_any (same r) ps) false z (get s.tree r) → KeyFits z (gone_if (has_counts session.layout && list_any (same r) ps)) (CountsKey r) s new
+  leaf_fits r none = elim (list_any (same r) ps) as (λ b. list_any (same r) ps ≡ b → get new.tree r ≡ left_over b false z (get s.tree r) → KeyFits z (gone_if (has_counts session.layout && b)) (CountsKey r) s new) [
+    | true ↦ λ h is. subst (λ b. KeyFits z (gone_if b) (CountsKey r) s new) (sym (and-true (has_counts session.layout))) (gone_fits r (has_counts session.layout) refl h is)
+    | false ↦ λ h is. subst (λ b. KeyFits z (gone_if b) (CountsKey r) s new) (sym (and-false (has_counts session.layout))) (stay_fits r h none is)
+  ] refl
+
+  counts_fits : (r : Bytes) → KeyFits z (put_or_else (put_if (list_any (is_child r) ps) (put_of ps r (counts r))) (gone_if (has_counts session.layout && list_any (same r) ps))) (CountsKey r) s new
   counts_fits r =
-      elim (list_any (is_child r) ps) as (λ b. list_any (is_child r) ps ≡ b → get new.tree r ≡ left_over (list_any (same r) ps) b z (get s.tree r) → KeyFits z (put_or_else (put_if b (put_of ps r (counts r))) (gone_if (list_any (same r) ps))) (CountsKey r) s new) [
-        | true ↦ λ e is. parent_fits r (parent_plain r e) is
+      elim (list_any (is_child r) ps) as (λ b. list_any (is_child r) ps ≡ b → get new.tree r ≡ left_over (list_any (same r) ps) b z (get s.tree r) → KeyFits z (put_or_else (put_if b (put_of ps r (counts r))) (gone_if (has_counts session.layout && list_any (same r) ps))) (CountsKey r) s new) [
+        | true ↦ λ e is. parent_fits r (gone_if (has_counts session.layout && list_any (same r) ps)) (parent_plain r e) is
         | false ↦ λ e is. leaf_fits r e is
       ] refl (after r)
 
@@ -243,12 +301,12 @@ module _ (s : State) (z id : ℤ) (alive : Bool) (counts : Bytes → Option Coun
 
   -- ---- all keys
 
-  key_fits : (k : Key) → KeyFits z (last (end_changes alive id counts ps) k) k s new
-  key_fits HeadKey = subst (λ (w : Option (Option Put)). KeyFits z w HeadKey s new) (sym (written-head alive id counts ps)) (λ o h. h)
-  key_fits (DataKey r) = subst (λ (w : Option (Option Put)). KeyFits z w (DataKey r) s new) (sym (written-data alive id counts ps r)) (data_fits r)
-  key_fits (CountsKey r) = subst (λ (w : Option (Option Put)). KeyFits z w (CountsKey r) s new) (sym (written-counts alive id counts ps r)) (counts_fits r)
-  key_fits (SessionKey i) = subst (λ (w : Option (Option Put)). KeyFits z w (SessionKey i) s new) (sym (written-session alive id counts ps i)) (session_fits i)
-  key_fits (LeaseKey i) = subst (λ (w : Option (Option Put)). KeyFits z w (LeaseKey i) s new) (sym (written-life alive id counts ps i)) (life_fits i)
+  key_fits : (k : Key) → KeyFits z (last (end_changes alive id counts nodes) k) k s new
+  key_fits HeadKey = subst (λ (w : Option (Option Put)). KeyFits z w HeadKey s new) (sym (written-head alive id counts nodes)) (λ o h. h)
+  key_fits (DataKey r) = subst (λ (w : Option (Option Put)). KeyFits z w (DataKey r) s new) (sym (written-data alive id counts nodes r)) (data_fits r)
+  key_fits (CountsKey r) = subst (λ (w : Option (Option Put)). KeyFits z w (CountsKey r) s new) (sym (written-counts alive id counts nodes r)) (counts_fits r)
+  key_fits (SessionKey i) = subst (λ (w : Option (Option Put)). KeyFits z w (SessionKey i) s new) (sym (written-session alive id counts nodes i)) (session_fits i)
+  key_fits (LeaseKey i) = subst (λ (w : Option (Option Put)). KeyFits z w (LeaseKey i) s new) (sym (written-life alive id counts nodes i)) (life_fits i)
 
-  pub end-fits : ChangesFit z (end_changes alive id counts ps) s new
+  pub end-fits : ChangesFit z (end_changes alive id counts nodes) s new
   end-fits = record { each = key_fits }

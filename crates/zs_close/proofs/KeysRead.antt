@@ -11,6 +11,7 @@ use Rattle.zk_model.specs.Paths.{parent, is_child}
 use Rattle.zk_model.specs.Watches.{no_watches}
 use Rattle.zk_model.proofs.Paths.{is_child-yes, parent-from_child}
 use Rattle.zk_service.specs.Answers.{plain_request}
+use Rattle.zn_layout.specs.declared.record.SessionRec.{SessionRec}
 use Rattle.zn_layout.specs.Keys.{Key, HeadKey, CountsKey, SessionKey, LeaseKey, key_bytes}
 use Rattle.zn_layout.proofs.ListRecords.{session_value-injective}
 use Rattle.zn_view.specs.declared.plan.Plan.{Plan}
@@ -83,8 +84,8 @@ pub plain : plain_request no_watches req.Close ≡ None
 unfolding plain_request
 plain = refl
 
-saw_nodes : (v : View) (id : ℤ) (kv : Kv) (ps : List Bytes) → sees v (SessionKey (nat_abs id)) ≡ Some (Some kv) → IsNodesIn kv ps → SawNodes v id ps
-saw_nodes v id kv ps saw nodes = (nodes.0, (kv, saw, nodes.1))
+saw_nodes : (v : View) (id : ℤ) (kv : Kv) (r : SessionRec) → sees v (SessionKey (nat_abs id)) ≡ Some (Some kv) → IsNodesIn kv r → SawNodes v id r
+saw_nodes v id kv r saw found = (found.0, (kv, saw, found.1))
 
 nil_absurd : {X : Type 0} (x : X) (xs : List X) → xs ≡ [] → In x xs → ⊥
 nil_absurd x xs e h = subst (In x) e h
@@ -101,7 +102,7 @@ module _ (v : View) (who : Who) (ps : List Bytes) where
   from_parent (Some None) q saw e h = absurd (none_parents ps q e (in_contains q (parents ps) h))
   from_parent (Some (Some kv)) q saw nodes h =
       let p = parent_of ps q (in_contains q (parents ps) h) in
-      inr (inr (inr (ps, p.path, q, saw_nodes v id kv ps saw nodes, p.inside, p.is, refl)))
+      inr (inr (inr (nodes.0, p.path, q, saw_nodes v id kv nodes.0 saw nodes.1, subst (λ (l : List Bytes). Contains l p.path) nodes.2 p.inside, p.is, refl)))
 
   from_counts : IsNodesSeen (sees v (SessionKey (nat_abs id))) ps → (k : Key) → In k (map CountsKey (parents ps)) → IsRead req.Close who v (key_want k)
   from_counts nodes k h =
@@ -114,16 +115,16 @@ module _ (v : View) (who : Who) (ps : List Bytes) where
   read_from nodes k (inr (inr (inl e))) = inr (inr (inl (SessionKey (nat_abs id), subst (λ ks. Contains ks (SessionKey (nat_abs id))) (sym (reads_close id)) (zero, omega arith, refl), ap key_want (sym e))))
   read_from nodes k (inr (inr (inr h))) = from_counts nodes k h
 
-  same_nodes : (o : Option (Option Kv)) (qs : List Bytes) → sees v (SessionKey (nat_abs id)) ≡ o → IsNodesSeen o ps → SawNodes v id qs → ps ≡ qs
-  same_nodes None qs saw nodes seen = absurd (none_some (sym saw ∙ seen.1.1))
-  same_nodes (Some None) qs saw nodes seen = absurd (absent_some (sym saw ∙ seen.1.1))
+  same_nodes : (o : Option (Option Kv)) (r : SessionRec) → sees v (SessionKey (nat_abs id)) ≡ o → IsNodesSeen o ps → SawNodes v id r → ps ≡ r.paths
+  same_nodes None r saw nodes seen = absurd (none_some (sym saw ∙ seen.1.1))
+  same_nodes (Some None) r saw nodes seen = absurd (absent_some (sym saw ∙ seen.1.1))
     where
       absent_some : {X : Type 0} {x : X} → Some None ≡ Some (Some x) → ⊥
       absent_some e = cc
-  same_nodes (Some (Some kv)) qs saw nodes seen =
+  same_nodes (Some (Some kv)) r saw nodes seen =
       let is : Some (Some kv) ≡ Some (Some seen.1.0) = sym saw ∙ seen.1.1 in
       let one : kv ≡ seen.1.0 = cc in
-      session_value-injective ps qs nodes.0 seen.0 (sym nodes.1 ∙ ap (λ (x : Kv). x.value) one ∙ seen.1.2)
+      nodes.2 ∙ ap (λ (k : SessionRec). k.paths) (session_value-injective nodes.0 r nodes.1.0 seen.0 (sym nodes.1.1 ∙ ap (λ (x : Kv). x.value) one ∙ seen.1.2))
 
   abbrev pub IsKept : Want → Type 0
   IsKept w = (k : Key) × In k (end_keys id ps) × (w ≡ key_want k)
@@ -136,8 +137,8 @@ module _ (v : View) (who : Who) (ps : List Bytes) where
       own_in : (k : Key) → In k (SessionKey (nat_abs id) ∷ []) → In k (end_keys id ps)
       own_in k (inl e) = inr (inr (inl e))
       own_in k (inr bad) = absurd bad
-  read_to nodes w (inr (inr (inr (qs, p, q, saw, c, e, is)))) =
-      let one = same_nodes (sees v (SessionKey (nat_abs id))) qs refl nodes saw in
+  read_to nodes w (inr (inr (inr (r, p, q, saw, c, e, is)))) =
+      let one = same_nodes (sees v (SessionKey (nat_abs id))) r refl nodes saw in
       (CountsKey q, inr (inr (inr (in_counts q (parents ps) (of_parent ps p q (subst (λ (l : List Bytes). Contains l p) (sym one) c) e)))), is)
 
   pub close-needs : (ws : List Want) → IsNodesSeen (sees v (SessionKey (nat_abs id))) ps → ws ≡ lacking v (read_keys id ps) → AreNeeds req.Close who v ws
@@ -173,7 +174,7 @@ module _ (who : Who) (v : View) (whole : IsWhole req.Close who v) where
       (inr (inr (inl (SessionKey (nat_abs who.session), subst (λ ks. Contains ks (SessionKey (nat_abs who.session))) (sym (reads_close who.session)) (zero, omega arith, refl), refl)))) none
 
   pub whole-parents : AreParentsSeen who.session v
-  whole-parents kv ps saw nodes = All-weaker (Contains (parents ps)) (λ q. HasSeen v (CountsKey q)) (λ q c none.
-      let p = parent_of ps q c in
-      whole plain (key_want (CountsKey q)) (inr (inr (inr (ps, p.path, q, saw_nodes v who.session kv ps saw nodes, p.inside, p.is, refl)))) none)
-      (parents ps) (All-contains_itself (parents ps))
+  whole-parents kv r saw found = All-weaker (Contains (parents r.paths)) (λ q. HasSeen v (CountsKey q)) (λ q c none.
+      let p = parent_of r.paths q c in
+      whole plain (key_want (CountsKey q)) (inr (inr (inr (r, p.path, q, saw_nodes v who.session kv r saw found, p.inside, p.is, refl)))) none)
+      (parents r.paths) (All-contains_itself (parents r.paths))

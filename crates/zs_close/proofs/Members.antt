@@ -59,6 +59,10 @@ pub owned-there : (t : Tree) (id : ℤ) (r : Bytes) → list_any (same r) (owned
 owned-there t id r h = owned_there t id r (get t r) refl
     (sym (ap is_some (get-owned_as t id r (get t r) refl)) ∙ contains_key-keys (owned_by t id) r ∙ any-same r (owned t id) ∙ h)
 
+pub owned-among : (t : Tree) (id : ℤ) (r : Bytes) (n : Node) → get t r ≡ Some n → n.owner ≡ id → list_any (same r) (owned t id) ≡ true
+owned-among t id r n there owner =
+    sym (any-same r (owned t id)) ∙ sym (contains_key-keys (owned_by t id) r) ∙ ap is_some (get-owned_as t id r (Some n) there) ∙ ap (λ b. is_some (cond b (Some n) None)) ((Decides-int_eq n.owner id).1 owner)
+
 -- ---- a member that passes a test
 
 pub record IsMember (f : Bytes → Bool) (ps : List Bytes) : Type 0 where

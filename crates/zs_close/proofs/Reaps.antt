@@ -11,6 +11,7 @@ use Rattle.zk_model.specs.Limits.{max_owned}
 use Rattle.zk_service.specs.States.{State, Session, IsSound, session_at}
 use Rattle.zx_base.specs.Maps.{Bytes, same}
 use Rattle.zx_base.proofs.MapLaws.{same-true}
+use Rattle.zn_layout.specs.declared.record.SessionRec.{SessionRec}
 use Rattle.zn_layout.specs.Keys.{HeadKey, SessionKey, LeaseKey, key_bytes}
 use Rattle.zn_layout.specs.StandsFor.{NodesMean, LifeMeans, StandsFor, stored_of}
 use Rattle.zn_view.specs.declared.plan.Plan.{Plan}
@@ -89,9 +90,9 @@ pub record IsPlannedReap (id : ℤ) (v : View) (p : Plan) : Type 0 where
   pub saw_life : sees v (LeaseKey (nat_abs id)) ≡ Some None
   pub kv : Kv
   pub saw : sees v (SessionKey (nat_abs id)) ≡ Some (Some kv)
-  pub ps : List Bytes
-  pub nodes : IsNodesIn kv ps
-  pub plan : IsEndPlan false id v ps p
+  pub nodes : SessionRec
+  pub found : IsNodesIn kv nodes
+  pub plan : IsEndPlan false id v nodes p
 
 module _ (id : ℤ) (v : View) (real : pos 1 ≤ℤ id) where
   abbrev session_seen : Option (Option Kv)
@@ -100,19 +101,19 @@ module _ (id : ℤ) (v : View) (real : pos 1 ≤ℤ id) where
   abbrev life : Option (Option Kv)
   life = sees v (LeaseKey (nat_abs id))
 
-  too_many : (n : ℕ) → nat_le n max_owned ≡ false → n ≤ max_owned → ⊥
-  too_many n e few = both_ways _ e (le-leb n max_owned few)
+  too_many : (n most : ℕ) → nat_le n most ≡ false → n ≤ most → ⊥
+  too_many n most e few = both_ways _ e (le-leb n most few)
 
   -- ---- the decision
 
   module _ (s : State) (sound : IsSound s) (m : Keys) (stands : StandsFor m s) (agrees : Agrees v m) (r : Reaping) where
-    with_decides : (kv : Kv) (ps : List Bytes) → life ≡ Some None → session_seen ≡ Some (Some kv) → IsNodesIn kv ps → IsReapedWith id v ps r → IsReapingOf (session_at id s) r
-    with_decides kv ps saw_life saw nodes h =
-        let seen = agrees-for v id ps m agrees in
-        let o = session-open v id real m s stands ps seen kv saw nodes in
-        elim (nat_le (length ps) max_owned) as (λ b. nat_le (length ps) max_owned ≡ b → MatchBool b ((p : Plan) × (r ≡ Planned p) × IsEndPlan false id v ps p) (r ≡ TooMany) → IsReapingOf (session_at id s) r) [
-          | true ↦ λ e is. ending_is (session_at id s) o.session r is.0 o.is_open (lapsed_is (nat_abs id) (session_at id s) o.session o.is_open (life-means v id real m s stands ps seen None saw_life)) is.1
-          | false ↦ λ e is. absurd (too_many (length ps) e (nodes-few v id real m s stands ps seen kv saw nodes sound))
+    with_decides : (kv : Kv) (nodes : SessionRec) → life ≡ Some None → session_seen ≡ Some (Some kv) → IsNodesIn kv nodes → IsReapedWith id v nodes r → IsReapingOf (session_at id s) r
+    with_decides kv nodes saw_life saw found h =
+        let seen = agrees-for v id nodes.paths m agrees in
+        let o = session-open v id real m s stands nodes.paths seen nodes refl kv saw found in
+        elim (nat_le (length nodes.paths) (max_owned nodes.layout)) as (λ b. nat_le (length nodes.paths) (max_owned nodes.layout) ≡ b → MatchBool b ((p : Plan) × (r ≡ Planned p) × IsEndPlan false id v nodes p) (r ≡ TooMany) → IsReapingOf (session_at id s) r) [
+          | true ↦ λ e is. ending_is (session_at id s) o.session r is.0 o.is_open (lapsed_is (nat_abs id) (session_at id s) o.session o.is_open (life-means v id real m s stands nodes.paths seen None saw_life)) is.1
+          | false ↦ λ e is. absurd (too_many (length nodes.paths) (max_owned nodes.layout) e (nodes-few v id real m s stands nodes.paths seen nodes refl kv saw found sound))
         ] refl h
 
     by_decides : (o : Option (Option Kv)) → life ≡ Some None → session_seen ≡ o → IsReapedBy id v o r → IsReapingOf (session_at id s) r
@@ -131,10 +132,10 @@ module _ (id : ℤ) (v : View) (real : pos 1 ≤ℤ id) where
   -- ---- the plan
 
   module _ (r : Reaping) (saw_life : life ≡ Some None) where
-    with_planned : (kv : Kv) (ps : List Bytes) → session_seen ≡ Some (Some kv) → IsNodesIn kv ps → IsReapedWith id v ps r → IfReaped (IsPlannedReap id v) r
-    with_planned kv ps saw nodes h =
-        elim (nat_le (length ps) max_owned) as (λ b. MatchBool b ((p : Plan) × (r ≡ Planned p) × IsEndPlan false id v ps p) (r ≡ TooMany) → IfReaped (IsPlannedReap id v) r) [
-          | true ↦ λ is. subst (IfReaped (IsPlannedReap id v)) (sym is.1) (record { saw_life = saw_life; kv = kv; saw = saw; ps = ps; nodes = nodes; plan = is.2 })
+    with_planned : (kv : Kv) (nodes : SessionRec) → session_seen ≡ Some (Some kv) → IsNodesIn kv nodes → IsReapedWith id v nodes r → IfReaped (IsPlannedReap id v) r
+    with_planned kv nodes saw found h =
+        elim (nat_le (length nodes.paths) (max_owned nodes.layout)) as (λ b. MatchBool b ((p : Plan) × (r ≡ Planned p) × IsEndPlan false id v nodes p) (r ≡ TooMany) → IfReaped (IsPlannedReap id v) r) [
+          | true ↦ λ is. subst (IfReaped (IsPlannedReap id v)) (sym is.1) (record { saw_life = saw_life; kv = kv; saw = saw; nodes = nodes; found = found; plan = is.2 })
           | false ↦ λ is. subst (IfReaped (IsPlannedReap id v)) (sym is) tt
         ] h
 
@@ -148,29 +149,29 @@ module _ (id : ℤ) (v : View) (real : pos 1 ≤ℤ id) where
   life_planned r (Some None) saw h = by_planned r saw session_seen refl h
   life_planned r (Some (Some kv)) saw h = subst (IfReaped (IsPlannedReap id v)) (sym h) tt
 
-  abbrev nodes_seen : (p : Plan) (is : IsPlannedReap id v p) → IsNodesSeen session_seen is.ps
-  nodes_seen p is = subst (λ (o : Option (Option Kv)). IsNodesSeen o is.ps) (sym is.saw) is.nodes
+  abbrev nodes_seen : (p : Plan) (is : IsPlannedReap id v p) → IsNodesSeen session_seen (is.nodes).paths
+  nodes_seen p is = subst (λ (o : Option (Option Kv)). IsNodesSeen o (is.nodes).paths) (sym is.saw) (is.nodes, is.found, refl)
 
   reap_plan : (p : Plan) → IsPlannedReap id v p → IsReapPlan id v p
   reap_plan p is = record {
     ends = λ m s z sound stands may later high.
-        let seen = commits-for p v id is.ps m (is.plan).guards may in
+        let seen = commits-for p v id (is.nodes).paths m (is.plan).guards may in
         let low : pos 1 ≤ℤ z = omega (arith, ints, zxid-least m s stands, later) in
-        let o = session-open v id real m s stands is.ps seen is.kv is.saw is.nodes in
-        let lapses : (x : Session) → session_at id s ≡ Some x → x.lapsed ≡ true = λ x e. lapsed_is (nat_abs id) (session_at id s) x e (life-means v id real m s stands is.ps seen None is.saw_life) in
+        let o = session-open v id real m s stands (is.nodes).paths seen is.nodes refl is.kv is.saw is.found in
+        let lapses : (x : Session) → session_at id s ≡ Some x → x.lapsed ≡ true = λ x e. lapsed_is (nat_abs id) (session_at id s) x e (life-means v id real m s stands (is.nodes).paths seen None is.saw_life) in
         record {
           session = o.session;
           is_open = o.is_open;
           lapsed = lapses o.session o.is_open;
-          keys = ended-carries v id real m s stands is.ps seen is.kv is.saw is.nodes sound false (λ e. lapses) p is.plan z low high;
-          triggers = ended-triggers v id real m s stands is.ps seen is.kv is.saw is.nodes sound false (λ e. lapses) p is.plan z;
+          keys = ended-carries v id real m s stands (is.nodes).paths seen is.nodes refl is.kv is.saw is.found sound false (λ e. lapses) p is.plan z low high;
+          triggers = ended-triggers v id real m s stands (is.nodes).paths seen is.nodes refl is.kv is.saw is.found sound false (λ e. lapses) p is.plan z;
         };
-    reads = end-reads v (whose id) is.ps p (nodes_seen p is) (is.plan).guards (is.plan).again;
+    reads = end-reads v (whose id) (is.nodes).paths p (nodes_seen p is) (is.plan).guards (is.plan).again;
     absent =
         let k : Bytes = key_bytes (LeaseKey (nat_abs id)) in
-        let inside = in_mapped key_bytes (LeaseKey (nat_abs id)) (end_keys id is.ps) (inr (inl refl)) in
+        let inside = in_mapped key_bytes (LeaseKey (nat_abs id)) (end_keys id (is.nodes).paths) (inr (inl refl)) in
         subst (λ (gs : List Guard). Contains gs (record { key = k; mod_revision = pos 0 })) (sym (is.plan).guards)
-        (guarded k None (life-not_head (nat_abs id)) (picked v (read_keys id is.ps)) (picked-told v (read_keys id is.ps) k None inside is.saw_life));
+        (guarded k None (life-not_head (nat_abs id)) (picked v (read_keys id (is.nodes).paths)) (picked-told v (read_keys id (is.nodes).paths) k None inside is.saw_life));
     shows = (is.plan).shows;
     writes = (is.plan).writes;
   }
@@ -186,5 +187,5 @@ module _ (id : ℤ) (v : View) (real : pos 1 ≤ℤ id) where
 
   pub reap-taken : (r : Reaping) → IsReap id v r → IfReaped (λ p. (s : State) → IsSound s → IsOf v s → IsTaken p) r
   reap-taken r h = along (IsPlannedReap id v) (λ p. (s : State) → IsSound s → IsOf v s → IsTaken p) r
-      (λ p is. end-taken false id v real is.kv is.ps is.saw is.nodes p is.plan)
+      (λ p is. end-taken false id v real is.kv is.nodes is.saw is.found p is.plan)
       (life_planned r life refl h)

@@ -3,9 +3,13 @@ use Rattle.std.proofs.Common.{◌+◌, ◌*◌, ◌≤◌, ℤ, Bool, true, fals
 use Rattle.std.specs.Prelude.{All, IsTrue, nat_abs}
 use Rattle.std.specs.List.{sum_by, count_by}
 use Rattle.std.proofs.lemmas.List.Elements.{All-nil, All-cons, All-head, All-tail, All-append}
+use Rattle.zk_model.specs.declared.layout.Layout.{Layout}
+use Rattle.zk_model.specs.declared.layout.Layout.TheVariants.{One, Two}
+use Rattle.zk_model.specs.Limits.{max_owned}
 use Rattle.zk_model.specs.Paths.{is_child, is_path}
 use Rattle.zx_base.specs.Maps.{Bytes}
 use Rattle.zn_layout.specs.declared.record.CountRec.{CountRec}
+use Rattle.zn_layout.specs.declared.record.SessionRec.{SessionRec}
 use Rattle.zn_layout.specs.Changes.{KeyChange, put_key, delete_key, change_size}
 use Rattle.zn_layout.specs.Keys.{DataKey, CountsKey, SessionKey, LeaseKey}
 use Rattle.zn_layout.specs.Records.{counts_value}
@@ -31,15 +35,28 @@ session-length : (alive : Bool) (id : ℤ) → length (delete_session alive id) 
 session-length true id = omega arith
 session-length false id = omega arith
 
-nodes-small : (ps : List Bytes) → All (λ p. IsTrue (is_path p)) ps → All IsSmall (delete_nodes ps)
-nodes-small [] all = All-nil IsSmall
-nodes-small (p ∷ ps) all =
+nodes-small : (layout : Layout) (ps : List Bytes) → All (λ p. IsTrue (is_path p)) ps → All IsSmall (delete_nodes layout ps)
+nodes-small layout [] all = All-nil IsSmall
+nodes-small One (p ∷ ps) all =
     let short = path_short p (All-head (λ q. IsTrue (is_path q)) p ps all) in
-    All-cons IsSmall (delete_key (DataKey p)) (delete_key (CountsKey p) ∷ delete_nodes ps) (omega (arith, data-size p, short)) (All-cons IsSmall (delete_key (CountsKey p)) (delete_nodes ps) (omega (arith, counts-size p, short)) (nodes-small ps (All-tail (λ q. IsTrue (is_path q)) p ps all)))
+    All-cons IsSmall (delete_key (DataKey p)) (delete_key (CountsKey p) ∷ delete_nodes One ps) (omega (arith, data-size p, short))
+    (All-cons IsSmall (delete_key (CountsKey p)) (delete_nodes One ps) (omega (arith, counts-size p, short)) (nodes-small One ps (All-tail (λ q. IsTrue (is_path q)) p ps all)))
+nodes-small Two (p ∷ ps) all =
+    let short = path_short p (All-head (λ q. IsTrue (is_path q)) p ps all) in
+    All-cons IsSmall (delete_key (DataKey p)) (delete_nodes Two ps) (omega (arith, data-size p, short)) (nodes-small Two ps (All-tail (λ q. IsTrue (is_path q)) p ps all))
 
-nodes-length : (ps : List Bytes) → length (delete_nodes ps) ≤ 2 * length ps
-nodes-length [] = omega arith
-nodes-length (p ∷ ps) = omega (arith, nodes-length ps)
+nodes-twice : (ps : List Bytes) → length (delete_nodes One ps) ≤ 2 * length ps
+nodes-twice [] = omega arith
+nodes-twice (p ∷ ps) = omega (arith, nodes-twice ps)
+
+nodes-once : (ps : List Bytes) → length (delete_nodes Two ps) ≤ length ps
+nodes-once [] = omega arith
+nodes-once (p ∷ ps) = omega (arith, nodes-once ps)
+
+-- as many of layout 2 as there may be take no more operations than those of layout 1, with one for each parent
+nodes-length : (layout : Layout) (ps : List Bytes) → length ps ≤ max_owned layout → length (delete_nodes layout ps) + length ps ≤ 120
+nodes-length One ps few = omega (arith, nodes-twice ps, few)
+nodes-length Two ps few = omega (arith, nodes-once ps, few)
 
 parent-small : (ps : List Bytes) (q : Bytes) (o : Option CountRec) → IsTrue (is_path q) → All IsSmall (put_parent ps q o)
 parent-small ps q None h = All-nil IsSmall
@@ -59,21 +76,21 @@ puts-length : (counts : Bytes → Option CountRec) (ps qs : List Bytes) → leng
 puts-length counts ps [] = omega arith
 puts-length counts ps (q ∷ qs) = omega (arith, length-append (put_parent ps q (counts q)) (put_parents counts ps qs), parent-length ps q (counts q), puts-length counts ps qs)
 
-pub end-length : (alive : Bool) (id : ℤ) (counts : Bytes → Option CountRec) (ps : List Bytes) → length (end_changes alive id counts ps) ≤ 2 + 3 * length ps
+pub end-length : (alive : Bool) (id : ℤ) (counts : Bytes → Option CountRec) (nodes : SessionRec) → length nodes.paths ≤ max_owned nodes.layout → length (end_changes alive id counts nodes) ≤ 122
 unfolding end_changes
-end-length alive id counts ps = omega (
+end-length alive id counts nodes few = omega (
   arith,
-  length-append (delete_session alive id ++ delete_nodes ps) (put_parents counts ps (parents ps)),
-  length-append (delete_session alive id) (delete_nodes ps),
+  length-append (delete_session alive id ++ delete_nodes nodes.layout nodes.paths) (put_parents counts nodes.paths (parents nodes.paths)),
+  length-append (delete_session alive id) (delete_nodes nodes.layout nodes.paths),
   session-length alive id,
-  nodes-length ps,
-  puts-length counts ps (parents ps),
-  parents-length ps,
+  nodes-length nodes.layout nodes.paths few,
+  puts-length counts nodes.paths (parents nodes.paths),
+  parents-length nodes.paths,
 )
 
-pub end-size : (alive : Bool) (id : ℤ) (counts : Bytes → Option CountRec) (ps : List Bytes) → All (λ p. IsTrue (is_path p)) ps → sum_by change_size (end_changes alive id counts ps) ≤ 1042 * length (end_changes alive id counts ps)
+pub end-size : (alive : Bool) (id : ℤ) (counts : Bytes → Option CountRec) (nodes : SessionRec) → All (λ p. IsTrue (is_path p)) nodes.paths → sum_by change_size (end_changes alive id counts nodes) ≤ 1042 * length (end_changes alive id counts nodes)
 unfolding end_changes
-end-size alive id counts ps valid = sum_by-most change_size 1042 (end_changes alive id counts ps)
-    (All-append IsSmall (delete_session alive id ++ delete_nodes ps) (put_parents counts ps (parents ps))
-    (All-append IsSmall (delete_session alive id) (delete_nodes ps) (session-small alive id) (nodes-small ps valid))
-    (parents-small counts ps (parents ps) (parents-valid ps valid)))
+end-size alive id counts nodes valid = sum_by-most change_size 1042 (end_changes alive id counts nodes)
+    (All-append IsSmall (delete_session alive id ++ delete_nodes nodes.layout nodes.paths) (put_parents counts nodes.paths (parents nodes.paths))
+    (All-append IsSmall (delete_session alive id) (delete_nodes nodes.layout nodes.paths) (session-small alive id) (nodes-small nodes.layout nodes.paths valid))
+    (parents-small counts nodes.paths (parents nodes.paths) (parents-valid nodes.paths valid)))

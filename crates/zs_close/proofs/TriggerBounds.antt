@@ -5,7 +5,6 @@ use Rattle.std.proofs.lemmas.List.{length-append}
 use Rattle.std.proofs.lemmas.List.Elements.{All-nil, All-cons, All-head, All-tail, All-append}
 use Rattle.zk_model.specs.declared.node.Trigger.{Trigger}
 use Rattle.zk_model.specs.declared.node.Trigger.TheVariants.{Deleted, Children}
-use Rattle.zk_model.specs.Limits.{max_owned}
 use Rattle.zk_model.specs.Paths.{is_path, parent}
 use Rattle.zk_model.specs.Single.{removal, removal_under}
 use Rattle.zk_model.proofs.ValidPaths.{parent-valid}
@@ -34,5 +33,5 @@ end_triggers-valid [] all = All-nil IsOfPath
 end_triggers-valid (p ∷ ps) all =
     All-append IsOfPath (removal p) (end_triggers ps) (removal_valid p (parent p) refl (All-head (λ q. IsTrue (is_path q)) p ps all)) (end_triggers-valid ps (All-tail (λ q. IsTrue (is_path q)) p ps all))
 
-pub end_triggers-within : (ps : List Bytes) → length ps ≤ max_owned → All (λ p. IsTrue (is_path p)) ps → IsHeadRec (end_triggers ps)
+pub end_triggers-within : (ps : List Bytes) → length ps ≤ 60 → All (λ p. IsTrue (is_path p)) ps → IsHeadRec (end_triggers ps)
 end_triggers-within ps few all = record { count = omega (arith, end_triggers-length ps, few); valid = end_triggers-valid ps all }

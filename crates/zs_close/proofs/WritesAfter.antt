@@ -3,6 +3,7 @@ use Rattle.std.proofs.Common.{◌≡◌, ℤ, Bool, List, [], ◌∷◌, ◌++�
 use Rattle.std.proofs.lemmas.List.{map-append}
 use Rattle.std.proofs.lemmas.List.Elements.{All-nil, All-cons, All-append}
 use Rattle.ev_types.specs.declared.ask.Act.{Act}
+use Rattle.zk_model.specs.declared.layout.Layout.{Layout}
 use Rattle.zx_base.specs.Maps.{Bytes}
 use Rattle.zn_layout.specs.Changes.{act_of, acts_of, put_key}
 use Rattle.zn_layout.specs.Keys.{Key}
@@ -25,6 +26,6 @@ after-both a b c (cs, all, is) (ds, also, are) = (
 )
 
 -- the operations of an end
-pub end-after : (alive : Bool) (id : ℤ) (ps : List Bytes) (own nodes acts : List Act) → own ≡ acts_of (delete_session alive id) → nodes ≡ own ++ acts_of (delete_nodes ps) → AreWritesAfter nodes acts → AreWritesAfter [] acts
-end-after alive id ps own nodes acts e f h =
-    after-both [] nodes acts (after-both [] own nodes (delete_session alive id, session-leaseless alive id, e) (delete_nodes ps, nodes-leaseless ps, f)) h
+pub end-after : (alive : Bool) (id : ℤ) (layout : Layout) (ps : List Bytes) (own nodes acts : List Act) → own ≡ acts_of (delete_session alive id) → nodes ≡ own ++ acts_of (delete_nodes layout ps) → AreWritesAfter nodes acts → AreWritesAfter [] acts
+end-after alive id layout ps own nodes acts e f h =
+    after-both [] nodes acts (after-both [] own nodes (delete_session alive id, session-leaseless alive id, e) (delete_nodes layout ps, nodes-leaseless layout ps, f)) h

@@ -1,14 +1,17 @@
 -- What the changes at the end of a session write under each key.
 use Rattle.std.proofs.Common.{◌≡◌, ℕ, ℤ, pos, Bool, true, false, cond, ◌||◌, List, [], ◌∷◌, ◌++◌, Option, Some, None, refl, sym, ap, ◌∙◌}
-use Rattle.std.specs.Prelude.{nat_abs, nat_eq}
+use Rattle.std.specs.Prelude.{◌&&◌, nat_abs, nat_eq}
 use Rattle.std.specs.List.{list_any, count_by}
 use Rattle.zx_base.specs.Maps.{Bytes, same}
 use Rattle.zx_base.proofs.MapLaws.{same-refl, same-true}
+use Rattle.zk_model.specs.declared.layout.Layout.{Layout}
+use Rattle.zk_model.specs.declared.layout.Layout.TheVariants.{One, Two}
 use Rattle.zk_model.specs.Paths.{is_child}
 use Rattle.zn_layout.specs.declared.record.CountRec.{CountRec}
+use Rattle.zn_layout.specs.declared.record.SessionRec.{SessionRec}
 use Rattle.zn_layout.specs.Changes.{Put, last, put_or_else}
 use Rattle.zn_layout.specs.Keys.{Key, HeadKey, DataKey, CountsKey, SessionKey, LeaseKey}
-use Rattle.zn_layout.specs.Records.{counts_value}
+use Rattle.zn_layout.specs.Records.{counts_value, has_counts}
 use Rattle.zn_layout.proofs.Fits.{last-append}
 use Rattle.zn_layout.specs.Counts.{fewer}
 use Rattle.zs_close.specs.Ending.{put_parent, put_parents, parents, delete_nodes, delete_session, end_changes}
@@ -49,19 +52,24 @@ life-gone false id i = refl
 
 -- ---- the keys of its nodes
 
-pub data-gone : (ps : List Bytes) (r : Bytes) → last (delete_nodes ps) (DataKey r) ≡ gone_if (list_any (same r) ps)
-data-gone [] r = refl
-data-gone (p ∷ ps) r =
-    (λ i. put_or_else (put_or_else (data-gone ps r i) None) (cond_gone (same r p) i))
+pub data-gone : (layout : Layout) (ps : List Bytes) (r : Bytes) → last (delete_nodes layout ps) (DataKey r) ≡ gone_if (list_any (same r) ps)
+data-gone layout [] r = refl
+data-gone One (p ∷ ps) r =
+    (λ i. put_or_else (put_or_else (data-gone One ps r i) None) (cond_gone (same r p) i))
     ∙ ap (λ x. put_or_else x (gone_if (same r p))) (or_none (gone_if (list_any (same r) ps)))
     ∙ gone_either (same r p) (list_any (same r) ps)
-
-pub counts-gone : (ps : List Bytes) (r : Bytes) → last (delete_nodes ps) (CountsKey r) ≡ gone_if (list_any (same r) ps)
-counts-gone [] r = refl
-counts-gone (p ∷ ps) r =
-    or_none _
-    ∙ (λ i. put_or_else (counts-gone ps r i) (cond_gone (same r p) i))
+data-gone Two (p ∷ ps) r =
+    (λ i. put_or_else (data-gone Two ps r i) (cond_gone (same r p) i))
     ∙ gone_either (same r p) (list_any (same r) ps)
+
+pub counts-gone : (layout : Layout) (ps : List Bytes) (r : Bytes) → last (delete_nodes layout ps) (CountsKey r) ≡ gone_if (has_counts layout && list_any (same r) ps)
+counts-gone One [] r = refl
+counts-gone Two [] r = refl
+counts-gone One (p ∷ ps) r =
+    or_none _
+    ∙ (λ i. put_or_else (counts-gone One ps r i) (cond_gone (same r p) i))
+    ∙ gone_either (same r p) (list_any (same r) ps)
+counts-gone Two (p ∷ ps) r = or_none _ ∙ counts-gone Two ps r
 
 -- ---- the parents' counts
 
@@ -127,17 +135,20 @@ parents_leave counts ps (q ∷ qs) k h =
     last-append (put_parent ps q (counts q)) (put_parents counts ps qs) k
     ∙ (λ i. put_or_else (parents_leave counts ps qs k h i) (parent_leaves ps q (counts q) k h i))
 
-pub nodes_leave-session : (ps : List Bytes) (i : ℕ) → last (delete_nodes ps) (SessionKey i) ≡ None
-nodes_leave-session [] i = refl
-nodes_leave-session (p ∷ ps) i = (λ j. put_or_else (put_or_else (nodes_leave-session ps i j) None) None)
+pub nodes_leave-session : (layout : Layout) (ps : List Bytes) (i : ℕ) → last (delete_nodes layout ps) (SessionKey i) ≡ None
+nodes_leave-session layout [] i = refl
+nodes_leave-session One (p ∷ ps) i = (λ j. put_or_else (put_or_else (nodes_leave-session One ps i j) None) None)
+nodes_leave-session Two (p ∷ ps) i = (λ j. put_or_else (nodes_leave-session Two ps i j) None)
 
-pub nodes_leave-life : (ps : List Bytes) (i : ℕ) → last (delete_nodes ps) (LeaseKey i) ≡ None
-nodes_leave-life [] i = refl
-nodes_leave-life (p ∷ ps) i = (λ j. put_or_else (put_or_else (nodes_leave-life ps i j) None) None)
+pub nodes_leave-life : (layout : Layout) (ps : List Bytes) (i : ℕ) → last (delete_nodes layout ps) (LeaseKey i) ≡ None
+nodes_leave-life layout [] i = refl
+nodes_leave-life One (p ∷ ps) i = (λ j. put_or_else (put_or_else (nodes_leave-life One ps i j) None) None)
+nodes_leave-life Two (p ∷ ps) i = (λ j. put_or_else (nodes_leave-life Two ps i j) None)
 
-nodes_leave-head : (ps : List Bytes) → last (delete_nodes ps) HeadKey ≡ None
-nodes_leave-head [] = refl
-nodes_leave-head (p ∷ ps) = (λ j. put_or_else (put_or_else (nodes_leave-head ps j) None) None)
+nodes_leave-head : (layout : Layout) (ps : List Bytes) → last (delete_nodes layout ps) HeadKey ≡ None
+nodes_leave-head layout [] = refl
+nodes_leave-head One (p ∷ ps) = (λ j. put_or_else (put_or_else (nodes_leave-head One ps j) None) None)
+nodes_leave-head Two (p ∷ ps) = (λ j. put_or_else (nodes_leave-head Two ps j) None)
 
 session_leaves-head : (alive : Bool) (id : ℤ) → last (delete_session alive id) HeadKey ≡ None
 session_leaves-head true id = refl
@@ -153,34 +164,37 @@ session_leaves-counts false id r = refl
 
 -- ---- together
 
-module _ (alive : Bool) (id : ℤ) (counts : Bytes → Option CountRec) (ps : List Bytes) where
-  three : (k : Key) → last (end_changes alive id counts ps) k ≡ put_or_else (last (put_parents counts ps (parents ps)) k) (put_or_else (last (delete_nodes ps) k) (last (delete_session alive id) k))
+module _ (alive : Bool) (id : ℤ) (counts : Bytes → Option CountRec) (nodes : SessionRec) where
+  abbrev ps : List Bytes
+  ps = nodes.paths
+
+  three : (k : Key) → last (end_changes alive id counts nodes) k ≡ put_or_else (last (put_parents counts ps (parents ps)) k) (put_or_else (last (delete_nodes nodes.layout ps) k) (last (delete_session alive id) k))
   unfolding end_changes
   three k =
-      last-append (delete_session alive id ++ delete_nodes ps) (put_parents counts ps (parents ps)) k
-      ∙ ap (put_or_else (last (put_parents counts ps (parents ps)) k)) (last-append (delete_session alive id) (delete_nodes ps) k)
+      last-append (delete_session alive id ++ delete_nodes nodes.layout ps) (put_parents counts ps (parents ps)) k
+      ∙ ap (put_or_else (last (put_parents counts ps (parents ps)) k)) (last-append (delete_session alive id) (delete_nodes nodes.layout ps) k)
 
-  pub written-head : last (end_changes alive id counts ps) HeadKey ≡ None
-  written-head = three HeadKey ∙ (λ i. put_or_else (parents_leave counts ps (parents ps) HeadKey tt i) (put_or_else (nodes_leave-head ps i) (session_leaves-head alive id i)))
+  pub written-head : last (end_changes alive id counts nodes) HeadKey ≡ None
+  written-head = three HeadKey ∙ (λ i. put_or_else (parents_leave counts ps (parents ps) HeadKey tt i) (put_or_else (nodes_leave-head nodes.layout ps i) (session_leaves-head alive id i)))
 
-  pub written-data : (r : Bytes) → last (end_changes alive id counts ps) (DataKey r) ≡ gone_if (list_any (same r) ps)
+  pub written-data : (r : Bytes) → last (end_changes alive id counts nodes) (DataKey r) ≡ gone_if (list_any (same r) ps)
   written-data r =
       three (DataKey r)
-      ∙ (λ i. put_or_else (parents_leave counts ps (parents ps) (DataKey r) tt i) (put_or_else (data-gone ps r i) (session_leaves-data alive id r i)))
+      ∙ (λ i. put_or_else (parents_leave counts ps (parents ps) (DataKey r) tt i) (put_or_else (data-gone nodes.layout ps r i) (session_leaves-data alive id r i)))
       ∙ or_none (gone_if (list_any (same r) ps))
 
-  pub written-counts : (r : Bytes) → last (end_changes alive id counts ps) (CountsKey r) ≡ put_or_else (put_if (list_any (is_child r) ps) (put_of ps r (counts r))) (gone_if (list_any (same r) ps))
+  pub written-counts : (r : Bytes) → last (end_changes alive id counts nodes) (CountsKey r) ≡ put_or_else (put_if (list_any (is_child r) ps) (put_of ps r (counts r))) (gone_if (has_counts nodes.layout && list_any (same r) ps))
   written-counts r =
       three (CountsKey r)
-      ∙ (λ i. put_or_else (parents_put counts ps (parents ps) r i) (put_or_else (counts-gone ps r i) (session_leaves-counts alive id r i)))
-      ∙ (λ i. put_or_else (put_if (parents-any ps r i) (put_of ps r (counts r))) (or_none (gone_if (list_any (same r) ps)) i))
+      ∙ (λ i. put_or_else (parents_put counts ps (parents ps) r i) (put_or_else (counts-gone nodes.layout ps r i) (session_leaves-counts alive id r i)))
+      ∙ (λ i. put_or_else (put_if (parents-any ps r i) (put_of ps r (counts r))) (or_none (gone_if (has_counts nodes.layout && list_any (same r) ps)) i))
 
-  pub written-session : (i : ℕ) → last (end_changes alive id counts ps) (SessionKey i) ≡ gone_if (nat_eq i (nat_abs id))
+  pub written-session : (i : ℕ) → last (end_changes alive id counts nodes) (SessionKey i) ≡ gone_if (nat_eq i (nat_abs id))
   written-session i =
       three (SessionKey i)
-      ∙ (λ j. put_or_else (parents_leave counts ps (parents ps) (SessionKey i) tt j) (put_or_else (nodes_leave-session ps i j) (session-gone alive id i j)))
+      ∙ (λ j. put_or_else (parents_leave counts ps (parents ps) (SessionKey i) tt j) (put_or_else (nodes_leave-session nodes.layout ps i j) (session-gone alive id i j)))
 
-  pub written-life : (i : ℕ) → last (end_changes alive id counts ps) (LeaseKey i) ≡ gone_if (life_gone alive id i)
+  pub written-life : (i : ℕ) → last (end_changes alive id counts nodes) (LeaseKey i) ≡ gone_if (life_gone alive id i)
   written-life i =
       three (LeaseKey i)
-      ∙ (λ j. put_or_else (parents_leave counts ps (parents ps) (LeaseKey i) tt j) (put_or_else (nodes_leave-life ps i j) (life-gone alive id i j)))
+      ∙ (λ j. put_or_else (parents_leave counts ps (parents ps) (LeaseKey i) tt j) (put_or_else (nodes_leave-life nodes.layout ps i j) (life-gone alive id i j)))

@@ -5,4 +5,4 @@ use Rattle.zs_close.specs.Ending.{delete_nodes}
 use Rattle.zs_close.proofs.changes.push_nodes.Given as goal
 
 abbrev pub invariant-loop-path : goal.invariant-loop-path
-invariant-loop-path l = l.acts ++ acts_of (delete_nodes (drop l.path-index l.paths)) ≡ l.initial.acts ++ acts_of (delete_nodes l.paths)
+invariant-loop-path l = l.acts ++ acts_of (delete_nodes l.layout (drop l.path-index l.paths)) ≡ l.initial.acts ++ acts_of (delete_nodes l.layout l.paths)
