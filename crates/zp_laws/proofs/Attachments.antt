@@ -1,24 +1,29 @@
 -- After the transaction of an attachment, keys stand for the state in which the session is attached anew.
-use Rattle.std.proofs.Common.{◌≡◌, ◌≢◌, ℕ, ℤ, pos, negsuc, true, Bool, false, List, [], Option, Some, refl, sym, ap, ◌∙◌, subst, arith}
+use Rattle.std.proofs.Common.{◌≡◌, ◌≢◌, ℕ, ℤ, pos, negsuc, true, Bool, false, List, [], Option, Some, None, refl, sym, ap, ◌∙◌, subst, arith}
 use Rattle.std.specs.Prelude.{nat_eq, ◌≤ℤ◌, ◌<ℤ◌, ◌&&◌, ◌+ℤ◌, if◌then◌else◌}
 use Rattle.std.specs.List.{list_all}
 use Rattle.std.specs.Ordering.{int_eq}
+use Rattle.std.specs.FinMap.{get}
+use Rattle.std.proofs.lemmas.Bool.{false≢true}
 use Rattle.std.proofs.lemmas.Bool.Decides.{Decides-int_eq}
 use Rattle.std.proofs.lemmas.Int.{ints}
 use Rattle.ev_types.specs.declared.answer.Kv.{Kv}
 use Rattle.ev_types.specs.Ranges.{Keys}
 use Rattle.ev_types.specs.Store.{acts_applied, holds, last_revision, mod_of}
+use Rattle.zk_model.specs.declared.node.Node.{Node}
 use Rattle.zk_model.specs.Limits.{max_long}
+use Rattle.zk_model.specs.Znodes.{num_children}
 use Rattle.zk_transcript.specs.declared.transcript.TranscriptLine.{TranscriptLine}
 use Rattle.zk_service.specs.declared.update.UpdateKind.TheVariants.{Attach}
 use Rattle.zk_service.specs.States.{State, Session, advanced, attached_anew, session_at}
+use Rattle.zk_service.proofs.SessionMaps.{at-insert_same, at-insert_other}
 use Rattle.zk_transcript.specs.History.{updated}
 use Rattle.zn_layout.specs.declared.record.LeaseRec.{LeaseRec}
 use Rattle.zn_layout.specs.Changes.{last, update_acts}
 use Rattle.zn_layout.specs.Fits.{ChangesFit, KeyFits}
 use Rattle.zn_layout.specs.Keys.{Key, HeadKey, DataKey, CountsKey, SessionKey, LeaseKey, key_bytes}
 use Rattle.zn_layout.specs.Records.{IsLeaseRec, lease_value}
-use Rattle.zn_layout.specs.StandsFor.{at, stored_of, life_record, LifeMeans, StandsFor}
+use Rattle.zn_layout.specs.StandsFor.{at, stored_of, is_counted, is_counted_in, life_record, CountsMean, LifeMeans, StandsFor}
 use Rattle.zn_layout.proofs.Leases.{lease_value-injective}
 use Rattle.zn_layout.proofs.Stands.{stands_after}
 use Rattle.zn_view.proofs.Committing.{zxid-least}
@@ -48,11 +53,27 @@ attached-fits : (n : ℕ) (old : Session) (attaches z : ℤ) (c : ℕ) (s : Stat
     → ChangesFit z (attach_changes (pos n) (life_record old attaches)) s (opened z s n (moved old c z))
 attached-fits n old attaches z c s was alive within = record { each = each }
   where
+    next : State
+    next = opened z s n (moved old c z)
+
+    -- the session keeps its layout, and with it the counts of its nodes their records
+    counted_at : (i : ℤ) → is_counted (session_at i next) ≡ is_counted (session_at i s)
+    counted_at i = elim (int_eq i (pos n)) as (λ b. int_eq i (pos n) ≡ b → is_counted (session_at i next) ≡ is_counted (session_at i s)) [
+      | true ↦ λ h.
+          let e = (Decides-int_eq i (pos n)).0 h in
+          ap (λ j. is_counted (session_at j next)) e ∙ ap is_counted (at-insert_same s.sessions (pos n) (moved old c z)) ∙ ap is_counted (sym was) ∙ ap (λ j. is_counted (session_at j s)) (sym e)
+      | false ↦ λ h. ap is_counted (at-insert_other s.sessions (pos n) i (moved old c z) (λ e. false≢true (sym h ∙ (Decides-int_eq i (pos n)).1 e)))
+    ] refl
+
+    counted_in : (o : Option Node) → is_counted_in next o ≡ is_counted_in s o
+    counted_in None = refl
+    counted_in (Some node) = counted_at node.owner
+
     each : (k : Key) → KeyFits z (last (attach_changes (pos n) (life_record old attaches)) k) k s (opened z s n (moved old c z))
     each HeadKey = λ o h. tt
     each (DataKey p) = λ o h. h
-    each (CountsKey p) = λ o h. h
-    each (SessionKey m) = nodes-stay z s n (moved old c z) old m (nat_eq m n) refl was
+    each (CountsKey p) = λ o h. subst (λ (b : Bool). CountsMean (get s.tree p) (num_children s.tree p) b o) (sym (counted_in (get s.tree p))) h
+    each (SessionKey m) = nodes-stay z s n (moved old c z) old refl m (nat_eq m n) refl was
     each (LeaseKey m) = life-fits z s n (moved old c z) (record { value = lease_value (next_life (life_record old attaches)); lease = pos n }) m (nat_eq m n) refl
         (record { attaches = next_attach attaches; fits = next_life-within (life_record old attaches) within; value = refl; attached = refl; leased = refl; alive = alive })
 

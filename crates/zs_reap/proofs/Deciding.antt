@@ -12,6 +12,7 @@ use Rattle.zk_service.specs.States.{State, IsSound}
 use Rattle.zx_base.specs.declared.memory.Memory.{Memory as Refused}
 use Rattle.zx_base.specs.Maps.{Bytes}
 use Rattle.zx_base.proofs.Options.{some_is}
+use Rattle.zn_layout.specs.declared.record.SessionRec.{SessionRec}
 use Rattle.zn_layout.specs.Keys.{SessionKey}
 use Rattle.zn_layout.proofs.ListRecords.{session_value-injective}
 use Rattle.zn_view.specs.declared.plan.Plan.{Plan}
@@ -84,11 +85,11 @@ looked-there id r ws parts phase step real h =
 
 -- ---- a view saw one list of nodes
 
-pub few-seen : (id : ℤ) (v : View) (kv : Kv) (ps : List Bytes) → sees v (SessionKey (nat_abs id)) ≡ Some (Some kv) → IsNodesIn kv ps → length ps ≤ max_owned → AreFewOwned id v
-few-seen id v kv ps saw nodes few other qs also are =
+pub few-seen : (id : ℤ) (v : View) (kv : Kv) (r : SessionRec) → sees v (SessionKey (nat_abs id)) ≡ Some (Some kv) → IsNodesIn kv r → length r.paths ≤ max_owned r.layout → AreFewOwned id v
+few-seen id v kv r saw nodes few other q also are =
     let one : other ≡ kv = some_is (some_is (sym also ∙ saw)) in
-    let same : qs ≡ ps = session_value-injective qs ps are.0 nodes.0 (sym are.1 ∙ ap (λ (x : Kv). x.value) one ∙ nodes.1) in
-    subst (λ (l : List Bytes). length l ≤ max_owned) (sym same) few
+    let same : q ≡ r = session_value-injective q r are.0 nodes.0 (sym are.1 ∙ ap (λ (x : Kv). x.value) one ∙ nodes.1) in
+    subst (λ (k : SessionRec). length k.paths ≤ max_owned k.layout) (sym same) few
 
 -- ---- a plan is asked
 

@@ -5,6 +5,7 @@ use Rattle.std.proofs.lemmas.Int.{ints}
 use Rattle.ev_types.specs.declared.answer.Kv.{Kv}
 use Rattle.ev_types.specs.Ranges.{Keys}
 use Rattle.ev_types.specs.Store.{mod_of}
+use Rattle.zk_model.specs.declared.layout.Layout.{Layout}
 use Rattle.zk_model.specs.Znodes.{owned}
 use Rattle.zk_service.specs.States.{State, Session, advanced, session_at, with_session}
 use Rattle.zk_service.proofs.SessionMaps.{at-insert_same, at-insert_other}
@@ -13,7 +14,7 @@ use Rattle.zn_layout.specs.Changes.{Put, put_or_else}
 use Rattle.zn_layout.specs.Fits.{KeyFits}
 use Rattle.zn_layout.specs.Keys.{Key, SessionKey, LeaseKey, key_bytes}
 use Rattle.zn_layout.specs.Records.{IsHeadRec}
-use Rattle.zn_layout.specs.StandsFor.{Stored, at, IsNodes, NodesMean, IsLife, LifeMeans, StandsFor}
+use Rattle.zn_layout.specs.StandsFor.{Stored, at, IsNodes, nodes_record, NodesMean, IsLife, LifeMeans, StandsFor}
 
 -- ---- small facts
 
@@ -44,9 +45,10 @@ pub nodes-none : (o : Option Session) (ps : List Bytes) → NodesMean o ps None 
 nodes-none None ps h = refl
 nodes-none (Some x) ps h = absurd h
 
-nodes-any : (x y : Session) (ps : List Bytes) (o : Option Stored) → NodesMean (Some x) ps o → NodesMean (Some y) ps o
-nodes-any x y ps None h = h
-nodes-any x y ps (Some w) h = h
+-- a session that keeps its layout
+nodes-any : (x y : Session) (ps : List Bytes) (o : Option Stored) → y.layout ≡ x.layout → NodesMean (Some x) ps o → NodesMean (Some y) ps o
+nodes-any x y ps None e h = h
+nodes-any x y ps (Some w) e h = subst (λ (l : Layout). IsNodes w (record { layout = l; paths = ps })) (sym e) h
 
 pub record FoundLife (id : ℕ) (session : Option Session) (o : Stored) : Type 0 where
   pub old : Session
@@ -79,7 +81,7 @@ module _ (z : ℤ) (s : State) (n : ℕ) (x : Session) where
       subst (λ (i : ℕ). LifeMeans i (session_at (pos i) opened) o) (sym (eqb-true m n e)) own
   life-fits w m false e life = λ o h. subst (λ (y : Option Session). LifeMeans m y o) (sym (session-other m e)) h
 
-  pub nodes-fit : (w : Put) (m : ℕ) (b : Bool) → nat_eq m n ≡ b → IsNodes (record { value = w.value; revision = z; lease = w.lease }) (owned s.tree (pos n)) → KeyFits z (put_or_else (cond b (Some (Some w)) None) None) (SessionKey m) s opened
+  pub nodes-fit : (w : Put) (m : ℕ) (b : Bool) → nat_eq m n ≡ b → IsNodes (record { value = w.value; revision = z; lease = w.lease }) (nodes_record x (owned s.tree (pos n))) → KeyFits z (put_or_else (cond b (Some (Some w)) None) None) (SessionKey m) s opened
   nodes-fit w m true e nodes =
       let o : Option Stored = Some (record { value = w.value; revision = z; lease = w.lease }) in
       let own : NodesMean (session_at (pos n) opened) (owned s.tree (pos n)) o = subst (λ (y : Option Session). NodesMean y (owned s.tree (pos n)) o) (sym session-own) nodes in
@@ -87,10 +89,10 @@ module _ (z : ℤ) (s : State) (n : ℕ) (x : Session) where
   nodes-fit w m false e nodes = λ o h. subst (λ (y : Option Session). NodesMean y (owned s.tree (pos m)) o) (sym (session-other m e)) h
 
   -- the list of its nodes isn't written
-  pub nodes-stay : (old : Session) (m : ℕ) (b : Bool) → nat_eq m n ≡ b → session_at (pos n) s ≡ Some old → (o : Option Stored) → NodesMean (session_at (pos m) s) (owned s.tree (pos m)) o → NodesMean (session_at (pos m) opened) (owned s.tree (pos m)) o
-  nodes-stay old m true e was o h =
+  pub nodes-stay : (old : Session) → x.layout ≡ old.layout → (m : ℕ) (b : Bool) → nat_eq m n ≡ b → session_at (pos n) s ≡ Some old → (o : Option Stored) → NodesMean (session_at (pos m) s) (owned s.tree (pos m)) o → NodesMean (session_at (pos m) opened) (owned s.tree (pos m)) o
+  nodes-stay old layout m true e was o h =
       let same : m ≡ n = eqb-true m n e in
       let before : session_at (pos m) s ≡ Some old = ap (λ (i : ℕ). session_at (pos i) s) same ∙ was in
       let after : session_at (pos m) opened ≡ Some x = ap (λ (i : ℕ). session_at (pos i) opened) same ∙ session-own in
-      subst (λ (y : Option Session). NodesMean y (owned s.tree (pos m)) o) (sym after) (nodes-any old x (owned s.tree (pos m)) o (subst (λ (y : Option Session). NodesMean y (owned s.tree (pos m)) o) before h))
-  nodes-stay old m false e was o h = subst (λ (y : Option Session). NodesMean y (owned s.tree (pos m)) o) (sym (session-other m e)) h
+      subst (λ (y : Option Session). NodesMean y (owned s.tree (pos m)) o) (sym after) (nodes-any old x (owned s.tree (pos m)) o layout (subst (λ (y : Option Session). NodesMean y (owned s.tree (pos m)) o) before h))
+  nodes-stay old layout m false e was o h = subst (λ (y : Option Session). NodesMean y (owned s.tree (pos m)) o) (sym (session-other m e)) h

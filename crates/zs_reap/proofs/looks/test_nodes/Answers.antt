@@ -10,6 +10,6 @@ use Rattle.zs_reap.proofs.looks.test_nodes.Goals as goal
 
 pub returns-clause-ok : goal.returns-clause-ok
 returns-clause-ok c =
-    let h : (kv : Kv) × (sees c.args.view.now (SessionKey (nat_abs c.args.session)) ≡ Some (Some kv)) × IsNodesIn kv c.in-Some.nodes.paths = search rules in
-    let few : length c.in-Some.nodes.paths ≤ max_owned = search (arith, rules) in
-    few-seen c.args.session c.args.view.now h.0 c.in-Some.nodes.paths h.1 h.2 few
+    let h : (kv : Kv) × (sees c.args.view.now (SessionKey (nat_abs c.args.session)) ≡ Some (Some kv)) × IsNodesIn kv c.in-Some.nodes = search rules in
+    let few : length c.in-Some.nodes.paths ≤ max_owned c.in-Some.nodes.layout = search (arith, rules) in
+    few-seen c.args.session c.args.view.now h.0 c.in-Some.nodes h.1 h.2 few
