@@ -7,11 +7,11 @@ use Rattle.std.proofs.lemmas.Bool.{and_from, true≢false}
 use Rattle.std.proofs.lemmas.Bool.Decides.{nat_tests}
 use Rattle.std.proofs.lemmas.Int.{ints}
 use Rattle.zx_base.specs.Maps.{Bytes}
-use Rattle.zx_base.proofs.MapLaws.{either, same-refl, same-false, get-insert_same, get-insert_other, get-remove_other, len-remove_there, remove-absent}
+use Rattle.zx_base.proofs.MapLaws.{either, ext, same-refl, same-false, get-insert_same, get-insert_other, get-remove_other, get-remove_same, len-remove_there, remove-absent}
 use Rattle.zk_model.specs.declared.node.Node.{Node}
 use Rattle.zk_model.specs.declared.request.Part.{Part}
 use Rattle.zk_model.specs.declared.request.Part.TheVariants.{Create, Delete, SetData, Check}
-use Rattle.zk_model.specs.Limits.{max_creates, max_owned, max_version}
+use Rattle.zk_model.specs.Limits.{max_creates, max_version}
 use Rattle.zk_model.specs.Paths.{is_child, parent, root, sequence_path}
 use Rattle.zk_model.specs.Single.{Outcome, Refused, at_parent, check, create_at, create_node, create_under, delete, effect, form_refusal, is_ephemeral, is_full, is_sequential, made_path, matches, named, removed_under, set_data, single, unless_refused, with_child, with_content, without_child}
 use Rattle.zk_model.specs.Znodes.{Tree, new_node, num_children, owned, owned_by}
@@ -23,13 +23,14 @@ use Rattle.zk_service.proofs.SoundEffects.{Leads}
 use Rattle.zk_service.proofs.SoundTrees.{Each, each-gone, each-put}
 use Rattle.zn_layout.specs.declared.record.CountRec.{CountRec}
 use Rattle.zn_layout.specs.Begin.{first_counts}
+use Rattle.zn_layout.specs.Counts.{one_less, one_more}
 use Rattle.zn_layout.specs.Keys.{CountsKey, key_bytes}
 use Rattle.zn_layout.specs.StandsFor.{counts_record}
 use Rattle.zn_updates.proofs.Deleting.{delete_count_other, delete_count_parent, delete_gone, delete_other, delete_parent, delete_tree}
 use Rattle.zn_view.specs.declared.leaving.NodeNow.{NodeNow}
 use Rattle.zn_view.specs.declared.leaving.TreeChange.{TreeChange}
 use Rattle.zn_view.specs.declared.leaving.TreeChange.TheVariants.{Created, Deleted, DataSet}
-use Rattle.zn_view.specs.Leaving.{are_seen, counts_after, counts_with, create_change, delete_change, is_checked, is_owner_seen, node_after, node_now, node_with, one_child_less, one_child_more, owned_after, owned_with, owner_of, set_change, set_once, with_change}
+use Rattle.zn_view.specs.Leaving.{are_seen, counts_after, counts_with, create_change, delete_change, is_checked, is_owner_seen, node_after, node_now, node_with, owner_of, room_after, room_with, set_change, set_once, with_change}
 use Rattle.zn_view.specs.Seen.{View, seen}
 use Rattle.zn_view.specs.Views.{counts_of_parent}
 use Rattle.zn_multi.specs.Reading.{Left}
@@ -93,30 +94,47 @@ owned_gone t k v id there = num_owned (remove t k) id ∙ ap len (owned_by-gone 
     by_owner true e = len-remove_there (owned_by t id) k v (at_k true e) ∙ ap (λ n. n - 1) (sym (num_owned t id))
     by_owner false e = ap len (remove-absent (owned_by t id) k (at_k false e)) ∙ sym (num_owned t id)
 
+-- a session that owns a node owns one at least
+owned_some : (t : Tree) (k : Bytes) (v : Node) (id : ℤ) → get t k ≡ Some v → int_eq v.owner id ≡ true → 1 ≤ length (owned t id)
+owned_some t k v id there mine = subst (λ n. 1 ≤ n) (sym same) (omega arith)
+  where
+    put_back : insert (remove t k) k v ≡ t
+    put_back = ext (insert (remove t k) k v) t (λ r. ⊎_elim
+        (λ (e : r ≡ k). subst (λ (x : Bytes). get (insert (remove t k) k v) x ≡ get t x) (sym e) (get-insert_same (remove t k) k v ∙ sym there))
+        (λ (n : r ≢ k). get-insert_other (remove t k) k r v n ∙ get-remove_other t k r n)
+        (either r k))
+
+    same : length (owned t id) ≡ length (owned (remove t k) id) + 1
+    same = ap (λ (u : Tree). length (owned u id)) (sym put_back) ∙ num_owned-new (remove t k) k v id (get-remove_same t k) mine
+
 pos_more : (n : ℕ) → pos n +ℤ pos 1 ≡ pos (n + 1)
 pos_more n = omega (arith, ints)
 
-module _ (first : Tree) (Known : ℤ → Type 0) (id : ℤ) where
+module _ (first : Tree) (Known : ℤ → Type 0) (limit : ℕ) (id : ℤ) where
   abbrev pub IsOwned : Bytes → Node → Type 0
   IsOwned p n = (n.owner ≡ pos 0 → ⊥) → ((o : Node) × (get first p ≡ Some o) × (o.owner ≡ n.owner)) ⊎ Known n.owner
+
+  -- how many nodes more the session may own
+  abbrev pub room_of : Tree → ℕ
+  room_of t = limit - length (owned t id)
 
   -- These changes lead from the first tree to this one. A node's owner owned it in the first tree, or is known.
   pub record Walks (changes : List TreeChange) (t : Tree) : Type 0 where
     pub nodes : (p : Bytes) → node_after changes p (Some (now_of (get first p))) ≡ Some (now_of (get t p))
     pub counts : (p : Bytes) → counts_after changes p (Some (counts_of first p)) ≡ Some (counts_of t p)
-    pub number : owned_after changes id (length (owned first id)) ≡ length (owned t id)
+    pub room : room_after changes id (room_of first) ≡ room_of t
     pub owned : Each IsOwned t
 
   pub walks_start : Walks [] first
-  walks_start = record { nodes = λ p. refl; counts = λ p. refl; number = refl; owned = λ p n is owns. inl (n, is, refl) }
+  walks_start = record { nodes = λ p. refl; counts = λ p. refl; room = refl; owned = λ p n is owns. inl (n, is, refl) }
 
   walks_on : (changes : List TreeChange) (t u : Tree) (c : TreeChange) → Walks changes t
-      → ((p : Bytes) → node_with p (Some (now_of (get t p))) c ≡ Some (now_of (get u p))) → ((p : Bytes) → counts_with p (Some (counts_of t p)) c ≡ Some (counts_of u p)) → owned_with id (length (owned t id)) c ≡ length (owned u id) → Each IsOwned u
+      → ((p : Bytes) → node_with p (Some (now_of (get t p))) c ≡ Some (now_of (get u p))) → ((p : Bytes) → counts_with p (Some (counts_of t p)) c ≡ Some (counts_of u p)) → room_with id (room_of t) c ≡ room_of u → Each IsOwned u
       → Walks (changes ++ c ∷ []) u
-  walks_on changes t u c w nodes counts number owners = record {
+  walks_on changes t u c w nodes counts room owners = record {
     nodes = λ p. after_one (node_with p) (Some (now_of (get first p))) changes c ∙ ap (λ (n : Option (Option NodeNow)). node_with p n c) (w.nodes p) ∙ nodes p;
     counts = λ p. after_one (counts_with p) (Some (counts_of first p)) changes c ∙ ap (λ (n : Option (Option CountRec)). counts_with p n c) (w.counts p) ∙ counts p;
-    number = after_one (owned_with id) (length (owned first id)) changes c ∙ ap (λ (n : ℕ). owned_with id n c) w.number ∙ number;
+    room = after_one (room_with id) (room_of first) changes c ∙ ap (λ (n : ℕ). room_with id n c) w.room ∙ room;
     owned = owners;
   }
 
@@ -146,15 +164,15 @@ module _ (first : Tree) (Known : ℤ → Type 0) (id : ℤ) where
     new_counts : (r : Bytes) → counts_with r (Some (counts_of t r)) (Created p owner) ≡ Some (counts_of grown r)
     new_counts r = ⊎_elim
         (λ (e : r ≡ p). subst (λ (x : Bytes). counts_with x (Some (counts_of t x)) (Created p owner) ≡ Some (counts_of grown x)) (sym e)
-        (ap (λ b. if b then Some (Some first_counts) else (if is_child p p then Some (option_map one_child_more (counts_of t p)) else Some (counts_of t p))) (same-refl p)
+        (ap (λ b. if b then Some (Some first_counts) else (if is_child p p then Some (option_map one_more (counts_of t p)) else Some (counts_of t p))) (same-refl p)
         ∙ ap Some (sym (counts_are grown p (Some node) 0 (create_new t p q up (with_child up z) node below there none) (create_count_other t p q up (with_child up z) node below there none p p_not_q ∙ orphan)))))
-        (λ (np : r ≢ p). ap (λ b. if b then Some (Some first_counts) else (if is_child r p then Some (option_map one_child_more (counts_of t r)) else Some (counts_of t r))) (same-false p r (λ e. np (sym e))) ∙ ⊎_elim
-        (λ (e : r ≡ q). subst (λ (x : Bytes). (if is_child x p then Some (option_map one_child_more (counts_of t x)) else Some (counts_of t x)) ≡ Some (counts_of grown x)) (sym e)
-        (ap (λ b. if b then Some (option_map one_child_more (counts_of t q)) else Some (counts_of t q)) (is_child-yes p q below)
-        ∙ ap (λ (o : Option CountRec). Some (option_map one_child_more o)) (counts_are t q (Some up) (num_children t q) there refl)
+        (λ (np : r ≢ p). ap (λ b. if b then Some (Some first_counts) else (if is_child r p then Some (option_map one_more (counts_of t r)) else Some (counts_of t r))) (same-false p r (λ e. np (sym e))) ∙ ⊎_elim
+        (λ (e : r ≡ q). subst (λ (x : Bytes). (if is_child x p then Some (option_map one_more (counts_of t x)) else Some (counts_of t x)) ≡ Some (counts_of grown x)) (sym e)
+        (ap (λ b. if b then Some (option_map one_more (counts_of t q)) else Some (counts_of t q)) (is_child-yes p q below)
+        ∙ ap (λ (o : Option CountRec). Some (option_map one_more o)) (counts_are t q (Some up) (num_children t q) there refl)
         ∙ ap (λ (c : ℤ). Some (Some (counted (up.creates +ℤ pos 1) c))) (pos_more (num_children t q))
         ∙ ap Some (sym (counts_are grown q (Some (with_child up z)) (num_children t q + 1) (create_parent t p q up (with_child up z) node below there none) (create_count_parent t p q up (with_child up z) node below there none)))))
-        (λ (nq : r ≢ q). ap (λ b. if b then Some (option_map one_child_more (counts_of t r)) else Some (counts_of t r)) (is_child-no p r q below (λ e. nq (sym e)))
+        (λ (nq : r ≢ q). ap (λ b. if b then Some (option_map one_more (counts_of t r)) else Some (counts_of t r)) (is_child-no p r q below (λ e. nq (sym e)))
         ∙ ap Some (counts_same t grown r (create_other t p q up (with_child up z) node below there none r np nq) (create_count_other t p q up (with_child up z) node below there none r nq)))
         (either r q))
         (either r p)
@@ -162,20 +180,23 @@ module _ (first : Tree) (Known : ℤ → Type 0) (id : ℤ) where
     still_none : get (insert t q (with_child up z)) p ≡ None
     still_none = get-insert_other t q p (with_child up z) p_not_q ∙ none
 
-    new_number : owned_with id (length (owned t id)) (Created p owner) ≡ length (owned grown id)
-    new_number = by_owner (int_eq owner id) refl
+    new_room : room_with id (room_of t) (Created p owner) ≡ room_of grown
+    new_room = by_owner (int_eq owner id) refl
       where
-        by_owner : (b : Bool) → int_eq owner id ≡ b → (if b then length (owned t id) + 1 else length (owned t id)) ≡ length (owned grown id)
-        by_owner true e = ap (λ n. n + 1) (sym (num_owned-change t q (with_child up z) up id there refl)) ∙ sym (num_owned-new (insert t q (with_child up z)) p node id still_none e)
-        by_owner false e = sym (num_owned-change t q (with_child up z) up id there refl) ∙ sym (num_owned-new_other (insert t q (with_child up z)) p node id still_none e)
+        more : (n m : ℕ) → m ≡ n + 1 → (limit - n) - 1 ≡ limit - m
+        more n m e = omega (arith, e)
+
+        by_owner : (b : Bool) → int_eq owner id ≡ b → (if b then room_of t - 1 else room_of t) ≡ room_of grown
+        by_owner true e = more (length (owned t id)) (length (owned grown id)) (num_owned-new (insert t q (with_child up z)) p node id still_none e ∙ ap (λ n. n + 1) (num_owned-change t q (with_child up z) up id there refl))
+        by_owner false e = ap (λ n. limit - n) (sym (num_owned-new_other (insert t q (with_child up z)) p node id still_none e ∙ num_owned-change t q (with_child up z) up id there refl))
 
     pub walks_created : Walks (changes ++ Created p owner ∷ []) grown
-    walks_created = walks_on changes t grown (Created p owner) w new_nodes new_counts new_number
+    walks_created = walks_on changes t grown (Created p owner) w new_nodes new_counts new_room
         (each-put IsOwned (insert t q (with_child up z)) p node (each-put IsOwned t q (with_child up z) w.owned (w.owned q up there)) (λ owns. inr (known owns)))
 
   -- ---- a delete of p below q
 
-  module _ (changes : List TreeChange) (t : Tree) (w : Walks changes t) (p q : Bytes) (up node : Node) (z : ℤ) (below : parent p ≡ Some q) (there : get t q ≡ Some up) (here : get t p ≡ Some node) where
+  module _ (changes : List TreeChange) (t : Tree) (w : Walks changes t) (p q : Bytes) (up node : Node) (z : ℤ) (below : parent p ≡ Some q) (there : get t q ≡ Some up) (here : get t p ≡ Some node) (few : length (owned t id) ≤ limit) where
     abbrev less : Tree
     less = delete_tree t q (without_child up z) p
 
@@ -192,14 +213,14 @@ module _ (first : Tree) (Known : ℤ → Type 0) (id : ℤ) where
     gone_counts : (r : Bytes) → counts_with r (Some (counts_of t r)) (Deleted p node.owner) ≡ Some (counts_of less r)
     gone_counts r = ⊎_elim
         (λ (e : r ≡ p). subst (λ (x : Bytes). counts_with x (Some (counts_of t x)) (Deleted p node.owner) ≡ Some (counts_of less x)) (sym e)
-        (ap (λ b. if b then Some None else (if is_child p p then Some (option_map one_child_less (counts_of t p)) else Some (counts_of t p))) (same-refl p)
+        (ap (λ b. if b then Some None else (if is_child p p then Some (option_map one_less (counts_of t p)) else Some (counts_of t p))) (same-refl p)
         ∙ ap Some (sym (counts_are less p None (num_children less p) (delete_gone t p q up (without_child up z) node below there here) refl))))
-        (λ (np : r ≢ p). ap (λ b. if b then Some None else (if is_child r p then Some (option_map one_child_less (counts_of t r)) else Some (counts_of t r))) (same-false p r (λ e. np (sym e))) ∙ ⊎_elim
-        (λ (e : r ≡ q). subst (λ (x : Bytes). (if is_child x p then Some (option_map one_child_less (counts_of t x)) else Some (counts_of t x)) ≡ Some (counts_of less x)) (sym e)
-        (ap (λ b. if b then Some (option_map one_child_less (counts_of t q)) else Some (counts_of t q)) (is_child-yes p q below)
-        ∙ ap (λ (o : Option CountRec). Some (option_map one_child_less o)) (counts_are t q (Some up) (num_children t q) there refl)
+        (λ (np : r ≢ p). ap (λ b. if b then Some None else (if is_child r p then Some (option_map one_less (counts_of t r)) else Some (counts_of t r))) (same-false p r (λ e. np (sym e))) ∙ ⊎_elim
+        (λ (e : r ≡ q). subst (λ (x : Bytes). (if is_child x p then Some (option_map one_less (counts_of t x)) else Some (counts_of t x)) ≡ Some (counts_of less x)) (sym e)
+        (ap (λ b. if b then Some (option_map one_less (counts_of t q)) else Some (counts_of t q)) (is_child-yes p q below)
+        ∙ ap (λ (o : Option CountRec). Some (option_map one_less o)) (counts_are t q (Some up) (num_children t q) there refl)
         ∙ ap Some (sym (counts_are less q (Some (without_child up z)) (num_children t q - 1) (delete_parent t p q up (without_child up z) node below there here) (delete_count_parent t p q up (without_child up z) node below there here)))))
-        (λ (nq : r ≢ q). ap (λ b. if b then Some (option_map one_child_less (counts_of t r)) else Some (counts_of t r)) (is_child-no p r q below (λ e. nq (sym e)))
+        (λ (nq : r ≢ q). ap (λ b. if b then Some (option_map one_less (counts_of t r)) else Some (counts_of t r)) (is_child-no p r q below (λ e. nq (sym e)))
         ∙ ap Some (counts_same t less r (delete_other t p q up (without_child up z) node below there here r np nq) (delete_count_other t p q up (without_child up z) node below there here r nq)))
         (either r q))
         (either r p)
@@ -207,11 +228,21 @@ module _ (first : Tree) (Known : ℤ → Type 0) (id : ℤ) where
     still_there : get (remove t p) q ≡ Some up
     still_there = get-remove_other t p q (λ e. apart_from_parent p q below (sym e)) ∙ there
 
-    gone_number : owned_with id (length (owned t id)) (Deleted p node.owner) ≡ length (owned less id)
-    gone_number = sym (num_owned-change (remove t p) q (without_child up z) up id still_there refl ∙ owned_gone t p node id here)
+    gone_room : room_with id (room_of t) (Deleted p node.owner) ≡ room_of less
+    gone_room = by_owner (int_eq node.owner id) refl
+      where
+        left : length (owned less id) ≡ (if int_eq node.owner id then length (owned t id) - 1 else length (owned t id))
+        left = num_owned-change (remove t p) q (without_child up z) up id still_there refl ∙ owned_gone t p node id here
+
+        fewer : (n m : ℕ) → m ≡ n - 1 → 1 ≤ n → n ≤ limit → (limit - n) + 1 ≡ limit - m
+        fewer n m e some most = omega (arith, e, some, most)
+
+        by_owner : (b : Bool) → int_eq node.owner id ≡ b → (if b then room_of t + 1 else room_of t) ≡ room_of less
+        by_owner true e = fewer (length (owned t id)) (length (owned less id)) (left ∙ ap (λ b. if b then length (owned t id) - 1 else length (owned t id)) e) (owned_some t p node id here e) few
+        by_owner false e = ap (λ n. limit - n) (sym (left ∙ ap (λ b. if b then length (owned t id) - 1 else length (owned t id)) e))
 
     pub walks_deleted : Walks (changes ++ Deleted p node.owner ∷ []) less
-    walks_deleted = walks_on changes t less (Deleted p node.owner) w gone_nodes gone_counts gone_number
+    walks_deleted = walks_on changes t less (Deleted p node.owner) w gone_nodes gone_counts gone_room
         (each-put IsOwned (remove t p) q (without_child up z) (each-gone IsOwned t p w.owned) (w.owned q up there))
 
   -- ---- a setData
@@ -251,22 +282,22 @@ module _ (first : Tree) (Known : ℤ → Type 0) (id : ℤ) where
   -- what a part leaves, by what is there in the tree
   abbrev pub Finds : View → List TreeChange → Tree → Left → Part → Type 0
   Finds v changes t next (Create path content acl flags) = (is_ephemeral flags ≡ true → Known id)
-      × ((q : Bytes) → parent (named flags path) ≡ Some q → (up : Node) → get t q ≡ Some up → next ≡ with_change changes (create_change (made_path flags path up) (owner_of (is_ephemeral flags) id) (Some (now_of (get t q))) (Some (counts_of t q)) (Some (now_of (get t (made_path flags path up)))) (Some (if is_ephemeral flags then length (owned t id) else 0))))
+      × ((q : Bytes) → parent (named flags path) ≡ Some q → (up : Node) → get t q ≡ Some up → next ≡ with_change changes (create_change (made_path flags path up) (owner_of (is_ephemeral flags) id) (Some (now_of (get t q))) (Some (counts_of t q)) (Some (now_of (get t (made_path flags path up)))) (Some (if is_ephemeral flags then room_of t else 1))))
   Finds v changes t next (Delete path version) = (path ≢ root) × ((n : Node) → get t path ≡ Some n → (are_seen v (counts_of_parent (parent path)) && is_owner_seen v n.owner) ≡ true)
       × (next ≡ with_change changes (delete_change v path version (Some (now_of (get t path))) (Some (counts_of t path))))
   Finds v changes t next (SetData path content version) = (is_some (seen v (key_bytes (CountsKey path))) ≡ true) × (next ≡ with_change changes (set_change v path version (Some (now_of (get t path)))))
   Finds v changes t next (Check path version) = next ≡ (if is_checked version (Some (now_of (get t path))) then Some changes else None)
 
-  module _ (v : View) (changes : List TreeChange) (t : Tree) (w : Walks changes t) (parents : AreParented t) (z : ℤ) (now : ℕ) (next : Left) where
+  module _ (v : View) (changes : List TreeChange) (t : Tree) (w : Walks changes t) (parents : AreParented t) (few : length (owned t id) ≤ limit) (z : ℤ) (now : ℕ) (next : Left) where
     module _ (flags : ℤ) (content path : Bytes) (mine : is_ephemeral flags ≡ true → Known id) where
       abbrev owner : ℤ
       owner = owner_of (is_ephemeral flags) id
 
-      abbrev owned_number : ℕ
-      owned_number = if is_ephemeral flags then length (owned t id) else 0
+      abbrev room_for : ℕ
+      room_for = if is_ephemeral flags then room_of t else 1
 
       abbrev change_for : Bytes → Node → Bytes → Option TreeChange
-      change_for q up p = create_change p owner (Some (now_of (get t q))) (Some (counts_of t q)) (Some (now_of (get t p))) (Some owned_number)
+      change_for q up p = create_change p owner (Some (now_of (get t q))) (Some (counts_of t q)) (Some (now_of (get t p))) (Some room_for)
 
       owner_known : (owner ≡ pos 0 → ⊥) → Known owner
       owner_known = by_mode (is_ephemeral flags) mine
@@ -276,7 +307,7 @@ module _ (first : Tree) (Known : ℤ → Type 0) (id : ℤ) where
           by_mode false h owns = absurd (owns refl)
 
       -- where the session may own one node more
-      room : (b : Bool) (n : ℕ) → (b && nat_le max_owned n) ≡ false → nat_lt (if b then n else 0) max_owned ≡ true
+      room : (b : Bool) (n : ℕ) → (b && nat_le limit n) ≡ false → nat_lt 0 (if b then limit - n else 1) ≡ true
       room true n e = grind (arith, nat_tests)
       room false n e = refl
 
@@ -284,28 +315,28 @@ module _ (first : Tree) (Known : ℤ → Type 0) (id : ℤ) where
       apart true b e = absurd (true≢false e)
       apart false b e = (refl, e)
 
-      passes : (q : Bytes) (up : Node) (p : Bytes) → get t q ≡ Some up → get t p ≡ None → not (int_eq up.owner (pos 0)) ≡ false → is_full t max_owned id flags up ≡ false → change_for q up p ≡ Some (Created p owner)
+      passes : (q : Bytes) (up : Node) (p : Bytes) → get t q ≡ Some up → get t p ≡ None → not (int_eq up.owner (pos 0)) ≡ false → is_full t limit id flags up ≡ false → change_for q up p ≡ Some (Created p owner)
       passes q up p there none plain full =
-          let both = apart (int_eq up.creates max_creates) (is_ephemeral flags && nat_le max_owned (length (owned t id))) full in
-          (λ i. create_change p owner (Some (now_of (there i))) (Some (counts_at (there i) (num_children t q))) (Some (now_of (none i))) (Some owned_number))
+          let both = apart (int_eq up.creates max_creates) (is_ephemeral flags && nat_le limit (length (owned t id))) full in
+          (λ i. create_change p owner (Some (now_of (there i))) (Some (counts_at (there i) (num_children t q))) (Some (now_of (none i))) (Some room_for))
           ∙ ap (λ b. if b then Some (Created p owner) else None) (and_from _ _ (not_false _ plain) (and_from _ _ both.0 (room (is_ephemeral flags) (length (owned t id)) both.1)))
 
       node_goes : (q : Bytes) (up : Node) (o : Option Node) → parent (named flags path) ≡ Some q → get t q ≡ Some up → get t (made_path flags path up) ≡ o → next ≡ with_change changes (change_for q up (made_path flags path up))
-          → Leads (Goes next) (create_node t max_owned id flags content z now q up (made_path flags path up) o)
+          → Leads (Goes next) (create_node t limit id flags content z now q up (made_path flags path up) o)
       node_goes q up (Some old) below there at is = tt
       node_goes q up None below there none is =
           tested (Goes next) (not (int_eq up.owner (pos 0))) _ _ (λ plain.
-          tested (Goes next) (is_full t max_owned id flags up) _ _ (λ full. record {
+          tested (Goes next) (is_full t limit id flags up) _ _ (λ full. record {
             changes = changes ++ Created (made_path flags path up) owner ∷ [];
             is = is ∙ ap (with_change changes) (passes q up (made_path flags path up) there none plain full);
             walks = walks_created changes t w (made_path flags path up) q up content owner z now (made_below flags path q up below) there none (no_children-absent t (made_path flags path up) parents none) owner_known;
           }))
 
-      under_goes : (q : Bytes) (o : Option Node) → parent (named flags path) ≡ Some q → get t q ≡ o → ((up : Node) → get t q ≡ Some up → next ≡ with_change changes (change_for q up (made_path flags path up))) → Leads (Goes next) (create_under t max_owned id flags content z now path q o)
+      under_goes : (q : Bytes) (o : Option Node) → parent (named flags path) ≡ Some q → get t q ≡ o → ((up : Node) → get t q ≡ Some up → next ≡ with_change changes (change_for q up (made_path flags path up))) → Leads (Goes next) (create_under t limit id flags content z now path q o)
       under_goes q None below is found = tt
       under_goes q (Some up) below is found = node_goes q up (get t (made_path flags path up)) below is refl (found up is)
 
-      create_goes : (o : Option Bytes) → parent (named flags path) ≡ o → ((q : Bytes) → parent (named flags path) ≡ Some q → (up : Node) → get t q ≡ Some up → next ≡ with_change changes (change_for q up (made_path flags path up))) → Leads (Goes next) (create_at t max_owned id flags content z now path o)
+      create_goes : (o : Option Bytes) → parent (named flags path) ≡ o → ((q : Bytes) → parent (named flags path) ≡ Some q → (up : Node) → get t q ≡ Some up → next ≡ with_change changes (change_for q up (made_path flags path up))) → Leads (Goes next) (create_at t limit id flags content z now path o)
       create_goes None is found = tt
       create_goes (Some q) is found = under_goes q (get t q) is refl (found q is)
 
@@ -319,7 +350,7 @@ module _ (first : Tree) (Known : ℤ → Type 0) (id : ℤ) where
         let up = parents p node here inner in
         let there : at_parent t (parent p) ≡ Some up.has.node = ap (at_parent t) up.is ∙ up.has.there in
         subst (λ (x : Option Bytes × Option Node). Goes next (removed_under t p z x.0 x.1)) (λ i. (sym up.is i, sym there i))
-        (record { changes = changes ++ Deleted p node.owner ∷ []; is = is; walks = walks_deleted changes t w p up.path up.has.node node z up.is up.has.there here })
+        (record { changes = changes ++ Deleted p node.owner ∷ []; is = is; walks = walks_deleted changes t w p up.path up.has.node node z up.is up.has.there here few })
 
     delete_goes : (p : Bytes) (version : ℤ) (o : Option Node) → get t p ≡ o → p ≢ root → ((n : Node) → get t p ≡ Some n → (are_seen v (counts_of_parent (parent p)) && is_owner_seen v n.owner) ≡ true)
         → next ≡ with_change changes (delete_change v p version (Some (now_of (get t p))) (Some (counts_of t p))) → Leads (Goes next) (delete t p version z o)
@@ -350,13 +381,13 @@ module _ (first : Tree) (Known : ℤ → Type 0) (id : ℤ) where
       walks = w;
     })
 
-    effect_goes : (p : Part) → Finds v changes t next p → Leads (Goes next) (effect t max_owned id p z now)
+    effect_goes : (p : Part) → Finds v changes t next p → Leads (Goes next) (effect t limit id p z now)
     unfolding effect
     effect_goes (Create path content acl flags) (mine, found) = create_goes flags content path mine (parent (named flags path)) refl found
     effect_goes (Delete path version) (inner, all, is) = delete_goes path version (get t path) refl inner all is
     effect_goes (SetData path content version) (looked, is) = set_goes path content version (get t path) refl looked is
     effect_goes (Check path version) is = check_goes path version (get t path) refl is
 
-    pub single_goes : (p : Part) → (form_refusal p ≡ None → Finds v changes t next p) → Leads (Goes next) (single t max_owned id p z now)
+    pub single_goes : (p : Part) → (form_refusal p ≡ None → Finds v changes t next p) → Leads (Goes next) (single t limit id p z now)
     unfolding single
-    single_goes p finds = leads_of (Goes next) (form_refusal p) (effect t max_owned id p z now) (λ form. effect_goes p (finds form))
+    single_goes p finds = leads_of (Goes next) (form_refusal p) (effect t limit id p z now) (λ form. effect_goes p (finds form))
