@@ -7,10 +7,11 @@ use Rattle.zk_model.specs.Paths.{is_child}
 use Rattle.zx_base.specs.Maps.{Bytes, same}
 use Rattle.zn_layout.specs.declared.record.CountRec.{CountRec}
 use Rattle.zn_layout.specs.Begin.{first_counts}
+use Rattle.zn_layout.specs.Counts.{one_less, one_more}
 use Rattle.zn_view.specs.declared.leaving.NodeNow.{NodeNow}
 use Rattle.zn_view.specs.declared.leaving.TreeChange.{TreeChange}
 use Rattle.zn_view.specs.declared.leaving.TreeChange.TheVariants.{Created, Deleted, DataSet}
-use Rattle.zn_view.specs.Leaving.{counts_with, node_now, node_with, one_child_less, one_child_more, owned_with, set_once}
+use Rattle.zn_view.specs.Leaving.{counts_with, node_now, node_with, room_with, set_once}
 
 -- ---- a node's version
 
@@ -59,12 +60,12 @@ counts_wider k None h = tt
 counts_wider k (Some None) h = tt
 counts_wider k (Some (Some c)) h = let a = h.creates in let b = h.children in record { creates = omega (arith, ints, a); children = omega (arith, ints, b); least = h.least }
 
-more_within : (k : ℕ) (c : Option (Option CountRec)) → AreCountsWithin k c → AreCountsWithin (k + 1) (option_map (option_map one_child_more) c)
+more_within : (k : ℕ) (c : Option (Option CountRec)) → AreCountsWithin k c → AreCountsWithin (k + 1) (option_map (option_map one_more) c)
 more_within k None h = tt
 more_within k (Some None) h = tt
 more_within k (Some (Some c)) h = let a = h.creates in let b = h.children in let d = h.least in record { creates = omega (arith, ints, a); children = omega (arith, ints, b); least = omega (arith, ints, d) }
 
-less_within : (k : ℕ) (c : Option (Option CountRec)) → AreCountsWithin k c → AreCountsWithin (k + 1) (option_map (option_map one_child_less) c)
+less_within : (k : ℕ) (c : Option (Option CountRec)) → AreCountsWithin k c → AreCountsWithin (k + 1) (option_map (option_map one_less) c)
 less_within k None h = tt
 less_within k (Some None) h = tt
 less_within k (Some (Some c)) h = let a = h.creates in let b = h.children in let d = h.least in record { creates = omega (arith, ints, a); children = omega (arith, ints, b, d); least = omega (arith, ints) }
@@ -72,29 +73,29 @@ less_within k (Some (Some c)) h = let a = h.creates in let b = h.children in let
 pub counts_within : (p : Bytes) (c : Option (Option CountRec)) (e : TreeChange) (k : ℕ) → AreCountsWithin k c → AreCountsWithin (k + 1) (counts_with p c e)
 counts_within p c (Created q owner) k h = at (same q p) (is_child p q)
   where
-    at : (a b : Bool) → AreCountsWithin (k + 1) (if a then Some (Some first_counts) else (if b then option_map (option_map one_child_more) c else c))
+    at : (a b : Bool) → AreCountsWithin (k + 1) (if a then Some (Some first_counts) else (if b then option_map (option_map one_more) c else c))
     at true b = record { creates = omega (arith, ints); children = omega (arith, ints); least = omega (arith, ints) }
     at false true = more_within k c h
     at false false = counts_wider k c h
 counts_within p c (Deleted q owner) k h = at (same q p) (is_child p q)
   where
-    at : (a b : Bool) → AreCountsWithin (k + 1) (if a then Some None else (if b then option_map (option_map one_child_less) c else c))
+    at : (a b : Bool) → AreCountsWithin (k + 1) (if a then Some None else (if b then option_map (option_map one_less) c else c))
     at true b = tt
     at false true = less_within k c h
     at false false = counts_wider k c h
 counts_within p c (DataSet q) k h = counts_wider k c h
 
--- ---- the nodes that a session owns
+-- ---- how many nodes more a session may own
 
-pub owned_within : (id : ℤ) (n : ℕ) (c : TreeChange) (k : ℕ) → n ≤ k → owned_with id n c ≤ k + 1
-owned_within id n (Created q owner) k h = at (int_eq owner id)
-  where
-    at : (b : Bool) → (if b then n + 1 else n) ≤ k + 1
-    at true = omega (arith, h)
-    at false = omega (arith, h)
-owned_within id n (Deleted q owner) k h = at (int_eq owner id)
+pub room_within : (id : ℤ) (n : ℕ) (c : TreeChange) (k : ℕ) → n ≤ k → room_with id n c ≤ k + 1
+room_within id n (Created q owner) k h = at (int_eq owner id)
   where
     at : (b : Bool) → (if b then n - 1 else n) ≤ k + 1
     at true = omega (arith, h)
     at false = omega (arith, h)
-owned_within id n (DataSet q) k h = omega (arith, h)
+room_within id n (Deleted q owner) k h = at (int_eq owner id)
+  where
+    at : (b : Bool) → (if b then n + 1 else n) ≤ k + 1
+    at true = omega (arith, h)
+    at false = omega (arith, h)
+room_within id n (DataSet q) k h = omega (arith, h)

@@ -8,11 +8,11 @@ use Rattle.ev_types.specs.declared.answer.Kv.{Kv}
 use Rattle.zk_model.specs.declared.node.Trigger.{Trigger}
 use Rattle.zk_model.specs.declared.reply.PartResult.{PartResult}
 use Rattle.zk_model.specs.declared.request.Part.{Part}
-use Rattle.zk_model.specs.Limits.{max_owned}
 use Rattle.zk_model.specs.Multi.{Parts, Stopped as StoppedAt, Passed as PassedAll, parts_of, then_parts, touched_by}
 use Rattle.zk_model.specs.Single.{Outcome, Refused, Done, single}
 use Rattle.zk_model.specs.Znodes.{Tree}
-use Rattle.zk_service.specs.States.{State, Session, IsSound, IsSoundTree, session_at}
+use Rattle.zk_service.specs.Answers.{owned_limit_in}
+use Rattle.zk_service.specs.States.{State, Session, IsSound, IsSoundTree, limit_of, session_at}
 use Rattle.zk_service.proofs.SoundEffects.{IsSmallPart, Leads, single-sound}
 use Rattle.zn_layout.specs.Changes.{KeyChange, Put, acts_of, are_distinct, last}
 use Rattle.zn_layout.specs.Fits.{ChangesFit, KeyFits}
@@ -22,6 +22,7 @@ use Rattle.zn_layout.proofs.Fits.{fits_append, fits_same}
 use Rattle.zn_view.specs.declared.plan.Who.{Who}
 use Rattle.zn_view.specs.Needs.{own_result}
 use Rattle.zn_view.specs.Seen.{View, seen}
+use Rattle.zn_view.specs.Views.{limit_at}
 use Rattle.zn_updates.specs.Choices.{Choice, Make}
 use Rattle.zn_updates.specs.Layers.{IsPutBelow, Shows, layered, stored_own}
 use Rattle.zn_updates.specs.Right.{IsOutcome, IsRight, with_tree}
@@ -90,21 +91,21 @@ owner_shown z None (Some n) shown = absurd shown
 owner_shown z (Some x) None shown = absurd shown
 owner_shown z (Some x) (Some n) shown = owner_listed x.owner ∙ ap (λ (o : ℤ). cond (int_eq o (pos 0)) [] (o ∷ [])) (ap (λ (w : SeenData). w.owner) shown.is)
 
-pub not_done : (t : Tree) (id z : ℤ) (now : ℕ) (p : Part) (code : ℤ) (r : PartResult) (u : Tree) (g : List Trigger) → form_refusal p ≡ Some code → single t max_owned id p z now ≡ Done r u g → ⊥
+pub not_done : (t : Tree) (limit : ℕ) (id z : ℤ) (now : ℕ) (p : Part) (code : ℤ) (r : PartResult) (u : Tree) (g : List Trigger) → form_refusal p ≡ Some code → single t limit id p z now ≡ Done r u g → ⊥
 unfolding single
-not_done t id z now p code r u g refused done =
-    let bad : Refused code ≡ Done r u g = sym (ap (λ (o : Option ℤ). unless_refused o (effect t max_owned id p z now)) refused) ∙ done in cc
+not_done t limit id z now p code r u g refused done =
+    let bad : Refused code ≡ Done r u g = sym (ap (λ (o : Option ℤ). unless_refused o (effect t limit id p z now)) refused) ∙ done in cc
 
-touched_is : (v near : View) → IsNarrower near v → (s : State) (id z : ℤ) (now : ℕ) (p : Part) (owner : Option ℤ) (r : PartResult) (u : Tree) (g : List Trigger) → Shows z near s → IsPartSeen id near p → IsTouched v id p owner → single s.tree max_owned id p z now ≡ Done r u g
+touched_is : (v near : View) → IsNarrower near v → (s : State) (limit : ℕ) (id z : ℤ) (now : ℕ) (p : Part) (owner : Option ℤ) (r : PartResult) (u : Tree) (g : List Trigger) → Shows z near s → IsPartSeen id near p → IsTouched v id p owner → single s.tree limit id p z now ≡ Done r u g
     → option_to_list owner ≡ touched_by s.tree id p
-touched_is v near narrow s id z now (part.Create path d a f) owner r u g shown saw is done = ap option_to_list is ∙ list_if (is_ephemeral f) id
-touched_is v near narrow s id z now (part.Delete path x) owner r u g shown saw (None, inner, is) done = absurd (not_done s.tree id z now (part.Delete path x) bad_arguments r u g (delete_refusal path x false inner) done)
-touched_is v near narrow s id z now (part.Delete path x) owner r u g shown saw (Some p, inner, (w, data_is, is)) done =
+touched_is v near narrow s limit id z now (part.Create path d a f) owner r u g shown saw is done = ap option_to_list is ∙ list_if (is_ephemeral f) id
+touched_is v near narrow s limit id z now (part.Delete path x) owner r u g shown saw (None, inner, is) done = absurd (not_done s.tree limit id z now (part.Delete path x) bad_arguments r u g (delete_refusal path x false inner) done)
+touched_is v near narrow s limit id z now (part.Delete path x) owner r u g shown saw (Some p, inner, (w, data_is, is)) done =
     let here : HasSeen near (DataKey path) = (saw (delete_refusal path x true inner.1)).node in
     let seen_data : IsDataSeen (sees near (DataKey path)) w = near_is near v narrow (λ (o : Option (Option Kv)). IsDataSeen o w) (DataKey path) here (subst (λ (q : Bytes). IfData v q w) inner.0 data_is) in
     ap option_to_list is ∙ owner_shown z w (get s.tree path) (data-shown z near s shown path w seen_data)
-touched_is v near narrow s id z now (part.SetData path d x) owner r u g shown saw is done = ap option_to_list is
-touched_is v near narrow s id z now (part.Check path x) owner r u g shown saw is done = ap option_to_list is
+touched_is v near narrow s limit id z now (part.SetData path d x) owner r u g shown saw is done = ap option_to_list is
+touched_is v near narrow s limit id z now (part.Check path x) owner r u g shown saw is done = ap option_to_list is
 
 -- ---- one part more
 
@@ -122,45 +123,56 @@ refuse_is : (c : Choice) (code : ℤ) → chosen.Refused code ≡ chosen_of c �
 refuse_is (Refuse other) code e = let same : code ≡ other = cc in ap Refuse (sym same)
 refuse_is (Make cs ts draft) code e = absurd (cc)
 
-stopped_here : (t : Tree) (id z : ℤ) (now : ℕ) (p : Part) (ps : List Part) (code : ℤ) → single t max_owned id p z now ≡ Refused code → parts_of t max_owned id (p ∷ ps) z now ≡ StoppedAt 0 code
+stopped_here : (t : Tree) (limit : ℕ) (id z : ℤ) (now : ℕ) (p : Part) (ps : List Part) (code : ℤ) → single t limit id p z now ≡ Refused code → parts_of t limit id (p ∷ ps) z now ≡ StoppedAt 0 code
 unfolding parts_of
-stopped_here t id z now p ps code e =
-    ap (λ (o : Outcome). elim o as (λ x. Parts) [ Refused code ↦ StoppedAt 0 code | Done r u g ↦ then_parts r g (touched_by t id p) (parts_of u max_owned id ps z now) ]) e
+stopped_here t limit id z now p ps code e =
+    ap (λ (o : Outcome). elim o as (λ x. Parts) [ Refused code ↦ StoppedAt 0 code | Done r u g ↦ then_parts r g (touched_by t id p) (parts_of u limit id ps z now) ]) e
 
 module _ (who : Who) (now : ℕ) (time : now < 2 ^ 62) (v near : View) (narrow : IsNarrower near v) (parts : List Part) (s : State) (z : ℤ) (sound : IsSound s) (shown : Shows z near s) (x : Session) (opened : session_at who.session s ≡ Some x) where
+  -- how many nodes the session may own
+  abbrev pub limit : ℕ
+  limit = limit_at who.session s
+
+  pub limit_is : limit ≡ limit_of x
+  limit_is = ap owned_limit_in opened
+
   abbrev Here : List Part → Progress → Type 0
   Here rest old = LeadsTo who.session now v parts rest old s z
 
   pub over_shown : (rest : List Part) (old : Progress) (h : Here rest old) → Shows z (layered old.over near) (with_tree s h.tree)
   over_shown rest old h = subst (λ (o : View). Shows z (layered o near) (with_tree s h.tree)) (sym h.over) (shows-laid z near h.changes s (with_tree s h.tree) shown h.fits h.once)
 
+  -- a right choice of the session whose nodes are counted
+  by_session : (c : Choice) (rest : List Part) (old : Progress) (h : Here rest old) (p : Part) → IsRight z (with_tree s h.tree) c (single h.tree (limit_of x) who.session p z now) → IsRight z (with_tree s h.tree) c (single h.tree limit who.session p z now)
+  by_session c rest old h p right = subst (λ (n : ℕ). IsRight z (with_tree s h.tree) c (single h.tree n who.session p z now)) (sym limit_is) right
+
   module _ (p : Part) (ps : List Part) (old mid : Progress) (h : Here (p ∷ ps) old) (saw : IsPartSeen who.session (layered old.over near) p) (short : length (part_content p) ≤ max_frame) where
-    stops : (code : ℤ) → IsPartChoice p who now (layered old.over v) (chosen.Refused code) → parts_of s.tree max_owned who.session parts z now ≡ StoppedAt (length old.results) code
+    stops : (code : ℤ) → IsPartChoice p who now (layered old.over v) (chosen.Refused code) → parts_of s.tree limit who.session parts z now ≡ StoppedAt (length old.results) code
     stops code is =
-        let right = (is.chosen (layered old.over near) (layered_narrower old.over near v narrow) saw).right (with_tree s h.tree) z now time h.sound (over_shown (p ∷ ps) old h) x opened in
-        let refused : single h.tree max_owned who.session p z now ≡ Refused code = subst (λ (c : Choice). IsRight z (with_tree s h.tree) c (single h.tree max_owned who.session p z now)) (refuse_is (is.choice now) code is.is) right in
-        h.runs ∙ ap (with_first (map (own_result z) old.results) old.triggers old.touched) (stopped_here h.tree who.session z now p ps code refused)
+        let right = by_session (is.choice now) (p ∷ ps) old h p ((is.chosen (layered old.over near) (layered_narrower old.over near v narrow) saw).right (with_tree s h.tree) z now time h.sound (over_shown (p ∷ ps) old h) x opened) in
+        let refused : single h.tree limit who.session p z now ≡ Refused code = subst (λ (c : Choice). IsRight z (with_tree s h.tree) c (single h.tree limit who.session p z now)) (refuse_is (is.choice now) code is.is) right in
+        h.runs ∙ ap (with_first (map (own_result z) old.results) old.triggers old.touched) (stopped_here h.tree limit who.session z now p ps code refused)
         ∙ ap (λ (n : ℕ). StoppedAt n code) (let e = length-map old.results (own_result z) in omega (arith, e))
 
     module _ (is : IsStep p who now v old mid) where
-      pub outcome : IsOutcome z (with_tree s h.tree) is.changes is.told is.draft (single h.tree max_owned who.session p z now)
-      outcome = subst (λ (c : Choice). IsRight z (with_tree s h.tree) c (single h.tree max_owned who.session p z now)) is.is
-          ((is.chosen (layered old.over near) (layered_narrower old.over near v narrow) saw).right (with_tree s h.tree) z now time h.sound (over_shown (p ∷ ps) old h) x opened)
+      pub outcome : IsOutcome z (with_tree s h.tree) is.changes is.told is.draft (single h.tree limit who.session p z now)
+      outcome = subst (λ (c : Choice). IsRight z (with_tree s h.tree) c (single h.tree limit who.session p z now)) is.is
+          (by_session (is.choice now) (p ∷ ps) old h p ((is.chosen (layered old.over near) (layered_narrower old.over near v narrow) saw).right (with_tree s h.tree) z now time h.sound (over_shown (p ∷ ps) old h) x opened))
 
       pub results_are : map (own_result z) mid.results ≡ map (own_result z) old.results ++ own_result z is.draft ∷ []
       results_are = ap (map (own_result z)) is.results ∙ map-append (own_result z) old.results (is.draft ∷ [])
 
       pub touched_are : mid.touched ≡ old.touched ++ touched_by h.tree who.session p
-      touched_are = is.touched ∙ ap (λ (l : List ℤ). old.touched ++ l) (touched_is (layered old.over v) (layered old.over near) (layered_narrower old.over near v narrow) (with_tree s h.tree) who.session z now p is.owner _ _ _ (over_shown (p ∷ ps) old h) saw is.owner_is outcome.done)
+      touched_are = is.touched ∙ ap (λ (l : List ℤ). old.touched ++ l) (touched_is (layered old.over v) (layered old.over near) (layered_narrower old.over near v narrow) (with_tree s h.tree) limit who.session z now p is.owner _ _ _ (over_shown (p ∷ ps) old h) saw is.owner_is outcome.done)
 
       abbrev pub leads_on : Here ps mid
       leads_on = record {
         tree = outcome.tree;
         runs =
-            h.runs ∙ ap (with_first (map (own_result z) old.results) old.triggers old.touched) (parts_of-done h.tree outcome.tree max_owned who.session p ps z now (own_result z is.draft) is.told outcome.done)
-            ∙ with_first_next (map (own_result z) old.results) old.triggers old.touched (own_result z is.draft) is.told (touched_by h.tree who.session p) (parts_of outcome.tree max_owned who.session ps z now)
-            ∙ (λ i. with_first (sym results_are i) (sym is.triggers i) (sym touched_are i) (parts_of outcome.tree max_owned who.session ps z now));
-        sound = subst (Leads (IsSoundTree s.sessions)) outcome.done (single-sound s.sessions max_owned who.session z now (x, opened, refl) h.tree p h.sound (small_part p short));
+            h.runs ∙ ap (with_first (map (own_result z) old.results) old.triggers old.touched) (parts_of-done h.tree outcome.tree limit who.session p ps z now (own_result z is.draft) is.told outcome.done)
+            ∙ with_first_next (map (own_result z) old.results) old.triggers old.touched (own_result z is.draft) is.told (touched_by h.tree who.session p) (parts_of outcome.tree limit who.session ps z now)
+            ∙ (λ i. with_first (sym results_are i) (sym is.triggers i) (sym touched_are i) (parts_of outcome.tree limit who.session ps z now));
+        sound = subst (Leads (IsSoundTree s.sessions)) outcome.done (single-sound s.sessions limit who.session z now (x, opened, limit_is) h.tree p h.sound (small_part p short));
         changes = all_laid h.changes is.changes;
         over = is.over ∙ ap (λ (o : View). with_acts o (acts_of is.changes)) h.over ∙ acts-laid h.changes is.changes;
         once = distinct-all_laid h.changes is.changes h.once;
@@ -190,7 +202,7 @@ module _ (who : Who) (now : ℕ) (time : now < 2 ^ 62) (v near : View) (narrow :
   place_next old mid place d e is = let more = ap (λ (l : List PartResult). length l) is in let added = length-append old.results (d ∷ []) in omega (arith, e, more, added)
 
   pub run_stops : (ps : List Part) (old : Progress) (place k : ℕ) (code : ℤ) (run : Runs who now v old place ps (Stopped k code)) → RunsSeen who now v near old place ps (Stopped k code) run → AreShort ps → place ≡ length old.results → Here ps old
-      → parts_of s.tree max_owned who.session parts z now ≡ StoppedAt k code
+      → parts_of s.tree limit who.session parts z now ≡ StoppedAt k code
   run_stops [] old place k code run saw short at h = absurd (not_passed old k code run)
   run_stops (p ∷ ps) old place k code (Stopped j other, one, rest) saw short at h =
       let same = stopped_is k j code other rest in
@@ -219,7 +231,7 @@ module _ (who : Who) (now : ℕ) (time : now < 2 ^ 62) (v near : View) (narrow :
   abbrev pub start : Here parts no_progress
   start = record {
     tree = s.tree;
-    runs = alone (parts_of s.tree max_owned who.session parts z now);
+    runs = alone (parts_of s.tree limit who.session parts z now);
     sound = sound;
     changes = [];
     over = refl;
@@ -228,7 +240,7 @@ module _ (who : Who) (now : ℕ) (time : now < 2 ^ 62) (v near : View) (narrow :
     fits = record { each = unchanged };
   }
 
-  pub parts_stop : (k : ℕ) (code : ℤ) (run : Runs who now v no_progress 0 parts (Stopped k code)) → RunsSeen who now v near no_progress 0 parts (Stopped k code) run → AreShort parts → parts_of s.tree max_owned who.session parts z now ≡ StoppedAt k code
+  pub parts_stop : (k : ℕ) (code : ℤ) (run : Runs who now v no_progress 0 parts (Stopped k code)) → RunsSeen who now v near no_progress 0 parts (Stopped k code) run → AreShort parts → parts_of s.tree limit who.session parts z now ≡ StoppedAt k code
   parts_stop k code run saw short = run_stops parts no_progress 0 k code run saw short refl start
 
   pub parts_pass : (new : Progress) (run : Runs who now v no_progress 0 parts (Passed new)) → RunsSeen who now v near no_progress 0 parts (Passed new) run → AreShort parts → Here [] new

@@ -1,5 +1,5 @@
 -- What the choice of a part looks at was looked up, where all that the parts read was.
-use Rattle.std.proofs.Common.{◌≡◌, ℕ, ℤ, pos, Bool, true, false, not, ◌&&◌, cond, length, List, [], ◌∷◌, ◌++◌, Option, Some, None, refl, sym, ap, ◌∙◌, subst, inl, inr, ⊎_elim}
+use Rattle.std.proofs.Common.{◌≡◌, ℕ, ℤ, pos, ◌-◌, Bool, true, false, not, ◌&&◌, cond, length, List, [], ◌∷◌, ◌++◌, Option, Some, None, refl, sym, ap, ◌∙◌, subst, inl, inr, ⊎_elim}
 use Rattle.std.proofs.lemmas.Bool.{true≢false}
 use Rattle.std.specs.Prelude.{int_lt, is_some, nat_abs, option_map, ◌≤ℤ◌, if◌then◌else◌}
 use Rattle.std.proofs.lemmas.Bool.{and_from, and_parts}
@@ -14,21 +14,24 @@ use Rattle.zk_model.specs.declared.node.Node.{Node}
 use Rattle.zk_model.specs.declared.request.Acl.{Acl}
 use Rattle.zk_model.specs.declared.request.Part.{Part}
 use Rattle.zk_model.specs.declared.request.Part.TheVariants as part
+use Rattle.zk_model.specs.Limits.{max_owned}
 use Rattle.zk_model.specs.Multi.{touched_by, owner_list}
 use Rattle.zk_model.specs.Paths.{is_path, parent, root, sequence_path}
 use Rattle.zk_model.specs.Single.{form_refusal, is_ephemeral, is_sequential, made_path, named}
 use Rattle.zk_model.specs.Znodes.{Tree, num_children, owned}
-use Rattle.zk_service.specs.States.{State, Session, session_at}
+use Rattle.zk_service.specs.States.{State, Session, limit_of, session_at}
 use Rattle.zn_layout.specs.declared.record.CountRec.{CountRec}
 use Rattle.zn_layout.specs.declared.record.NodeRec.{NodeRec}
+use Rattle.zn_layout.specs.declared.record.SessionRec.{SessionRec}
+use Rattle.zn_layout.specs.Begin.{first_counts}
 use Rattle.zn_layout.specs.Keys.{Key, HeadKey, DataKey, CountsKey, SessionKey, key_bytes}
-use Rattle.zn_layout.specs.StandsFor.{CountsMean, DataMeans, NodesMean, counts_record, data_record}
+use Rattle.zn_layout.specs.StandsFor.{CountsMean, DataMeans, NodesMean, counts_record, data_record, is_counted_in, nodes_record}
 use Rattle.zn_layout.proofs.ListRecords.{session_value-injective}
 use Rattle.zn_layout.proofs.Nodes.{counts_value-injective, node_value-injective}
 use Rattle.zn_view.specs.Lookups.{HasSeen, sees}
 use Rattle.zn_view.specs.declared.leaving.NodeNow.{NodeNow}
 use Rattle.zn_view.specs.declared.leaving.TreeChange.{TreeChange}
-use Rattle.zn_view.specs.Leaving.{are_seen, counts_after, create_change, is_owner_seen, delete_change, is_checked, node_after, node_now, node_path, owned_after, owner_of, set_change, with_change, AreCountsNow, AreCountsShown, IsNodeNow, IsNodeShown, IsOwnedFor, IsOwnedNow, IsOwnedShown, NodeLeaves}
+use Rattle.zn_view.specs.Leaving.{are_seen, counts_after, create_change, is_owner_seen, delete_change, counted as counted_by, is_checked, node_after, node_now, node_path, owner_of, room_after, set_change, with_change, AreCountsNow, AreCountsShown, IsNodeNow, IsNodeShown, IsRoomFor, IsRoomNow, IsRoomShown, NodeLeaves}
 use Rattle.zn_view.specs.Seen.{View, seen}
 use Rattle.zn_view.specs.Views.{about_parent, about_path, counts_of_parent}
 use Rattle.zn_view.proofs.Members.{In, in_left, in_right}
@@ -76,15 +79,29 @@ node_shown z (Some n) None x saw means = absurd means
 node_shown z (Some n) (Some kv) x saw means =
     saw.2 ∙ ap (λ (r : NodeRec). Some (Some (node_now r.version r.owner))) (node_value-injective saw.0 (data_record n means.stored) saw.1.0 means.fits (sym saw.1.1 ∙ means.value))
 
-counts_shown : (z : ℤ) (n : Option Node) (children : ℕ) (o : Option Kv) (c : Option (Option CountRec)) → AreCountsShown (Some o) c → CountsMean n children (stored_own z o) → c ≡ Some (counts_at n children)
-counts_shown z None children None c saw means = saw
-counts_shown z None children (Some kv) c saw means = absurd means
-counts_shown z (Some n) children None c saw means = absurd means
-counts_shown z (Some n) children (Some kv) c saw means = saw.2 ∙ ap (λ (r : CountRec). Some (Some r)) (counts_value-injective saw.0 (counts_record n children) saw.1.0 means.fits (sym saw.1.1 ∙ means.value))
+-- a node without a record of its counts has none
+uncounted_is : (n : Node) (children : ℕ) → n.creates ≡ pos 0 → children ≡ 0 → first_counts ≡ counts_record n children
+uncounted_is n children none childless = λ i. record { creates = sym none i; children = pos (sym childless i) }
 
-owned_shown : (z : ℤ) (x : Session) (ps : List Bytes) (o : Option Kv) (n : Option ℕ) → IsOwnedShown (Some o) n → NodesMean (Some x) ps (stored_own z o) → n ≡ Some (length ps)
-owned_shown z x ps None n saw means = absurd means
-owned_shown z x ps (Some kv) n saw means = saw.2 ∙ ap (λ (l : List Bytes). Some (length l)) (session_value-injective saw.0 ps saw.1.0 means.fits (sym saw.1.1 ∙ means.value))
+counts_shown : (z : ℤ) (n : Option Node) (children : ℕ) (counted : Bool) (o : Option Kv) (m : Option (Option NodeNow)) (c : Option (Option CountRec)) → m ≡ Some (now_of n) → AreCountsShown (Some o) c → CountsMean n children counted (stored_own z o)
+    → counted_by m c ≡ Some (counts_at n children)
+counts_shown z None children counted None m c there saw means = λ i. counted_by (there i) (saw i)
+counts_shown z None children counted (Some kv) m c there saw means = absurd means
+counts_shown z (Some n) children true None m c there saw means = absurd means
+counts_shown z (Some n) children true (Some kv) m c there saw means =
+    ap (counted_by m) saw.2 ∙ ap (λ (r : CountRec). Some (Some r)) (counts_value-injective saw.0 (counts_record n children) saw.1.0 means.fits (sym saw.1.1 ∙ means.value))
+counts_shown z (Some n) children false None m c there saw means =
+    (λ i. counted_by (there i) (saw i)) ∙ ap (λ (r : CountRec). Some (Some r)) (uncounted_is n children means.creates means.childless)
+counts_shown z (Some n) children false (Some kv) m c there saw means = absurd means
+
+-- how many nodes more a session may own
+abbrev pub room_in : Session → List Bytes → ℕ
+room_in x ps = limit_of x - length ps
+
+room_shown : (z : ℤ) (x : Session) (ps : List Bytes) (o : Option Kv) (n : Option ℕ) → IsRoomShown (Some o) n → NodesMean (Some x) ps (stored_own z o) → n ≡ Some (room_in x ps)
+room_shown z x ps None n saw means = absurd means
+room_shown z x ps (Some kv) n saw means =
+    saw.2 ∙ ap (λ (r : SessionRec). Some (max_owned r.layout - length r.paths)) (session_value-injective saw.0 (nodes_record x ps) saw.1.0 means.fits (sym saw.1.1 ∙ means.value))
 
 owner_shown : (z : ℤ) (n : Node) (o : Option Kv) (owner : ℤ) → IsOwnerSeen (Some o) owner → DataMeans (Some n) (stored_own z o) → owner ≡ n.owner
 owner_shown z n None owner saw means = absurd means
@@ -124,22 +141,23 @@ module _ (z : ℤ) (v near : View) (narrow : IsNarrower near v) (s : State) (sho
       at None e h = absurd (saw e)
       at (Some o) e h = node_shown z (get s.tree p) o x h (shown (DataKey p) (data_not_head p) o e).0
 
-  first_counts : (p : Bytes) → HasSeen near (CountsKey p) → (c : Option (Option CountRec)) → AreCountsShown (sees v (CountsKey p)) c → c ≡ Some (counts_of s.tree p)
-  first_counts p saw c is = at (sees near (CountsKey p)) refl (near_is near v narrow (λ (o : Option (Option Kv)). AreCountsShown o c) (CountsKey p) saw (λ _. is))
+  counts_found : (p : Bytes) → HasSeen near (DataKey p) → HasSeen near (CountsKey p) → (m : Option (Option NodeNow)) → IsNodeShown (sees v (DataKey p)) m → (c : Option (Option CountRec)) → AreCountsShown (sees v (CountsKey p)) c
+      → counted_by m c ≡ Some (counts_of s.tree p)
+  counts_found p saw_node saw m node c is = at (sees near (CountsKey p)) refl (near_is near v narrow (λ (o : Option (Option Kv)). AreCountsShown o c) (CountsKey p) saw (λ _. is))
     where
-      at : (o : Option (Option Kv)) → sees near (CountsKey p) ≡ o → AreCountsShown o c → c ≡ Some (counts_of s.tree p)
+      at : (o : Option (Option Kv)) → sees near (CountsKey p) ≡ o → AreCountsShown o c → counted_by m c ≡ Some (counts_of s.tree p)
       at None e h = absurd (saw e)
-      at (Some o) e h = counts_shown z (get s.tree p) (num_children s.tree p) o c h (shown (CountsKey p) (counts_not_head p) o e).0
+      at (Some o) e h = counts_shown z (get s.tree p) (num_children s.tree p) (is_counted_in s (get s.tree p)) o m c (first_node p saw_node m node) h (shown (CountsKey p) (counts_not_head p) o e).0
 
-  first_owned : (id : ℤ) (y : Session) → pos 0 ≤ℤ id → session_at id s ≡ Some y → HasSeen near (SessionKey (nat_abs id)) → (n : Option ℕ) → IsOwnedShown (sees v (SessionKey (nat_abs id))) n → n ≡ Some (length (owned s.tree id))
-  first_owned id y least opened saw n is = at (sees near (SessionKey (nat_abs id))) refl (near_is near v narrow (λ (o : Option (Option Kv)). IsOwnedShown o n) (SessionKey (nat_abs id)) saw (λ _. is))
+  first_room : (id : ℤ) (y : Session) → pos 0 ≤ℤ id → session_at id s ≡ Some y → HasSeen near (SessionKey (nat_abs id)) → (n : Option ℕ) → IsRoomShown (sees v (SessionKey (nat_abs id))) n → n ≡ Some (room_in y (owned s.tree id))
+  first_room id y least opened saw n is = at (sees near (SessionKey (nat_abs id))) refl (near_is near v narrow (λ (o : Option (Option Kv)). IsRoomShown o n) (SessionKey (nat_abs id)) saw (λ _. is))
     where
       same_id : pos (nat_abs id) ≡ id
       same_id = of_abs id least
 
-      at : (o : Option (Option Kv)) → sees near (SessionKey (nat_abs id)) ≡ o → IsOwnedShown o n → n ≡ Some (length (owned s.tree id))
+      at : (o : Option (Option Kv)) → sees near (SessionKey (nat_abs id)) ≡ o → IsRoomShown o n → n ≡ Some (room_in y (owned s.tree id))
       at None e h = absurd (saw e)
-      at (Some o) e h = owned_shown z y (owned s.tree id) o n h
+      at (Some o) e h = room_shown z y (owned s.tree id) o n h
           (subst (λ (w : Option Session × ℤ). NodesMean w.0 (owned s.tree w.1) (stored_own z o)) (λ i. ((ap (λ (j : ℤ). session_at j s) same_id ∙ opened) i, same_id i)) (shown (SessionKey (nat_abs id)) (nodes_not_head (nat_abs id)) o e).0)
 
   pub owner_found : (p : Bytes) → HasSeen near (DataKey p) → (owner : ℤ) → IsOwnerSeen (sees v (DataKey p)) owner → (n : Node) → get s.tree p ≡ Some n → owner ≡ n.owner
@@ -155,21 +173,24 @@ module _ (z : ℤ) (v near : View) (narrow : IsNarrower near v) (s : State) (sho
   abbrev pub Known : ℤ → Type 0
   Known o = HasSeen near (SessionKey (nat_abs o))
 
-  module _ (id : ℤ) (y : Session) (least : pos 0 ≤ℤ id) (opened : session_at id s ≡ Some y) (changes : List TreeChange) (t : Tree) (walks : Walks s.tree Known id changes t) (over : View) (left : Shows z (layered over near) (with_tree s t)) where
+  module _ (id : ℤ) (y : Session) (least : pos 0 ≤ℤ id) (opened : session_at id s ≡ Some y) (changes : List TreeChange) (t : Tree) (walks : Walks s.tree Known (limit_of y) id changes t) (over : View) (left : Shows z (layered over near) (with_tree s t)) where
     abbrev now_seen : View
     now_seen = layered over near
 
     node_is : (p : Bytes) (x : Option (Option NodeNow)) → IsNodeNow v changes p x → HasSeen near (DataKey p) → x ≡ Some (now_of (get t p))
     node_is p x (before, is, e) saw = e ∙ ap (node_after changes p) (first_node p saw before is) ∙ walks.nodes p
 
-    counts_are : (p : Bytes) (c : Option (Option CountRec)) → AreCountsNow v changes p c → HasSeen near (CountsKey p) → c ≡ Some (counts_of t p)
-    counts_are p c (before, is, e) saw = e ∙ ap (counts_after changes p) (first_counts p saw before is) ∙ walks.counts p
+    counts_are : (p : Bytes) (c : Option (Option CountRec)) → AreCountsNow v changes p c → HasSeen near (DataKey p) → HasSeen near (CountsKey p) → c ≡ Some (counts_of t p)
+    counts_are p c (m, before, node, is, e) saw_node saw = e ∙ ap (counts_after changes p) (counts_found p saw_node saw m node before is) ∙ walks.counts p
 
-    owned_is : (n : Option ℕ) → IsOwnedNow v changes id n → Known id → n ≡ Some (length (owned t id))
-    owned_is n (before, is, e) saw = e ∙ ap (option_map (owned_after changes id)) (first_owned id y least opened saw before is) ∙ ap Some walks.number
+    abbrev room_now : ℕ
+    room_now = room_in y (owned t id)
 
-    for_is : (ephemeral : Bool) (n : Option ℕ) → IsOwnedFor v changes ephemeral id n → (ephemeral ≡ true → Known id) → n ≡ Some (if ephemeral then length (owned t id) else 0)
-    for_is true n is mine = owned_is n is (mine refl)
+    room_is : (n : Option ℕ) → IsRoomNow v changes id n → Known id → n ≡ Some room_now
+    room_is n (before, is, e) saw = e ∙ ap (option_map (room_after changes id)) (first_room id y least opened saw before is) ∙ ap Some walks.room
+
+    for_is : (ephemeral : Bool) (n : Option ℕ) → IsRoomFor v changes ephemeral id n → (ephemeral ≡ true → Known id) → n ≡ Some (if ephemeral then room_now else 1)
+    for_is true n is mine = room_is n is (mine refl)
     for_is false n is mine = is
 
     -- ---- create
@@ -196,7 +217,7 @@ module _ (z : ℤ) (v near : View) (narrow : IsNarrower near v) (s : State) (sho
           (in_right (SessionKey (nat_abs id)) fixed (session_nodes (is_ephemeral f) id) (subst (λ b. In (SessionKey (nat_abs id)) (session_nodes b id)) (sym e) (inl refl)))))
 
       counted : (q : Bytes) → parent (named f path) ≡ Some q → h.counts ≡ Some (counts_of t q)
-      counted q below = counts_are q h.counts (subst (λ (o : Option Bytes). AreCountsAbove v (Some changes) o h.counts) below h.counts_are) (counts_seen q below)
+      counted q below = counts_are q h.counts (subst (λ (o : Option Bytes). AreCountsAbove v (Some changes) o h.counts) below h.counts_are) (up_seen q below) (counts_seen q below)
 
       path_found : (b : Bool) (up : Node) (children : ℕ) → node_path b path (Some (counts_at (Some up) children)) ≡ Some (if b then sequence_path path (nat_abs up.creates) else path)
       path_found true up children = refl
@@ -208,9 +229,9 @@ module _ (z : ℤ) (v near : View) (narrow : IsNarrower near v) (s : State) (sho
       node_seen : (p : Bytes) → node ≡ Some p → HasSeen near (DataKey p)
       node_seen p e = saw (DataKey p) (subst (In (DataKey p)) (sym h.keys) (path_in id v (is_sequential f) path h.counts p e (about_parent (parent (named f path))) (session_nodes (is_ephemeral f) id)))
 
-      same_path : (q : Bytes) (w : SeenCounts) (n : Option Node) → parent (named f path) ≡ Some q → get t q ≡ n → ShowsCounts z (Some w) n (num_children t q) → HasSeen near (DataKey (path_for (is_sequential f) path (Some w)))
-      same_path q w None below there shows = absurd shows
-      same_path q w (Some up) below there shows =
+      same_path : (q : Bytes) (w : SeenCounts) (n : Option Node) (stored : Bool) → parent (named f path) ≡ Some q → get t q ≡ n → ShowsCounts z (Some w) n (num_children t q) stored → HasSeen near (DataKey (path_for (is_sequential f) path (Some w)))
+      same_path q w None stored below there shows = absurd shows
+      same_path q w (Some up) stored below there shows =
           let same : w.counts.creates ≡ up.creates = ap (λ (r : CountRec). r.creates) shows.is in
           node_seen (path_for (is_sequential f) path (Some w)) (found q up below there ∙ ap (λ (c : ℤ). Some (if is_sequential f then sequence_path path (nat_abs c) else path)) (sym same))
 
@@ -219,19 +240,19 @@ module _ (z : ℤ) (v near : View) (narrow : IsNarrower near v) (s : State) (sho
         up = layered_seen over near (DataKey q) (up_seen q below);
         counts = layered_seen over near (CountsKey q) (counts_seen q below);
         nodes = λ e. layered_seen over near (SessionKey (nat_abs id)) (mine e);
-        own = λ w is. layered_seen over near (DataKey (path_for (is_sequential f) path (Some w))) (same_path q w (get t q) below refl (counts-shown z now_seen (with_tree s t) left q (Some w) is));
+        own = λ u w node is. layered_seen over near (DataKey (path_for (is_sequential f) path (Some w))) (same_path q w (get t q) (is_counted_in (with_tree s t) (get t q)) below refl (counts-shown z now_seen (with_tree s t) left q u (Some w) node is));
       }
 
       node_leaves : (q p : Bytes) (up : Option (Option NodeNow)) → parent (named f path) ≡ Some q → node ≡ Some p → up ≡ Some (now_of (get t q)) → NodeLeaves v changes (is_ephemeral f) id up h.counts (Some p) next
-          → next ≡ with_change changes (create_change p (owner_of (is_ephemeral f) id) (Some (now_of (get t q))) (Some (counts_of t q)) (Some (now_of (get t p))) (Some (if is_ephemeral f then length (owned t id) else 0)))
+          → next ≡ with_change changes (create_change p (owner_of (is_ephemeral f) id) (Some (now_of (get t q))) (Some (counts_of t q)) (Some (now_of (get t p))) (Some (if is_ephemeral f then room_now else 1)))
       node_leaves q p up below at up_is (there, n, there_is, n_is, is) =
           let here : there ≡ Some (now_of (get t p)) = node_is p there there_is (node_seen p at) in
-          let owns : n ≡ Some (if is_ephemeral f then length (owned t id) else 0) = for_is (is_ephemeral f) n n_is mine in
+          let owns : n ≡ Some (if is_ephemeral f then room_now else 1) = for_is (is_ephemeral f) n n_is mine in
           let counts : h.counts ≡ Some (counts_of t q) = counted q below in
           is ∙ (λ i. with_change changes (create_change p (owner_of (is_ephemeral f) id) (up_is i) (counts i) (here i) (owns i)))
 
       create_next : (q : Bytes) → parent (named f path) ≡ Some q → (up : Node) → get t q ≡ Some up
-          → next ≡ with_change changes (create_change (made_path f path up) (owner_of (is_ephemeral f) id) (Some (now_of (get t q))) (Some (counts_of t q)) (Some (now_of (get t (made_path f path up)))) (Some (if is_ephemeral f then length (owned t id) else 0)))
+          → next ≡ with_change changes (create_change (made_path f path up) (owner_of (is_ephemeral f) id) (Some (now_of (get t q))) (Some (counts_of t q)) (Some (now_of (get t (made_path f path up)))) (Some (if is_ephemeral f then room_now else 1)))
       create_next q below up there =
           let at : node ≡ Some (made_path f path up) = found q up below there in
           let leaves : IsCreateLeft v (Some changes) (is_ephemeral f) id (Some q) h.counts (Some (made_path f path up)) next =
@@ -278,7 +299,7 @@ module _ (z : ℤ) (v near : View) (narrow : IsNarrower near v) (s : State) (sho
       delete_next : next ≡ with_change changes (delete_change v p x (Some (now_of (get t p))) (Some (counts_of t p)))
       delete_next =
           let n : h.next_is.0 ≡ Some (now_of (get t p)) = node_is p h.next_is.0 h.next_is.2 (fixed_seen (DataKey p) (inl refl)) in
-          let c : h.next_is.1 ≡ Some (counts_of t p) = counts_are p h.next_is.1 h.next_is.3 (fixed_seen (CountsKey p) (inr (inl refl))) in
+          let c : h.next_is.1 ≡ Some (counts_of t p) = counts_are p h.next_is.1 h.next_is.3 (fixed_seen (DataKey p) (inl refl)) (fixed_seen (CountsKey p) (inr (inl refl))) in
           h.next_is.4 ∙ (λ i. with_change changes (delete_change v p x (n i) (c i)))
 
       looked_up : (y : Option SeenData) (n : Option Node) → get t p ≡ n → ShowsData z y n → IsOwnerLookedUp now_seen y
@@ -307,7 +328,7 @@ module _ (z : ℤ) (v near : View) (narrow : IsNarrower near v) (s : State) (sho
     )
     looks (part.Check path x) own next h saw = layered_seen over near (DataKey path) (saw (DataKey path) (subst (In (DataKey path)) (sym h.0) (inl refl)))
 
-    pub finds : (p : Part) (own : List Key) (next : Left) → form_refusal p ≡ None → IsFormedRead id v (Some changes) p own next → ((k : Key) → In k own → HasSeen near k) → Finds s.tree Known id v changes t next p
+    pub finds : (p : Part) (own : List Key) (next : Left) → form_refusal p ≡ None → IsFormedRead id v (Some changes) p own next → ((k : Key) → In k own → HasSeen near k) → Finds s.tree Known (limit_of y) id v changes t next p
     finds (part.Create path d a f) own next form h saw = (mine path d a f own next h saw, create_next path d a f own next h saw)
     finds (part.Delete path x) own next form h saw = (not_root path x own next h saw form, all_seen path x own next h saw, delete_next path x own next h saw)
     finds (part.SetData path d x) own next form h saw = (

@@ -28,7 +28,7 @@ use Rattle.zn_layout.specs.Changes.{KeyChange, Put, change_size, head_put, last,
 use Rattle.zn_layout.specs.Fits.{KeyFits, left}
 use Rattle.zn_layout.specs.Keys.{Key, HeadKey, DataKey, CountsKey, SessionKey, LeaseKey, key_bytes}
 use Rattle.zn_layout.specs.Records.{IsHeadRec}
-use Rattle.zn_layout.specs.StandsFor.{NodesMean}
+use Rattle.zn_layout.specs.StandsFor.{NodesMean, nodes_record}
 use Rattle.zn_layout.specs.Updates.{update_txn}
 use Rattle.zn_layout.proofs.Denials.{update-sendable}
 use Rattle.zn_layout.proofs.Paths.{path_short}
@@ -41,7 +41,7 @@ use Rattle.zn_view.specs.Views.{IsSmallPlan, about_parent, about_path, counts_of
 use Rattle.zn_view.proofs.Members.{In, in_contains}
 use Rattle.zn_view.proofs.Narrowing.{picked-each}
 use Rattle.zn_view.proofs.PlanSizes.{picked-length}
-use Rattle.zn_view.proofs.Sizes.{again-length, again-short, counts-size, data-size, guards-length, guards-short, head-size, head_put-size, life-size, sum_by-most}
+use Rattle.zn_view.proofs.Sizes.{again-length, again-short, counts-size, data-size, guards-length, guards-short, head-size, head_put-size, life-size, owned-most, sum_by-most}
 use Rattle.zn_updates.specs.KeysRead.{owner_nodes, plain_data, session_nodes, start_keys}
 use Rattle.zn_updates.specs.Layers.{Shows}
 use Rattle.zn_updates.specs.Parts.{plain_size, size_beside, IsNarrower}
@@ -65,7 +65,7 @@ use Rattle.zn_multi.specs.declared.carrying.Progress.{Progress}
 use Rattle.zn_multi.proofs.Needs.{once_few, once_only}
 use Rattle.zn_multi.proofs.Owning.{path_load}
 use Rattle.zn_multi.proofs.Runs.{runs_told}
-use Rattle.zn_multi.proofs.SessionBytes.{at_session, distinct-few, distinct-has, last-is, of_session, once-counted, paths-size, sessions-within, touched-few}
+use Rattle.zn_multi.proofs.SessionBytes.{at_session, distinct-few, distinct-has, last-is, nodes-size, of_session, once-counted, sessions-within, touched-few}
 use Rattle.zn_multi.proofs.Staying.{IsWritten, Stays}
 use Rattle.zn_multi.proofs.Written.{few-written, light-written}
 
@@ -238,7 +238,7 @@ module _ (parts : List Part) (who : Who) (v : View) (now : ℕ) (time : now < 2 
 
   -- the most bytes of the list of a session's nodes
   abbrev before : ℤ → ℕ
-  before o = 165 + path_load s.tree o
+  before o = 245 + path_load s.tree o
 
   abbrev own_more : ℕ → ℕ
   own_more n = if int_eq id (pos n) then 1024 * st.steps else 0
@@ -266,10 +266,11 @@ module _ (parts : List Part) (who : Who) (v : View) (now : ℕ) (time : now < 2 
   value_most n y least there None means = omega arith
   value_most n y least there (Some w) means =
       let nodes = subst (λ (o : Option Session). NodesMean o (owned led.tree (pos n)) (left z (Some w))) there means in
-      let value = ap (λ (l : Bytes). length l) nodes.value ∙ paths-size (owned led.tree (pos n)) in
+      let value = ap (λ (l : Bytes). length l) nodes.value ∙ nodes-size (nodes_record y (owned led.tree (pos n))) in
       let limited = led.sound.limited (pos n) y there in
+      let most_owned = owned-most y.layout in
       let bears = st.bears (pos n) (λ e. omega (arith, ints, least, e)) in
-      omega (arith, value, limited, bears)
+      omega (arith, value, limited, most_owned, bears)
 
   session_most : (c : KeyChange) (n : ℕ) → In c ws → c.key ≡ SessionKey n → put_size c.put ≤ most n
   session_most c n i e =
@@ -279,12 +280,12 @@ module _ (parts : List Part) (who : Who) (v : View) (now : ℕ) (time : now < 2 
       let here : last ws (SessionKey n) ≡ Some c.put = ap (last ws) (sym e) ∙ last-is ws c led.once i in
       value_most n at.1.0 least at.1.1 c.put (subst (λ (o : Option (Option Put)). KeyFits z o (SessionKey n) s (with_tree s led.tree)) here fit)
 
-  sessions_most : (n : ℕ) → n ≡ sum_by (λ (o : ℤ). path_load s.tree o) (distinct p.touched) → sum_by (of_session most) ws ≤ 165 * max_parts + n + 1024 * max_parts
+  sessions_most : (n : ℕ) → n ≡ sum_by (λ (o : ℤ). path_load s.tree o) (distinct p.touched) → sum_by (of_session most) ws ≤ 245 * max_parts + n + 1024 * max_parts
   sessions_most n loads =
       let split = sessions_sum most (λ (k : ℕ). before (pos k)) own_more ws (λ k. omega arith) in
       let first = sessions-within before ws (distinct p.touched) led.once (λ c k i e. distinct-has p.touched [] (pos k) (touched_at c k i e).0) in
       let own = once-counted id (1024 * st.steps) ws led.once in
-      let each = plus_each 165 (λ (o : ℤ). path_load s.tree o) (distinct p.touched) in
+      let each = plus_each 245 (λ (o : ℤ). path_load s.tree o) (distinct p.touched) in
       let count = distinct-few p.touched [] in
       let touched = touched-few who now v parts no_progress p 0 run in
       let steps = few_steps in
@@ -293,7 +294,7 @@ module _ (parts : List Part) (who : Who) (v : View) (now : ℕ) (time : now < 2 
   few_changes : length ws ≤ 4 * max_parts
   few_changes = let bound = st.few in omega (arith, bound, few)
 
-  changes_most : (n : ℕ) → n ≡ sum_by (λ (o : ℤ). path_load s.tree o) (distinct p.touched) → sum_by data_len parts + n ≤ max_load → sum_by change_size ws ≤ 1129024
+  changes_most : (n : ℕ) → n ≡ sum_by (λ (o : ℤ). path_load s.tree o) (distinct p.touched) → sum_by data_len parts + n ≤ max_load → sum_by change_size ws ≤ 1130944
   changes_most n loads low =
       let sizes = sizes_sum most ws (All-short ws st.written) (λ c k i e. session_most c k i e) in
       let plain = st.light in

@@ -16,6 +16,7 @@ use Rattle.zk_jute.proofs.Lengths.{length-string_bytes, length-vector_bytes}
 use Rattle.zk_jute.specs.JuteWriting.{string_bytes}
 use Rattle.zk_model.specs.declared.request.Part.{Part}
 use Rattle.zx_base.specs.Maps.{Bytes}
+use Rattle.zn_layout.specs.declared.record.SessionRec.{SessionRec}
 use Rattle.zn_layout.specs.Changes.{KeyChange, Put, are_distinct, last, put_or_else, writes_key}
 use Rattle.zn_layout.specs.Keys.{Key, HeadKey, DataKey, CountsKey, SessionKey, LeaseKey, same_key}
 use Rattle.zn_layout.specs.Records.{session_value}
@@ -34,9 +35,9 @@ strings-size : (ps : List Bytes) → sum_by (λ (p : Bytes). length (string_byte
 strings-size [] = refl
 strings-size (p ∷ ps) = let h = strings-size ps in omega (arith, h, sum_by-cons (λ (q : Bytes). length (string_bytes q)) p ps, sum_by-cons length p ps, length-string_bytes p)
 
-pub paths-size : (ps : List Bytes) → length (session_value ps) ≡ 5 + (4 * length ps + sum_by length ps)
+pub nodes-size : (r : SessionRec) → length (session_value r) ≡ 5 + (4 * length r.paths + sum_by length r.paths)
 unfolding session_value
-paths-size ps = omega (arith, length-vector_bytes string_bytes ps, length-flat_map string_bytes ps, strings-size ps)
+nodes-size r = omega (arith, length-vector_bytes string_bytes r.paths, length-flat_map string_bytes r.paths, strings-size r.paths)
 
 -- ---- the sessions that are counted
 

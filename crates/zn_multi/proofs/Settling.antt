@@ -16,13 +16,14 @@ use Rattle.zk_model.specs.declared.reply.Reply.TheVariants as reply
 use Rattle.zk_model.specs.declared.request.Part.{Part}
 use Rattle.zk_model.specs.declared.request.Request.TheVariants as req
 use Rattle.zk_model.specs.Codes.{bad_arguments}
-use Rattle.zk_model.specs.Limits.{max_load, max_owned}
+use Rattle.zk_model.specs.Limits.{max_load}
 use Rattle.zk_model.specs.Multi.{Parts, Several, Stopped as StoppedAt, Passed as PassedAll, Denied, Codes, All as AllDone, data_len, distinct, load, parts_of, row_of, settled, several}
 use Rattle.zk_model.specs.Watches.{no_watches}
 use Rattle.zk_model.specs.Znodes.{Tree, owned}
-use Rattle.zk_service.specs.Answers.{owned_limit_in, refusal_of_several, tree_reply}
+use Rattle.zk_service.specs.Answers.{refusal_of_several, tree_reply}
 use Rattle.zk_service.specs.States.{State, Session, IsSound, advanced, commit, commit_several, committed, limit_of, session_at}
 use Rattle.zx_base.specs.Maps.{Bytes}
+use Rattle.zn_layout.specs.declared.record.SessionRec.{SessionRec}
 use Rattle.zn_layout.specs.Changes.{KeyChange, Put, are_distinct, last, put_or_else, update_acts}
 use Rattle.zn_layout.specs.Fits.{ChangesFit}
 use Rattle.zn_layout.specs.Keys.{Key, HeadKey, LeaseKey, SessionKey, key_bytes, same_key}
@@ -47,14 +48,14 @@ use Rattle.zn_view.proofs.Tested.{session-lives}
 use Rattle.zn_updates.specs.Deciding.{IsAttached}
 use Rattle.zn_updates.specs.KeysRead.{start_keys}
 use Rattle.zn_updates.specs.Layers.{Shows}
-use Rattle.zn_updates.specs.Making.{IsPathsSeen}
+use Rattle.zn_updates.specs.Making.{IsNodesSeen}
 use Rattle.zn_updates.specs.Parts.{IsKeptChange, IsNarrower}
 use Rattle.zn_updates.specs.Right.{with_tree}
 use Rattle.zn_updates.specs.Seen.{ShowsOwned}
 use Rattle.zn_updates.proofs.Deciding.{fits_advanced}
 use Rattle.zn_updates.proofs.Meanings.{of_abs}
 use Rattle.zn_updates.proofs.PartChoices.{near_is}
-use Rattle.zn_updates.proofs.Showing.{paths-shown}
+use Rattle.zn_updates.proofs.Showing.{nodes-shown}
 use Rattle.zn_updates.proofs.Telling.{Tells, shows, told}
 use Rattle.zn_multi.specs.Carrying.{no_progress, AreShort, Runs}
 use Rattle.zn_multi.specs.Deciding.{AreOwnedLoads, IsByParts, IsInTurn, IsOwnedLoad, IsPlannedAs, path_bytes, read_keys, refused}
@@ -65,7 +66,7 @@ use Rattle.zn_multi.specs.declared.carrying.Carried.{Carried}
 use Rattle.zn_multi.specs.declared.carrying.Carried.TheVariants.{Stopped, Passed}
 use Rattle.zn_multi.specs.declared.carrying.Progress.{Progress}
 use Rattle.zn_multi.proofs.Laid.{laid-injective}
-use Rattle.zn_multi.proofs.Leading.{parts_stop}
+use Rattle.zn_multi.proofs.Leading.{limit_is, parts_stop}
 use Rattle.zn_multi.proofs.Times.{IsPassed, passed-always, stopped-always}
 use Rattle.zn_multi.proofs.Needs.{once_has}
 use Rattle.zn_multi.proofs.Staying.{IsWritten, Stays, run_seen, run_stays, stays_start}
@@ -142,7 +143,10 @@ module _ (parts : List Part) (who : Who) (v : View) (now : ℕ) (time : now < 2 
   -- ---- in a state that these keys show
 
   module _ (s : State) (z : ℤ) (sound : IsSound s) (shown : Shows z near s) (x : Session) (opened : session_at id s ≡ Some x) where
-    pub stops : (k : ℕ) (code : ℤ) → Runs who now v no_progress 0 parts (Stopped k code) → parts_of s.tree max_owned id parts z now ≡ StoppedAt k code
+    abbrev limit : ℕ
+    limit = limit_at id s
+
+    pub stops : (k : ℕ) (code : ℤ) → Runs who now v no_progress 0 parts (Stopped k code) → parts_of s.tree limit id parts z now ≡ StoppedAt k code
     stops k code run = parts_stop who now time v near narrow parts s z sound shown x opened k code run
         (run_seen who now time v near narrow parts s z sound shown x opened parts [] no_progress 0 (Stopped k code) run ks read all_near short (stays_start who now time v near narrow parts s z sound shown x opened)) short
 
@@ -153,26 +157,26 @@ module _ (parts : List Part) (who : Who) (v : View) (now : ℕ) (time : now < 2 
       abbrev led : LeadsTo id now v parts [] p s z
       led = ends.1.leads
 
-      passes : parts_of s.tree max_owned id parts z now ≡ PassedAll (map (own_result z) p.results) led.tree p.triggers p.touched
+      passes : parts_of s.tree limit id parts z now ≡ PassedAll (map (own_result z) p.results) led.tree p.triggers p.touched
       passes =
-          led.runs ∙ ap (with_first (map (own_result z) p.results) p.triggers p.touched) (no_more led.tree max_owned id z now)
+          led.runs ∙ ap (with_first (map (own_result z) p.results) p.triggers p.touched) (no_more led.tree limit id z now)
           ∙ (λ i. PassedAll (append_empty (map (own_result z) p.results) i) led.tree (append_empty p.triggers i) (append_empty p.touched i))
 
       -- what each session owned before is what the view saw
       abbrev IsCounted : ℤ → Type 0
       IsCounted o = (a : ℕ) → IsOwnedLoad v o a → a ≡ sum_by length (owned s.tree o)
 
-      owned_bytes : (o : ℤ) (ps : Option (List Bytes)) → ShowsOwned ps (owned s.tree o) → path_bytes ps ≡ sum_by length (owned s.tree o)
-      owned_bytes o None bad = absurd bad
-      owned_bytes o (Some ps) h = ap (λ (l : List Bytes). sum_by length l) h.is
+      owned_bytes : (o : ℤ) (y : Session) (nodes : Option SessionRec) → ShowsOwned nodes y (owned s.tree o) → path_bytes nodes ≡ sum_by length (owned s.tree o)
+      owned_bytes o y None bad = absurd bad
+      owned_bytes o y (Some nodes) h = ap (λ (r : SessionRec). sum_by length r.paths) h.is
 
       counted : (o : ℤ) → In o p.touched → IsCounted o
-      counted o i a (ps, if_seen, is) =
+      counted o i a (nodes, if_seen, is) =
           let known = ends.1.touched o i in
           let least : pos 1 ≤ℤ o = sound.numbered o known.1.0 known.1.1 in
           let same : pos (nat_abs o) ≡ o = of_abs o (omega (arith, ints, least)) in
-          let paths_seen : IsPathsSeen (sees near (SessionKey (nat_abs o))) ps = near_is near v narrow (λ (w : Option (Option Kv)). IsPathsSeen w ps) (SessionKey (nat_abs o)) known.0 (if_seen least) in
-          is ∙ owned_bytes o ps (subst (λ (n : ℤ). ShowsOwned ps (owned s.tree n)) same (paths-shown z near s shown (nat_abs o) known.1.0 ps (ap (λ (n : ℤ). session_at n s) same ∙ known.1.1) paths_seen))
+          let nodes_seen : IsNodesSeen (sees near (SessionKey (nat_abs o))) nodes = near_is near v narrow (λ (w : Option (Option Kv)). IsNodesSeen w nodes) (SessionKey (nat_abs o)) known.0 (if_seen least) in
+          is ∙ owned_bytes o known.1.0 nodes (subst (λ (n : ℤ). ShowsOwned nodes known.1.0 (owned s.tree n)) same (nodes-shown z near s shown (nat_abs o) known.1.0 nodes (ap (λ (n : ℤ). session_at n s) same ∙ known.1.1) nodes_seen))
 
       loads_sum : (os : List ℤ) (n : ℕ) → All IsCounted os → AreOwnedLoads v os n → n ≡ sum_by (λ (o : ℤ). sum_by length (owned s.tree o)) os
       loads_sum [] n all e = e
@@ -183,31 +187,34 @@ module _ (parts : List Part) (who : Who) (v : View) (now : ℕ) (time : now < 2 
       load_is n loads = ap (λ (k : ℕ). sum_by data_len parts + k) (loads_sum (distinct p.touched) n (all_distinct IsCounted p.touched [] (All-nil IsCounted) (all_in IsCounted p.touched counted)) loads)
 
       -- at every zxid and time
-      settled_is : (y : ℤ) (time : ℕ) (n : ℕ) (b : Bool) → AreOwnedLoads v (distinct p.touched) n → nat_lt max_load (sum_by data_len parts + n) ≡ b → (w : IsPassed p.touched (parts_of s.tree max_owned id parts y time))
-          → several s.tree max_owned id parts y time ≡ (if b then Denied bad_arguments else AllDone w.results w.tree w.triggers)
+      settled_is : (y : ℤ) (time : ℕ) (n : ℕ) (b : Bool) → AreOwnedLoads v (distinct p.touched) n → nat_lt max_load (sum_by data_len parts + n) ≡ b → (w : IsPassed p.touched (parts_of s.tree limit id parts y time))
+          → several s.tree limit id parts y time ≡ (if b then Denied bad_arguments else AllDone w.results w.tree w.triggers)
       settled_is y time n b loads e w =
-          several_is s.tree max_owned id parts y time _ w.is
+          several_is s.tree limit id parts y time _ w.is
           ∙ ap (λ (k : ℕ). if nat_lt max_load k then Denied bad_arguments else AllDone w.results w.tree w.triggers) (sym (load_is n loads))
           ∙ ap (λ c. if c then Denied bad_arguments else AllDone w.results w.tree w.triggers) e
 
       decides : (d : Decision) (n : ℕ) → AreOwnedLoads v (distinct p.touched) n → (b : Bool) → nat_lt max_load (sum_by data_len parts + n) ≡ b → MatchBool b (d ≡ refused bad_arguments) (IsPlannedAs id v parts p d)
-          → IsByTree (req.Multi parts) d (refusal_of_several no_watches (several s.tree max_owned id parts (pos 0) 0))
+          → IsByTree (req.Multi parts) d (refusal_of_several no_watches (several s.tree limit id parts (pos 0) 0))
       decides d n loads b e h =
-          let w = passed-always max_owned id parts s.tree z (pos 0) now 0 _ _ _ _ passes in
+          let w = passed-always limit id parts s.tree z (pos 0) now 0 _ _ _ _ passes in
           subst (λ (k : Several). IsByTree (req.Multi parts) d (refusal_of_several no_watches k)) (sym (settled_is (pos 0) 0 n b loads e w)) (by b h w)
         where
-          by : (b : Bool) → MatchBool b (d ≡ refused bad_arguments) (IsPlannedAs id v parts p d) → (w : IsPassed p.touched (parts_of s.tree max_owned id parts (pos 0) 0)) → IsByTree (req.Multi parts) d (refusal_of_several no_watches (if b then Denied bad_arguments else AllDone w.results w.tree w.triggers))
+          by : (b : Bool) → MatchBool b (d ≡ refused bad_arguments) (IsPlannedAs id v parts p d) → (w : IsPassed p.touched (parts_of s.tree limit id parts (pos 0) 0)) → IsByTree (req.Multi parts) d (refusal_of_several no_watches (if b then Denied bad_arguments else AllDone w.results w.tree w.triggers))
           by true h w = told_denied parts bad_arguments d h
           by false h w = (h.0, h.1)
 
-    by_parts : (c : Carried) → Runs who now v no_progress 0 parts c → (d : Decision) → IsByParts id v parts c d → IsByTree (req.Multi parts) d (refusal_of_several no_watches (several s.tree max_owned id parts (pos 0) 0))
+    by_parts : (c : Carried) → Runs who now v no_progress 0 parts c → (d : Decision) → IsByParts id v parts c d → IsByTree (req.Multi parts) d (refusal_of_several no_watches (several s.tree limit id parts (pos 0) 0))
     by_parts (Stopped k code) run d is =
-        subst (λ (w : Several). IsByTree (req.Multi parts) d (refusal_of_several no_watches w)) (sym (several_is s.tree max_owned id parts (pos 0) 0 _ (stopped-always max_owned id parts s.tree z (pos 0) now 0 k code (stops k code run))))
+        subst (λ (w : Several). IsByTree (req.Multi parts) d (refusal_of_several no_watches w)) (sym (several_is s.tree limit id parts (pos 0) 0 _ (stopped-always limit id parts s.tree z (pos 0) now 0 k code (stops k code run))))
         (told_codes parts (row_of (length parts) k code) d is)
     by_parts (Passed p) run d (n, loads, h) = decides p run d n loads (nat_lt max_load (sum_by data_len parts + n)) refl h
 
+    own_limit : limit ≡ limit_of x
+    own_limit = limit_is who now time v near narrow parts s z sound shown x opened
+
     pub by_tree : (d : Decision) → IsInTurn who now v parts d → IsByTree (req.Multi parts) d (tree_reply s.tree (limit_of x) id no_watches (req.Multi parts))
-    by_tree d (c, run, is) = subst (IsByTree (req.Multi parts) d) (sym (reply_is s.tree max_owned id parts)) (by_parts c run d is)
+    by_tree d (c, run, is) = subst (IsByTree (req.Multi parts) d) (sym (ap (λ (n : ℕ). tree_reply s.tree n id no_watches (req.Multi parts)) (sym own_limit) ∙ reply_is s.tree limit id parts)) (by_parts c run d is)
 
   -- ---- the plan
 
@@ -239,9 +246,9 @@ module _ (parts : List Part) (who : Who) (v : View) (now : ℕ) (time : now < 2 
         let shown : Shows z near s = shows z near m s stands tells in
         let st = ends s z sound shown x opened p run in
         let led : LeadsTo id now v parts [] p s z = st.1.leads in
-        let w : IsPassed p.touched (parts_of s.tree max_owned id parts z now) = record { results = map (own_result z) p.results; tree = led.tree; triggers = p.triggers; is = passes s z sound shown x opened p run } in
+        let w : IsPassed p.touched (parts_of s.tree (limit_at id s) id parts z now) = record { results = map (own_result z) p.results; tree = led.tree; triggers = p.triggers; is = passes s z sound shown x opened p run } in
         let done : commit s.tree (limit_at id s) id (req.Multi parts) z now ≡ Some (record { response = body.Parts (map (own_result z) p.results); tree = led.tree; triggers = p.triggers }) =
-        ap (λ (k : ℕ). commit s.tree k id (req.Multi parts) z now) (ap owned_limit_in opened) ∙ commit_is s.tree max_owned id parts z now ∙ ap commit_several (settled_is s z sound shown x opened p run z now n false loads fits_load w) in
+        commit_is s.tree (limit_at id s) id parts z now ∙ ap commit_several (settled_is s z sound shown x opened p run z now n false loads fits_load w) in
         record {
           is_done = record {
             made = record { response = body.Parts (map (own_result z) p.results); tree = led.tree; triggers = p.triggers };

@@ -15,11 +15,11 @@ use Rattle.zx_base.specs.Maps.{same}
 use Rattle.zk_model.specs.declared.node.Node.{Node}
 use Rattle.zk_model.specs.declared.request.Part.{Part}
 use Rattle.zk_model.specs.declared.request.Part.TheVariants as part
-use Rattle.zk_model.specs.Limits.{max_frame, max_owned}
+use Rattle.zk_model.specs.Limits.{max_frame}
 use Rattle.zk_model.specs.Multi.{data_len, owner_list, touched_by}
 use Rattle.zk_model.specs.Single.{form_refusal, is_ephemeral, single}
 use Rattle.zk_model.specs.Znodes.{Tree}
-use Rattle.zk_service.specs.States.{State, Session, IsSound, session_at}
+use Rattle.zk_service.specs.States.{State, Session, IsSound, limit_of, session_at}
 use Rattle.zk_service.proofs.SoundEffects.{Leads}
 use Rattle.zn_layout.specs.Changes.{KeyChange}
 use Rattle.zn_layout.specs.Keys.{Key, DataKey, SessionKey, key_bytes}
@@ -27,7 +27,7 @@ use Rattle.zn_view.specs.declared.plan.Who.{Who}
 use Rattle.zn_view.specs.declared.leaving.TreeChange.{TreeChange}
 use Rattle.zn_view.specs.Lookups.{HasSeen, sees}
 use Rattle.zn_view.specs.Seen.{View}
-use Rattle.zn_view.specs.Views.{part_keys}
+use Rattle.zn_view.specs.Views.{limit_at, part_keys}
 use Rattle.zn_view.proofs.Members.{In, contains_in, in_either, in_left, in_right}
 use Rattle.zn_updates.specs.declared.seen.SeenData.{SeenData}
 use Rattle.zn_updates.specs.Layers.{Shows, layered}
@@ -45,7 +45,7 @@ use Rattle.zn_multi.specs.declared.carrying.Carried.{Carried}
 use Rattle.zn_multi.specs.declared.carrying.Carried.TheVariants.{Stopped, Passed}
 use Rattle.zn_multi.specs.declared.carrying.Progress.{Progress}
 use Rattle.zn_multi.proofs.Laid.{kept-all_laid}
-use Rattle.zn_multi.proofs.Leading.{leads_on, not_done, outcome, over_shown, start, touched_are}
+use Rattle.zn_multi.proofs.Leading.{leads_on, limit_is, not_done, outcome, over_shown, start, touched_are}
 use Rattle.zn_multi.proofs.Looking.{Known, finds, layered_narrower, looks, touched_known}
 use Rattle.zn_multi.proofs.Owning.{Bears, bears_start, single_bears}
 use Rattle.zn_multi.proofs.ReadKeys.{formed_keys}
@@ -92,6 +92,9 @@ module _ (who : Who) (now : ℕ) (time : now < 2 ^ 62) (v near : View) (narrow :
   abbrev id : ℤ
   id = who.session
 
+  abbrev limit : ℕ
+  limit = limit_at id s
+
   abbrev IsKnown : ℤ → Type 0
   IsKnown = Known z v near narrow s shown
 
@@ -100,7 +103,7 @@ module _ (who : Who) (now : ℕ) (time : now < 2 ^ 62) (v near : View) (narrow :
 
   pub record Stays (m : List TreeChange) (rest : List Part) (old : Progress) : Type 0 where
     pub leads : LeadsTo id now v parts rest old s z
-    pub walks : Walks s.tree IsKnown id m leads.tree
+    pub walks : Walks s.tree IsKnown (limit_of x) id m leads.tree
     pub touched : (o : ℤ) → In o old.touched → IsKnown o × ((y : Session) × (session_at o s ≡ Some y))
     pub written : All (IsWritten near old.touched) leads.changes
     -- each part makes one node at most
@@ -127,7 +130,7 @@ module _ (who : Who) (now : ℕ) (time : now < 2 ^ 62) (v near : View) (narrow :
       abbrev on : LeadsTo id now v parts ps mid s z
       on = leads_on who now time v near narrow parts s z sound shown x opened p ps old mid h.leads part_seen short one
 
-      abbrev made : IsOutcome z (with_tree s tree) one.changes one.told one.draft (single tree max_owned id p z now)
+      abbrev made : IsOutcome z (with_tree s tree) one.changes one.told one.draft (single tree limit id p z now)
       made = outcome who now time v near narrow parts s z sound shown x opened p ps old mid h.leads part_seen short one
 
       form : form_refusal p ≡ None
@@ -135,10 +138,13 @@ module _ (who : Who) (now : ℕ) (time : now < 2 ^ 62) (v near : View) (narrow :
         where
           at : (o : Option ℤ) → form_refusal p ≡ o → o ≡ None
           at None e = refl
-          at (Some code) e = absurd (not_done tree id z now p code _ _ _ e made.done)
+          at (Some code) e = absurd (not_done tree limit id z now p code _ _ _ e made.done)
 
-      pub goes : Goes s.tree IsKnown id next on.tree
-      goes = subst (Leads (Goes s.tree IsKnown id next)) made.done (single_goes s.tree IsKnown id v m tree h.walks h.leads.sound.parents z now next p (λ f. finds z v near narrow s shown id x least opened m tree h.walks old.over left p own next f (formed f) saw))
+      own_limit : single tree (limit_of x) id p z now ≡ single tree limit id p z now
+      own_limit = ap (λ (n : ℕ). single tree n id p z now) (sym (limit_is who now time v near narrow parts s z sound shown x opened))
+
+      pub goes : Goes s.tree IsKnown (limit_of x) id next on.tree
+      goes = subst (Leads (Goes s.tree IsKnown (limit_of x) id next)) (own_limit ∙ made.done) (single_goes s.tree IsKnown (limit_of x) id v m tree h.walks h.leads.sound.parents (h.leads.sound.limited id x opened) z now next p (λ f. finds z v near narrow s shown id x least opened m tree h.walks old.over left p own next f (formed f) saw))
 
       touched_is : mid.touched ≡ old.touched ++ touched_by tree id p
       touched_is = touched_are who now time v near narrow parts s z sound shown x opened p ps old mid h.leads part_seen short one
@@ -218,7 +224,7 @@ module _ (who : Who) (now : ℕ) (time : now < 2 ^ 62) (v near : View) (narrow :
         written = all_written;
         steps = suc h.steps;
         spent = let were = h.spent in omega (arith, were);
-        bears = subst (Leads (Bears s.tree id (suc h.steps))) made.done (single_bears s.tree id h.steps tree h.bears max_owned z now p);
+        bears = subst (Leads (Bears s.tree id (suc h.steps))) made.done (single_bears s.tree id h.steps tree h.bears limit z now p);
         few = let were = h.few in let more = all_laid-few h.leads.changes one.changes in let new = one.kept.few in omega (arith, were, more, new);
         light =
             let were = h.light in
@@ -270,7 +276,7 @@ module _ (who : Who) (now : ℕ) (time : now < 2 ^ 62) (v near : View) (narrow :
   pub stays_start : Stays [] parts no_progress
   stays_start = record {
     leads = start who now time v near narrow parts s z sound shown x opened;
-    walks = walks_start s.tree IsKnown id;
+    walks = walks_start s.tree IsKnown (limit_of x) id;
     touched = λ o bad. absurd bad;
     written = All-nil (IsWritten near []);
     steps = 0;

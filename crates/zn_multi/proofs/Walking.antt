@@ -269,7 +269,7 @@ module _ (first : Tree) (Known : ℤ → Type 0) (limit : ℕ) (id : ℤ) where
         (either r p)
 
     pub walks_set : Walks (changes ++ DataSet p ∷ []) changed
-    walks_set = walks_on changes t changed (DataSet p) w set_nodes set_counts (sym (num_owned-change t p after node id here refl)) (each-put IsOwned t p after w.owned (w.owned p node here))
+    walks_set = walks_on changes t changed (DataSet p) w set_nodes set_counts (ap (λ n. limit - n) (sym (num_owned-change t p after node id here refl))) (each-put IsOwned t p after w.owned (w.owned p node here))
 
   -- ---- each part
 
