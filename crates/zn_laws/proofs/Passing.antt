@@ -1,5 +1,5 @@
 -- Parts of a multi that leave something on a view are carried out in each sound state that the view shows.
-use Rattle.std.proofs.Common.{◌≡◌, ℕ, ℤ, pos, Bool, true, false, not, ◌&&◌, length, List, [], ◌∷◌, ◌++◌, reverse, Option, Some, None, refl, sym, ap, ◌∙◌, subst, inl, inr, ⊎_elim, append_assoc, append-nil, arith}
+use Rattle.std.proofs.Common.{◌≡◌, ℕ, ℤ, pos, ◌-◌, Bool, true, false, not, ◌&&◌, length, List, [], ◌∷◌, ◌++◌, reverse, Option, Some, None, refl, sym, ap, ◌∙◌, subst, inl, inr, ⊎_elim, append_assoc, append-nil, arith}
 use Rattle.std.specs.Prelude.{MatchOption, nat_abs, nat_le, nat_lt, option_map, ◌≤ℤ◌, ◌≤◌, ⊤, is_some, if◌then◌else◌, ◌==◌}
 use Rattle.std.specs.FinMap.{get}
 use Rattle.std.specs.Ordering.{int_eq}
@@ -17,22 +17,23 @@ use Rattle.zk_model.specs.declared.reply.PartResult.{PartResult}
 use Rattle.zk_model.specs.declared.request.Acl.{Acl}
 use Rattle.zk_model.specs.declared.request.Part.{Part}
 use Rattle.zk_model.specs.declared.request.Part.TheVariants as part
-use Rattle.zk_model.specs.Limits.{max_creates, max_frame, max_owned, max_version}
+use Rattle.zk_model.specs.Limits.{max_creates, max_frame, max_version}
 use Rattle.zk_model.specs.Multi.{Parts, Passed, Stopped, parts_of, touched_by}
 use Rattle.zk_model.specs.Paths.{is_child, is_path, parent, root, sequence_path}
 use Rattle.zk_model.specs.Single.{Outcome, Done, Refused, check, create, create_at, create_node, create_under, delete, effect, form_refusal, is_ephemeral, is_full, is_sequential, made_path, matches, named, set_data, single, unless_refused}
 use Rattle.zk_model.specs.Znodes.{Tree, num_children, owned}
 use Rattle.zk_model.proofs.PartLaws.{parts_of-done}
-use Rattle.zk_service.specs.States.{State, Session, IsSound, IsSoundTree, session_at}
+use Rattle.zk_service.specs.States.{State, Session, IsSound, IsSoundTree, limit_of, session_at}
 use Rattle.zk_service.proofs.SoundEffects.{Leads, single-sound}
 use Rattle.zn_layout.specs.declared.record.CountRec.{CountRec}
 use Rattle.zn_layout.specs.Begin.{first_counts}
+use Rattle.zn_layout.specs.Counts.{one_less, one_more}
 use Rattle.zn_layout.specs.Keys.{CountsKey, key_bytes}
 use Rattle.zn_layout.specs.StandsFor.{counts_record}
 use Rattle.zn_view.specs.declared.leaving.NodeNow.{NodeNow}
 use Rattle.zn_view.specs.declared.leaving.TreeChange.{TreeChange}
 use Rattle.zn_view.specs.declared.leaving.TreeChange.TheVariants.{Created, Deleted, DataSet}
-use Rattle.zn_view.specs.Leaving.{are_seen, counts_after, counts_with, create_change, delete_change, is_checked, is_owner_seen, node_after, node_now, node_path, node_with, one_child_less, one_child_more, owned_after, owner_of, set_change, set_once, with_change, AreCountsNow, CheckLeaves, CreateLeaves, DeleteLeaves, IsLeft, IsNodeNow, IsOwnedFor, IsOwnedNow, NodeLeaves, PartLeaves, SetLeaves}
+use Rattle.zn_view.specs.Leaving.{are_seen, counted as counted_by, counts_after, counts_with, create_change, delete_change, is_checked, is_owner_seen, node_after, node_now, node_path, node_with, owner_of, room_after, set_change, set_once, with_change, AreCountsNow, CheckLeaves, CreateLeaves, DeleteLeaves, IsLeft, IsNodeNow, IsRoomFor, IsRoomNow, NodeLeaves, PartLeaves, SetLeaves}
 use Rattle.zn_view.specs.Seen.{View, seen}
 use Rattle.zn_view.specs.Views.{counts_of_parent}
 use Rattle.zn_updates.specs.Layers.{Shows}
@@ -43,7 +44,7 @@ use Rattle.zn_multi.specs.Leading.{with_first}
 use Rattle.zn_multi.proofs.Leading.{with_first_next, small_part}
 use Rattle.zn_multi.proofs.Walking.{counts_at, counts_of, now_of, single_goes, walks_start, Finds, Goes, Walks}
 use Rattle.zn_laws.specs.Carried.{AreCarriedOut}
-use Rattle.zn_laws.proofs.Shown.{counts_shown, node_shown, owned_shown, IsIf}
+use Rattle.zn_laws.proofs.Shown.{counts_shown, node_shown, room_in, room_shown, IsIf}
 use Rattle.zx_base.proofs.Booleans.{not-true, or-neither}
 
 -- ---- what is not known, or is so
@@ -77,15 +78,15 @@ counts_step : (p : Bytes) (a b : Option (Option CountRec)) (c : TreeChange) → 
 counts_step p a b c (inr e) = inr (ap (λ (n : Option (Option CountRec)). counts_with p n c) e)
 counts_step p a b (Created q owner) (inl e) = at (same q p) (is_child p q)
   where
-    at : (t w : Bool) → IsIf (if t then Some (Some first_counts) else (if w then option_map (option_map one_child_more) a else a)) (if t then Some (Some first_counts) else (if w then option_map (option_map one_child_more) b else b))
+    at : (t w : Bool) → IsIf (if t then Some (Some first_counts) else (if w then option_map (option_map one_more) a else a)) (if t then Some (Some first_counts) else (if w then option_map (option_map one_more) b else b))
     at true w = inr refl
-    at false true = inl (ap (option_map (option_map one_child_more)) e)
+    at false true = inl (ap (option_map (option_map one_more)) e)
     at false false = inl e
 counts_step p a b (Deleted q owner) (inl e) = at (same q p) (is_child p q)
   where
-    at : (t w : Bool) → IsIf (if t then Some None else (if w then option_map (option_map one_child_less) a else a)) (if t then Some None else (if w then option_map (option_map one_child_less) b else b))
+    at : (t w : Bool) → IsIf (if t then Some None else (if w then option_map (option_map one_less) a else a)) (if t then Some None else (if w then option_map (option_map one_less) b else b))
     at true w = inr refl
-    at false true = inl (ap (option_map (option_map one_child_less)) e)
+    at false true = inl (ap (option_map (option_map one_less)) e)
     at false false = inl e
 counts_step p a b (DataSet q) (inl e) = inl e
 
@@ -113,7 +114,7 @@ record Opens (up : Option (Option NodeNow)) (counts : Option (Option CountRec)) 
   owns_is : number ≡ Some owns
   plain : int_eq above.owner (pos 0) ≡ true
   on : not (int_eq counted.creates max_creates) ≡ true
-  room : nat_lt owns max_owned ≡ true
+  room : nat_lt 0 owns ≡ true
 
 opens : (p : Bytes) (owner : ℤ) (up : Option (Option NodeNow)) (counts : Option (Option CountRec)) (there : Option (Option NodeNow)) (number : Option ℕ) (changes m : List TreeChange) → Some m ≡ with_change changes (create_change p owner up counts there number) → Opens up counts there number
 opens p owner None counts there number changes m e = absurd (some_none e)
@@ -124,7 +125,7 @@ opens p owner (Some (Some up)) (Some (Some c)) None number changes m e = absurd 
 opens p owner (Some (Some up)) (Some (Some c)) (Some (Some old)) number changes m e = absurd (some_none e)
 opens p owner (Some (Some up)) (Some (Some c)) (Some None) None changes m e = absurd (some_none e)
 opens p owner (Some (Some up)) (Some (Some c)) (Some None) (Some n) changes m e =
-    let all = and_parts _ _ (passed (int_eq up.owner (pos 0) && (not (int_eq c.creates max_creates) && nat_lt n max_owned)) (Created p owner) changes m e) in
+    let all = and_parts _ _ (passed (int_eq up.owner (pos 0) && (not (int_eq c.creates max_creates) && nat_lt 0 n)) (Created p owner) changes m e) in
     let both = and_parts _ _ all.1 in record {
       above = up;
       above_is = refl;
@@ -209,9 +210,9 @@ none_of None e = refl
 none_of (Some x) e = absurd (some_none e)
 
 -- a session that may own one node more
-room_is : (b : Bool) (n k : ℕ) → k ≡ (if b then n else 0) → nat_lt k max_owned ≡ true → (b && nat_le max_owned n) ≡ false
-room_is true n k e h = grind (arith, nat_tests)
-room_is false n k e h = refl
+room_is : (limit : ℕ) (b : Bool) (n k : ℕ) → k ≡ (if b then limit - n else 1) → nat_lt 0 k ≡ true → (b && nat_le limit n) ≡ false
+room_is limit true n k e h = grind (arith, nat_tests)
+room_is limit false n k e h = refl
 
 no_children : (n : ℕ) → int_eq (pos n) (pos 0) ≡ true → not (n == 0) ≡ false
 no_children n e = grind (arith, nat_tests, ints)
@@ -237,39 +238,47 @@ module _ (z : ℤ) (v : View) (s : State) (shown : Shows z v s) (id : ℤ) (y : 
   abbrev Anyone : ℤ → Type 0
   Anyone o = ⊤
 
+  -- how many nodes the session may own
+  abbrev limit : ℕ
+  limit = limit_of y
+
   least : pos 0 ≤ℤ id
   least = let h = sound.numbered id y opened in omega (arith, ints, h)
 
-  module _ (changes : List TreeChange) (t : Tree) (walks : Walks s.tree Anyone id changes t) where
+  module _ (changes : List TreeChange) (t : Tree) (walks : Walks s.tree Anyone limit id changes t) where
     node_is : (p : Bytes) (x : Option (Option NodeNow)) → IsNodeNow v changes p x → IsIf x (Some (now_of (get t p)))
     node_is p x (before, is, e) = ⊎_elim (λ none. inl (e ∙ none)) (λ known. inr (e ∙ known ∙ walks.nodes p)) (node_steps changes p before (Some (now_of (get s.tree p))) (node_shown z v s shown p before is))
 
     counts_are : (p : Bytes) (c : Option (Option CountRec)) → AreCountsNow v changes p c → IsIf c (Some (counts_of t p))
-    counts_are p c (before, is, e) = ⊎_elim (λ none. inl (e ∙ none)) (λ known. inr (e ∙ known ∙ walks.counts p)) (counts_steps changes p before (Some (counts_of s.tree p)) (counts_shown z v s shown p before is))
+    counts_are p c (m, before, node, is, e) =
+        ⊎_elim (λ none. inl (e ∙ none)) (λ known. inr (e ∙ known ∙ walks.counts p)) (counts_steps changes p (counted_by m before) (Some (counts_of s.tree p)) (counts_shown z v s shown p m node before is))
 
-    owned_is : (n : Option ℕ) → IsOwnedNow v changes id n → IsIf n (Some (length (owned t id)))
-    owned_is n (before, is, e) = ⊎_elim
-        (λ none. inl (e ∙ ap (option_map (owned_after changes id)) none))
-        (λ known. inr (e ∙ ap (option_map (owned_after changes id)) known ∙ ap Some walks.number))
-        (owned_shown z v s shown id y least opened before is)
+    abbrev room_now : ℕ
+    room_now = room_in y (owned t id)
 
-    for_is : (ephemeral : Bool) (n : Option ℕ) → IsOwnedFor v changes ephemeral id n → IsIf n (Some (if ephemeral then length (owned t id) else 0))
-    for_is true n is = owned_is n is
+    room_left : (n : Option ℕ) → IsRoomNow v changes id n → IsIf n (Some room_now)
+    room_left n (before, is, e) = ⊎_elim
+        (λ none. inl (e ∙ ap (option_map (room_after changes id)) none))
+        (λ known. inr (e ∙ ap (option_map (room_after changes id)) known ∙ ap Some walks.room))
+        (room_shown z v s shown id y least opened before is)
+
+    for_is : (ephemeral : Bool) (n : Option ℕ) → IsRoomFor v changes ephemeral id n → IsIf n (Some (if ephemeral then room_now else 1))
+    for_is true n is = room_left n is
     for_is false n is = inr is
 
     abbrev Passes : Part → List TreeChange → Type 0
-    Passes p m = Finds s.tree Anyone id v changes t (Some m) p × IsDone (effect t max_owned id p z now)
+    Passes p m = Finds s.tree Anyone limit id v changes t (Some m) p × IsDone (effect t limit id p z now)
 
-    create_done : (path d : Bytes) (f : ℤ) (q : Bytes) (up : Node) → parent (named f path) ≡ Some q → get t q ≡ Some up → get t (made_path f path up) ≡ None → int_eq up.owner (pos 0) ≡ true → is_full t max_owned id f up ≡ false
-        → IsDone (create t max_owned id f d z now path)
+    create_done : (path d : Bytes) (f : ℤ) (q : Bytes) (up : Node) → parent (named f path) ≡ Some q → get t q ≡ Some up → get t (made_path f path up) ≡ None → int_eq up.owner (pos 0) ≡ true → is_full t limit id f up ≡ false
+        → IsDone (create t limit id f d z now path)
     create_done path d f q up below there none plain room =
-        subst (λ (o : Option Bytes). IsDone (create_at t max_owned id f d z now path o)) (sym below)
-        (subst (λ (o : Option Node). IsDone (create_under t max_owned id f d z now path q o)) (sym there)
-        (subst (λ (o : Option Node). IsDone (create_node t max_owned id f d z now q up (made_path f path up) o)) (sym none)
-        (done_unless (not (int_eq up.owner (pos 0))) _ _ (ap not plain) (done_unless (is_full t max_owned id f up) _ _ room (_, _, _, refl)))))
+        subst (λ (o : Option Bytes). IsDone (create_at t limit id f d z now path o)) (sym below)
+        (subst (λ (o : Option Node). IsDone (create_under t limit id f d z now path q o)) (sym there)
+        (subst (λ (o : Option Node). IsDone (create_node t limit id f d z now q up (made_path f path up) o)) (sym none)
+        (done_unless (not (int_eq up.owner (pos 0))) _ _ (ap not plain) (done_unless (is_full t limit id f up) _ _ room (_, _, _, refl)))))
 
     node_passes : (path d : Bytes) (a : List Acl) (f : ℤ) (m : List TreeChange) (q : Bytes) (up : Option (Option NodeNow)) (counts : Option (Option CountRec)) → parent (named f path) ≡ Some q → IsIf up (Some (now_of (get t q))) → IsIf counts (Some (counts_of t q))
-        → (p : Bytes) → node_path (is_sequential f) path counts ≡ Some p → (there : Option (Option NodeNow)) (n : Option ℕ) → IsNodeNow v changes p there → IsOwnedFor v changes (is_ephemeral f) id n
+        → (p : Bytes) → node_path (is_sequential f) path counts ≡ Some p → (there : Option (Option NodeNow)) (n : Option ℕ) → IsNodeNow v changes p there → IsRoomFor v changes (is_ephemeral f) id n
         → Some m ≡ with_change changes (create_change p (owner_of (is_ephemeral f) id) up counts there n) → Passes (part.Create path d a f) m
     unfolding effect
     node_passes path d a f m q up counts below above counted p at_p there n there_is n_is is = (((λ e. tt), found), create_done path d f q here.0 below here.1 absent plain full)
@@ -286,8 +295,8 @@ module _ (z : ℤ) (v : View) (s : State) (shown : Shows z v s) (id : ℤ) (y : 
         there_now : there ≡ Some (now_of (get t p))
         there_now = sure there (Some (now_of (get t p))) None (node_is p there there_is) o.absent
 
-        n_now : n ≡ Some (if is_ephemeral f then length (owned t id) else 0)
-        n_now = sure n (Some (if is_ephemeral f then length (owned t id) else 0)) o.owns (for_is (is_ephemeral f) n n_is) o.owns_is
+        n_now : n ≡ Some (if is_ephemeral f then room_now else 1)
+        n_now = sure n (Some (if is_ephemeral f then room_now else 1)) o.owns (for_is (is_ephemeral f) n n_is) o.owns_is
 
         here : (x : Node) × (get t q ≡ Some x) × (node_now x.version x.owner ≡ o.above)
         here = there_of (get t q) o.above (some_same (now_of (get t q)) (Some o.above) (sym up_now ∙ o.above_is))
@@ -307,23 +316,23 @@ module _ (z : ℤ) (v : View) (s : State) (shown : Shows z v s) (id : ℤ) (y : 
         counted_is = some_same (counts_record here.0 (num_children t q)) o.counted (some_same (Some (counts_record here.0 (num_children t q))) (Some o.counted)
             (ap (λ (k : Option Node). Some (counts_at k (num_children t q))) (sym here.1) ∙ sym counts_now ∙ o.counted_is))
 
-        full : is_full t max_owned id f here.0 ≡ false
-        full = or-neither (int_eq (here.0).creates max_creates) (is_ephemeral f && nat_le max_owned (length (owned t id)))
+        full : is_full t limit id f here.0 ≡ false
+        full = or-neither (int_eq (here.0).creates max_creates) (is_ephemeral f && nat_le limit (length (owned t id)))
             (not-true _ (ap (λ (k : CountRec). not (int_eq k.creates max_creates)) counted_is ∙ o.on))
-            (room_is (is_ephemeral f) (length (owned t id)) o.owns (some_same o.owns (if is_ephemeral f then length (owned t id) else 0) (sym o.owns_is ∙ n_now)) o.room)
+            (room_is limit (is_ephemeral f) (length (owned t id)) o.owns (some_same o.owns (if is_ephemeral f then room_now else 1) (sym o.owns_is ∙ n_now)) o.room)
 
         found_at : (x : Node) → get t q ≡ Some x
-            → Some m ≡ with_change changes (create_change (made_path f path x) (owner_of (is_ephemeral f) id) (Some (now_of (get t q))) (Some (counts_of t q)) (Some (now_of (get t (made_path f path x)))) (Some (if is_ephemeral f then length (owned t id) else 0)))
+            → Some m ≡ with_change changes (create_change (made_path f path x) (owner_of (is_ephemeral f) id) (Some (now_of (get t q))) (Some (counts_of t q)) (Some (now_of (get t (made_path f path x)))) (Some (if is_ephemeral f then room_now else 1)))
         found_at x is_there =
-            subst (λ (r : Bytes). Some m ≡ with_change changes (create_change r (owner_of (is_ephemeral f) id) (Some (now_of (get t q))) (Some (counts_of t q)) (Some (now_of (get t r))) (Some (if is_ephemeral f then length (owned t id) else 0))))
+            subst (λ (r : Bytes). Some m ≡ with_change changes (create_change r (owner_of (is_ephemeral f) id) (Some (now_of (get t q))) (Some (counts_of t q)) (Some (now_of (get t r))) (Some (if is_ephemeral f then room_now else 1))))
             (path_is x is_there)
             (is ∙ (λ i. with_change changes (create_change p (owner_of (is_ephemeral f) id) (up_now i) (counts_now i) (there_now i) (n_now i))))
 
         found : (r : Bytes) → parent (named f path) ≡ Some r → (x : Node) → get t r ≡ Some x
-            → Some m ≡ with_change changes (create_change (made_path f path x) (owner_of (is_ephemeral f) id) (Some (now_of (get t r))) (Some (counts_of t r)) (Some (now_of (get t (made_path f path x)))) (Some (if is_ephemeral f then length (owned t id) else 0)))
+            → Some m ≡ with_change changes (create_change (made_path f path x) (owner_of (is_ephemeral f) id) (Some (now_of (get t r))) (Some (counts_of t r)) (Some (now_of (get t (made_path f path x)))) (Some (if is_ephemeral f then room_now else 1)))
         found r is_parent =
             subst (λ (w : Bytes). (x : Node) → get t w ≡ Some x
-            → Some m ≡ with_change changes (create_change (made_path f path x) (owner_of (is_ephemeral f) id) (Some (now_of (get t w))) (Some (counts_of t w)) (Some (now_of (get t (made_path f path x)))) (Some (if is_ephemeral f then length (owned t id) else 0))))
+            → Some m ≡ with_change changes (create_change (made_path f path x) (owner_of (is_ephemeral f) id) (Some (now_of (get t w))) (Some (counts_of t w)) (Some (now_of (get t (made_path f path x)))) (Some (if is_ephemeral f then room_now else 1))))
             (some_same q r (sym below ∙ is_parent)) found_at
 
     create_passes : (path d : Bytes) (a : List Acl) (f : ℤ) (m : List TreeChange) (o : Option Bytes) → parent (named f path) ≡ o → CreateLeaves v changes path (is_sequential f) (is_ephemeral f) id o (Some m) → Passes (part.Create path d a f) m
@@ -404,9 +413,9 @@ module _ (z : ℤ) (v : View) (s : State) (shown : Shows z v s) (id : ℤ) (y : 
     part_passes (part.SetData path d x) m form leaves = set_passes path d x m leaves
     part_passes (part.Check path x) m form leaves = check_passes path x m leaves
 
-    single_done : (p : Part) → form_refusal p ≡ None → IsDone (effect t max_owned id p z now) → IsDone (single t max_owned id p z now)
+    single_done : (p : Part) → form_refusal p ≡ None → IsDone (effect t limit id p z now) → IsDone (single t limit id p z now)
     unfolding single
-    single_done p form done = subst (λ (o : Option ℤ). IsDone (unless_refused o (effect t max_owned id p z now))) (sym form) done
+    single_done p form done = subst (λ (o : Option ℤ). IsDone (unless_refused o (effect t limit id p z now))) (sym form) done
 
   -- ---- all parts
 
@@ -419,9 +428,9 @@ module _ (z : ℤ) (v : View) (s : State) (shown : Shows z v s) (id : ℤ) (y : 
     results : List PartResult
     triggers : List Trigger
     touched : List ℤ
-    runs : (rest : List Part) → parts_of s.tree max_owned id (reverse before ++ rest) z now ≡ with_first results triggers touched (parts_of tree max_owned id rest z now)
+    runs : (rest : List Part) → parts_of s.tree limit id (reverse before ++ rest) z now ≡ with_first results triggers touched (parts_of tree limit id rest z now)
     sound_tree : IsSoundTree s.sessions tree
-    walks : Walks s.tree Anyone id changes tree
+    walks : Walks s.tree Anyone limit id changes tree
 
   step : (p : Part) (before : List Part) (old m : List TreeChange) → Reaches before old → form_refusal p ≡ None → IsShortPart p → PartLeaves id v old p (Some m) → Reaches (p ∷ before) m
   step p before old m h form short leaves = record {
@@ -429,28 +438,28 @@ module _ (z : ℤ) (v : View) (s : State) (shown : Shows z v s) (id : ℤ) (y : 
     results = h.results ++ done.0 ∷ [];
     triggers = h.triggers ++ done.2;
     touched = h.touched ++ touched_by h.tree id p;
-    runs = λ rest. ap (λ (ps : List Part). parts_of s.tree max_owned id ps z now) (order rest) ∙ h.runs (p ∷ rest)
-        ∙ ap (with_first h.results h.triggers h.touched) (parts_of-done h.tree done.1 max_owned id p rest z now done.0 done.2 done.3)
-        ∙ with_first_next h.results h.triggers h.touched done.0 done.2 (touched_by h.tree id p) (parts_of done.1 max_owned id rest z now);
-    sound_tree = subst (Leads (IsSoundTree s.sessions)) done.3 (single-sound s.sessions max_owned id z now (y, opened, refl) h.tree p h.sound_tree (small_part p short));
-    walks = subst (λ (c : List TreeChange). Walks s.tree Anyone id c done.1) (sym (some_same m goes.changes goes.is)) goes.walks;
+    runs = λ rest. ap (λ (ps : List Part). parts_of s.tree limit id ps z now) (order rest) ∙ h.runs (p ∷ rest)
+        ∙ ap (with_first h.results h.triggers h.touched) (parts_of-done h.tree done.1 limit id p rest z now done.0 done.2 done.3)
+        ∙ with_first_next h.results h.triggers h.touched done.0 done.2 (touched_by h.tree id p) (parts_of done.1 limit id rest z now);
+    sound_tree = subst (Leads (IsSoundTree s.sessions)) done.3 (single-sound s.sessions limit id z now (y, opened, refl) h.tree p h.sound_tree (small_part p short));
+    walks = subst (λ (c : List TreeChange). Walks s.tree Anyone limit id c done.1) (sym (some_same m goes.changes goes.is)) goes.walks;
   }
     where
       passes : Passes old h.tree h.walks p m
       passes = part_passes old h.tree h.walks p m form leaves
 
-      done : IsDone (single h.tree max_owned id p z now)
+      done : IsDone (single h.tree limit id p z now)
       done = single_done old h.tree h.walks p form passes.1
 
-      goes : Goes s.tree Anyone id (Some m) done.1
-      goes = subst (Leads (Goes s.tree Anyone id (Some m))) done.3 (single_goes s.tree Anyone id v old h.tree h.walks h.sound_tree.parents z now (Some m) p (λ e. passes.0))
+      goes : Goes s.tree Anyone limit id (Some m) done.1
+      goes = subst (Leads (Goes s.tree Anyone limit id (Some m))) done.3 (single_goes s.tree Anyone limit id v old h.tree h.walks h.sound_tree.parents (h.sound_tree.limited id y opened) z now (Some m) p (λ e. passes.0))
 
       order : (rest : List Part) → reverse (p ∷ before) ++ rest ≡ reverse before ++ p ∷ rest
       order rest = ap (λ (ps : List Part). ps ++ rest) (reverse-append (p ∷ []) before) ∙ append_assoc (reverse before) (p ∷ []) rest
 
-  one_more : (p : Part) (before : List Part) (old m : List TreeChange) → Reaches before old → IsShortPart p → (o : Option ℤ) → form_refusal p ≡ o → MatchOption o (PartLeaves id v old p (Some m)) (λ code. Some m ≡ None) → Reaches (p ∷ before) m
-  one_more p before old m h short None form leaves = step p before old m h form short leaves
-  one_more p before old m h short (Some code) form none = absurd (some_none none)
+  one_further : (p : Part) (before : List Part) (old m : List TreeChange) → Reaches before old → IsShortPart p → (o : Option ℤ) → form_refusal p ≡ o → MatchOption o (PartLeaves id v old p (Some m)) (λ code. Some m ≡ None) → Reaches (p ∷ before) m
+  one_further p before old m h short None form leaves = step p before old m h form short leaves
+  one_further p before old m h short (Some code) form none = absurd (some_none none)
 
   reaches : (before : List Part) (changes : List TreeChange) → IsLeft id v before (Some changes) → AreShort before → Reaches before changes
   reaches [] changes left short = record {
@@ -458,16 +467,16 @@ module _ (z : ℤ) (v : View) (s : State) (shown : Shows z v s) (id : ℤ) (y : 
     results = [];
     triggers = [];
     touched = [];
-    runs = λ rest. alone (parts_of s.tree max_owned id rest z now);
+    runs = λ rest. alone (parts_of s.tree limit id rest z now);
     sound_tree = sound;
-    walks = subst (λ (c : List TreeChange). Walks s.tree Anyone id c s.tree) (some_same [] changes (sym left)) (walks_start s.tree Anyone id);
+    walks = subst (λ (c : List TreeChange). Walks s.tree Anyone limit id c s.tree) (some_same [] changes (sym left)) (walks_start s.tree Anyone limit id);
   }
   reaches (p ∷ before) changes (None, earlier, by) short = absurd (some_none by)
   reaches (p ∷ before) changes (Some old, earlier, by) short =
-      one_more p before old changes (reaches before old earlier (All-tail IsShortPart p before short)) (All-head IsShortPart p before short) (form_refusal p) refl by
+      one_further p before old changes (reaches before old earlier (All-tail IsShortPart p before short)) (All-head IsShortPart p before short) (form_refusal p) refl by
 
-  pub left_passes : (before : List Part) (changes : List TreeChange) → IsLeft id v before (Some changes) → AreShort before → AreCarriedOut s.tree id (reverse before) z now
+  pub left_passes : (before : List Part) (changes : List TreeChange) → IsLeft id v before (Some changes) → AreShort before → AreCarriedOut s.tree limit id (reverse before) z now
   unfolding parts_of
   left_passes before changes left short =
       let h = reaches before changes left short in
-      (h.results ++ [], h.tree, h.triggers ++ [], h.touched ++ [], ap (λ (ps : List Part). parts_of s.tree max_owned id ps z now) (sym (append-nil (reverse before))) ∙ h.runs [])
+      (h.results ++ [], h.tree, h.triggers ++ [], h.touched ++ [], ap (λ (ps : List Part). parts_of s.tree limit id ps z now) (sym (append-nil (reverse before))) ∙ h.runs [])

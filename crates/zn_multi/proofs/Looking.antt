@@ -80,7 +80,7 @@ node_shown z (Some n) (Some kv) x saw means =
     saw.2 ∙ ap (λ (r : NodeRec). Some (Some (node_now r.version r.owner))) (node_value-injective saw.0 (data_record n means.stored) saw.1.0 means.fits (sym saw.1.1 ∙ means.value))
 
 -- a node without a record of its counts has none
-uncounted_is : (n : Node) (children : ℕ) → n.creates ≡ pos 0 → children ≡ 0 → first_counts ≡ counts_record n children
+pub uncounted_is : (n : Node) (children : ℕ) → n.creates ≡ pos 0 → children ≡ 0 → first_counts ≡ counts_record n children
 uncounted_is n children none childless = λ i. record { creates = sym none i; children = pos (sym childless i) }
 
 counts_shown : (z : ℤ) (n : Option Node) (children : ℕ) (counted : Bool) (o : Option Kv) (m : Option (Option NodeNow)) (c : Option (Option CountRec)) → m ≡ Some (now_of n) → AreCountsShown (Some o) c → CountsMean n children counted (stored_own z o)
