@@ -1,9 +1,10 @@
 -- A setWatches on the tree is what comes of the paths as they were found.
-use Rattle.std.proofs.Common.{◌≡◌, ℕ, ℤ, Bool, true, false, cond, List, [], ◌∷◌, ◌++◌, Option, Some, None, refl, sym, ap, ◌∙◌}
+use Rattle.std.proofs.Common.{◌≡◌, ℕ, ℤ, Bool, true, false, cond, List, [], ◌∷◌, ◌++◌, drop, Option, Some, None, refl, sym, ap, ◌∙◌}
 use Rattle.std.specs.Prelude.{map, filter, option_map, if◌then◌else◌}
 use Rattle.std.specs.List.{flat_map}
 use Rattle.std.specs.FinMap.{get}
 use Rattle.ev_types.specs.declared.answer.Kv.{Kv}
+use Rattle.zk_jute.specs.JuteReading.{front_long}
 use Rattle.zx_base.specs.Maps.{Bytes}
 use Rattle.zk_model.specs.declared.node.Node.{Node}
 use Rattle.zk_model.specs.declared.request.Request.TheVariants as req
@@ -12,7 +13,10 @@ use Rattle.zk_model.specs.Watches.{valid_at}
 use Rattle.zk_model.specs.Znodes.{num_children}
 use Rattle.zk_service.specs.States.{State}
 use Rattle.zn_layout.specs.Keys.{Key, DataKey, CountsKey, key_bytes}
-use Rattle.zn_layout.specs.StandsFor.{DataMeans, CountsMean, stored_of}
+use Rattle.zn_layout.specs.StandsFor.{czxid_of, data_record, is_counted_in, stored_of, CountsMean, DataMeans, IsData}
+use Rattle.zn_layout.proofs.Lookups.{stored}
+use Rattle.zn_layout.proofs.Nodes.{has_numbers, node_numbers, node_value-is}
+use Rattle.zn_layout.proofs.Numbers.{long_back}
 use Rattle.zn_view.specs.declared.plan.Who.{Who}
 use Rattle.zn_view.specs.Seen.{View, seen}
 use Rattle.zn_view.specs.Views.{IsOf, reads, about_path, valid}
@@ -23,7 +27,7 @@ use Rattle.zw_watch.proofs.SetWatches.{set_watches-paths}
 use Rattle.zn_view.specs.Needs.{LacksNothing}
 use Rattle.zn_view.specs.Lookups.{found_at}
 use Rattle.zn_reads.specs.Found.{HasLooked}
-use Rattle.zn_reads.specs.SeenPaths.{put_at, seen_path, seen_paths, IsSetBy}
+use Rattle.zn_reads.specs.SeenPaths.{children_changed, made_at, put_at, seen_path, seen_paths, IsSetBy}
 use Rattle.zn_reads.proofs.Agreeing.{found-means}
 use Rattle.zn_reads.proofs.Looking.{looked-reads}
 
@@ -35,11 +39,22 @@ data_put None (Some kv) h = absurd h
 data_put (Some n) None h = absurd h
 data_put (Some n) (Some kv) h = ap (λ (z : ℤ). Some z) (sym h.changed)
 
-counts_put : (n : Option Node) (k : ℕ) (o : Option Kv) → CountsMean n k (stored_of o) → put_at o ≡ option_map (λ (x : Node). x.pzxid) n
-counts_put None k None h = refl
-counts_put None k (Some kv) h = absurd h
-counts_put (Some n) k None h = absurd h
-counts_put (Some n) k (Some kv) h = ap (λ (z : ℤ). Some z) (sym h.pzxid)
+-- the czxid of a node is in its record
+made_put : (kv : Kv) (n : Node) → IsData (stored kv) n → made_at kv ≡ n.czxid
+made_put kv n of_data =
+    let r = data_record n of_data.stored in
+    let first : front_long (drop 1 kv.value) ≡ of_data.stored = ap (λ (v : Bytes). front_long (drop 1 v)) (of_data.value ∙ node_value-is r) ∙ long_back of_data.stored (drop 8 (node_numbers r)) (has_numbers r of_data.fits).czxid in
+    ap (λ (c : ℤ). czxid_of c kv.mod_revision) first ∙ sym of_data.made
+
+children_put : (n : Option Node) (k : ℕ) (counted : Bool) (own counts : Option Kv) → DataMeans n (stored_of own) → CountsMean n k counted (stored_of counts) → children_changed own counts ≡ option_map (λ (x : Node). x.pzxid) n
+children_put None k counted None None own_data h = refl
+children_put None k counted None (Some kv) own_data h = absurd h
+children_put None k counted (Some own) counts own_data h = absurd own_data
+children_put (Some n) k counted None counts own_data h = absurd own_data
+children_put (Some n) k true (Some own) None own_data h = absurd h
+children_put (Some n) k true (Some own) (Some kv) own_data h = ap (λ (z : ℤ). Some z) (sym h.pzxid)
+children_put (Some n) k false (Some own) None own_data h = ap (λ (z : ℤ). Some z) (made_put own n own_data ∙ sym h.pzxid)
+children_put (Some n) k false (Some own) (Some kv) own_data h = absurd h
 
 -- when it changed, at a path that may not be valid
 if_valid : (b : Bool) (o : Option ℤ) (f : Node → ℤ) (n : Option Node) → (b ≡ true → o ≡ option_map f n) → (if b then o else None) ≡ option_map f (if b then n else None)
@@ -79,18 +94,22 @@ module _ (v : View) (s : State) (of : IsOf v s) where
     | false ↦ λ e h. (λ t. absurd (cc), each_looked key ps h)
   ] refl h
 
-  each_about : (ps : List Bytes) → HasLooked v (flat_map about_path (valid ps)) → Each (IsLooked CountsKey) ps
+  abbrev AreLooked : Bytes → Type 0
+  AreLooked p = IsLooked DataKey p × IsLooked CountsKey p
+
+  each_about : (ps : List Bytes) → HasLooked v (flat_map about_path (valid ps)) → Each AreLooked ps
   each_about [] h = tt
-  each_about (p ∷ ps) h = elim (is_path p) as (λ b. is_path p ≡ b → HasLooked v (flat_map about_path (cond b (p ∷ filter is_path ps) (filter is_path ps))) → IsLooked CountsKey p × Each (IsLooked CountsKey) ps) [
-    | true ↦ λ e h. (λ _. h.1.0, each_about ps h.1.1)
-    | false ↦ λ e h. (λ t. absurd (cc), each_about ps h)
+  each_about (p ∷ ps) h = elim (is_path p) as (λ b. is_path p ≡ b → HasLooked v (flat_map about_path (cond b (p ∷ filter is_path ps) (filter is_path ps))) → AreLooked p × Each AreLooked ps) [
+    | true ↦ λ e h. ((λ _. h.0, λ _. h.1.0), each_about ps h.1.1)
+    | false ↦ λ e h. ((λ t. absurd (cc), λ t. absurd (cc)), each_about ps h)
   ] refl h
 
   data_at : (p : Bytes) → IsLooked DataKey p → (if is_path p then put_at (found_at v (DataKey p)) else None) ≡ option_map (λ (x : Node). x.mzxid) (valid_at p s.tree)
   data_at p looked = if_valid (is_path p) _ (λ (x : Node). x.mzxid) (get s.tree p) (λ e. data_put (get s.tree p) (found_at v (DataKey p)) (found-means v s (DataKey p) of (looked e)))
 
-  counts_at : (p : Bytes) → IsLooked CountsKey p → (if is_path p then put_at (found_at v (CountsKey p)) else None) ≡ option_map (λ (x : Node). x.pzxid) (valid_at p s.tree)
-  counts_at p looked = if_valid (is_path p) _ (λ (x : Node). x.pzxid) (get s.tree p) (λ e. counts_put (get s.tree p) (num_children s.tree p) (found_at v (CountsKey p)) (found-means v s (CountsKey p) of (looked e)))
+  children_at : (p : Bytes) → AreLooked p → (if is_path p then children_changed (found_at v (DataKey p)) (found_at v (CountsKey p)) else None) ≡ option_map (λ (x : Node). x.pzxid) (valid_at p s.tree)
+  children_at p looked = if_valid (is_path p) _ (λ (x : Node). x.pzxid) (get s.tree p) (λ e. children_put (get s.tree p) (num_children s.tree p) (is_counted_in s (get s.tree p)) (found_at v (DataKey p)) (found_at v (CountsKey p))
+      (found-means v s (DataKey p) of (looked.0 e)) (found-means v s (CountsKey p) of (looked.1 e)))
 
   datas_seen : (ps : List Bytes) → Each (IsLooked DataKey) ps → map (seen_path v Datas) ps ≡ map (path_on s.tree Datas) ps
   datas_seen ps looked = map_same (seen_path v Datas) (path_on s.tree Datas) ps (each-map (IsLooked DataKey) _ ps (λ p h i. record { path = p; list = Datas; at = data_at p h i }) looked)
@@ -98,8 +117,8 @@ module _ (v : View) (s : State) (of : IsOf v s) where
   exists_seen : (ps : List Bytes) → Each (IsLooked DataKey) ps → map (seen_path v Exists) ps ≡ map (path_on s.tree Exists) ps
   exists_seen ps looked = map_same (seen_path v Exists) (path_on s.tree Exists) ps (each-map (IsLooked DataKey) _ ps (λ p h i. record { path = p; list = Exists; at = data_at p h i }) looked)
 
-  children_seen : (ps : List Bytes) → Each (IsLooked CountsKey) ps → map (seen_path v Children) ps ≡ map (path_on s.tree Children) ps
-  children_seen ps looked = map_same (seen_path v Children) (path_on s.tree Children) ps (each-map (IsLooked CountsKey) _ ps (λ p h i. record { path = p; list = Children; at = counts_at p h i }) looked)
+  children_seen : (ps : List Bytes) → Each AreLooked ps → map (seen_path v Children) ps ≡ map (path_on s.tree Children) ps
+  children_seen ps looked = map_same (seen_path v Children) (path_on s.tree Children) ps (each-map AreLooked _ ps (λ p h i. record { path = p; list = Children; at = children_at p h i }) looked)
 
 -- ---- all of them
 

@@ -1,5 +1,5 @@
 -- What two records show is the stat of the node that they mean.
-use Rattle.std.proofs.Common.{◌≡◌, ℕ, ℤ, pos, ◌≤◌, ◌∷◌, drop, arith, refl, sym, ap, ◌∙◌}
+use Rattle.std.proofs.Common.{◌≡◌, ℕ, ℤ, pos, ◌≤◌, Bool, true, false, ◌∷◌, drop, Option, Some, None, arith, refl, sym, ap, ◌∙◌}
 use Rattle.std.specs.Prelude.{length, nat_abs}
 use Rattle.ev_types.specs.declared.answer.Kv.{Kv}
 use Rattle.zk_model.specs.declared.node.Node.{Node}
@@ -9,12 +9,13 @@ use Rattle.zn_layout.specs.declared.record.NodeRec.{NodeRec}
 use Rattle.zn_layout.specs.declared.record.CountRec.{CountRec}
 use Rattle.zn_layout.specs.Reading.{IsValueOf, node_record}
 use Rattle.zn_layout.specs.Records.{node_value, counts_value, IsNodeRec, IsCountRec}
-use Rattle.zn_layout.specs.StandsFor.{czxid_of, data_record, counts_record, IsData, IsCounts}
+use Rattle.zn_layout.specs.Begin.{first_counts}
+use Rattle.zn_layout.specs.StandsFor.{czxid_of, data_record, counts_record, stored_of, CountsMean, IsData, IsCounts, IsUncounted}
 use Rattle.zn_layout.specs.declared.test.NodeNumbers.{NodeNumbers}
 use Rattle.zx_base.specs.Maps.{Bytes}
 use Rattle.zn_layout.proofs.Nodes.{node_numbers, node_value-is, node_value-length}
 use Rattle.zn_layout.proofs.Lookups.{stored, data_read, counts_read}
-use Rattle.zn_reads.specs.Found.{stat_by}
+use Rattle.zn_reads.specs.Found.{stat_by, AreCountsBy}
 
 -- by the records
 by_records : NodeRec → ℤ → CountRec → ℤ → Stat
@@ -59,6 +60,25 @@ stat_by-is own counts d content c n k own_read counts_read_as of_data of_counts 
     by_records-numbers d content own.mod_revision c counts.mod_revision
     ∙ (λ i. by_records (data_is i) own.mod_revision (counts_are i) counts.mod_revision)
     ∙ by_records-same n k of_data.stored own.mod_revision counts.mod_revision of_data.made of_data.changed of_counts.pzxid
+
+-- of a node without a record of its counts
+uncounted-is : (own : Kv) (d : NodeNumbers) (content : Bytes) (n : Node) (k : ℕ) → IsValueOf node_value IsNodeRec own.value (node_record d content) → IsData (stored own) n → IsUncounted n k
+    → stat_by d (length content) own.mod_revision first_counts (czxid_of d.czxid own.mod_revision) ≡ stat n k
+uncounted-is own d content n k own_read of_data uncounted =
+    let data_is = data_read (stored own) n (node_record d content) of_data own_read in
+    let counts_are : first_counts ≡ counts_record n k = λ i. record { creates = sym uncounted.creates i; children = pos (sym uncounted.childless i) } in
+    let made : n.czxid ≡ czxid_of d.czxid own.mod_revision = of_data.made ∙ ap (λ (r : NodeRec). czxid_of r.czxid own.mod_revision) (sym data_is) in
+    by_records-numbers d content own.mod_revision first_counts (czxid_of d.czxid own.mod_revision)
+    ∙ (λ i. by_records (data_is i) own.mod_revision (counts_are i) (czxid_of d.czxid own.mod_revision))
+    ∙ by_records-same n k of_data.stored own.mod_revision (czxid_of d.czxid own.mod_revision) of_data.made of_data.changed (uncounted.pzxid ∙ made)
+
+-- by what was found of its counts
+pub stat_found-is : (own : Kv) (counts : Option Kv) (d : NodeNumbers) (content : Bytes) (c : CountRec) (changed : ℤ) (n : Node) (k : ℕ) (b : Bool) → IsValueOf node_value IsNodeRec own.value (node_record d content) → AreCountsBy d own.mod_revision counts c changed
+    → IsData (stored own) n → CountsMean (Some n) k b (stored_of counts) → stat_by d (length content) own.mod_revision c changed ≡ stat n k
+stat_found-is own None d content c changed n k true own_read by of_data means = absurd means
+stat_found-is own None d content c changed n k false own_read by of_data means = (λ i. stat_by d (length content) own.mod_revision (by.0 i) (by.1 i)) ∙ uncounted-is own d content n k own_read of_data means
+stat_found-is own (Some kv) d content c changed n k true own_read by of_data means = ap (stat_by d (length content) own.mod_revision c) by.1 ∙ stat_by-is own kv d content c n k own_read by.0 of_data means
+stat_found-is own (Some kv) d content c changed n k false own_read by of_data means = absurd means
 
 -- ---- by the node's numbers and the length of its data
 

@@ -3,3 +3,4 @@ pub mod Found
 pub mod Replies
 pub mod Wanting
 pub mod SeenPaths
+pub mod Places

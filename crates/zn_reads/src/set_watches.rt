@@ -5,12 +5,12 @@ ghost use Rattle.zk_model.specs.Paths.{is_path};
 ghost use Rattle.zk_model.specs.Watches.{set_watches};
 ghost use Rattle.zk_model.specs.declared.reply.Body.TheVariants as bodies;
 ghost use Rattle.zk_model.specs.declared.reply.Reply.TheVariants as replies;
-ghost use Rattle.zn_layout.specs.Keys.{key_bytes};
-ghost use Rattle.zn_reads.specs.SeenPaths.{at_by, changing_key, key_at, put_at, seen_path, seen_paths, IsSetBy};
+ghost use Rattle.zn_reads.specs.Places.{place_of};
+ghost use Rattle.zn_reads.specs.SeenPaths.{at_by, children_changed, counts_at, place_at, seen_path, seen_paths, IsSetBy};
 ghost use Rattle.zw_watch.specs.declared.seen_path.WatchList.TheVariants as lists;
 ghost use Rattle.zn_view.specs.declared.plan.Decision.TheVariants as decisions;
 ghost use Rattle.zn_view.specs.Indexing.{found_under, IsIndex};
-ghost use Rattle.zn_view.specs.Seen.{View as AnyView};
+ghost use Rattle.zn_view.specs.Seen.{View as AnyView, found_of, seen};
 
 use crate::keys::{counts_key_of, data_key_of};
 use crate::stat::made_at;

@@ -26,11 +26,12 @@ use Rattle.zn_updates.specs.Choices.{create_changes, create_choice, create_owned
 use Rattle.zn_updates.specs.OwnedLists.{with_node, without_node}
 use Rattle.zn_updates.specs.Parts.{check_choice, AreCountsWithin, AreKept, IfChanges, IsKeptChange}
 use Rattle.zn_updates.specs.Seen.{IsDataWithin}
-use Rattle.zn_updates.proofs.CreateFits.{new_record-within, no_counts-within, one_more-within}
+use Rattle.zn_updates.proofs.CreateFits.{new_record-within, one_more-within}
 use Rattle.zn_updates.proofs.DeleteFits.{one_less-within}
 use Rattle.zn_updates.proofs.ListBounds.{placed-within, without-within}
 use Rattle.zn_updates.proofs.Meanings.{zero_within}
 use Rattle.zn_updates.proofs.SetDataFits.{set_record-within}
+use Rattle.zn_updates.proofs.Telling.{no_counts-within}
 use Rattle.zn_updates.proofs.WellMade.{changes_cond, one_trigger, two_triggers}
 
 of_kind : (k : Key) (value : Bytes) → IsOfKind (Some (kind_of_key k)) value → (k ≡ HeadKey → ⊥) → IsKeptChange (put_key k value)

@@ -14,13 +14,14 @@ use Rattle.zn_layout.specs.declared.record.CountRec.{CountRec}
 use Rattle.zn_layout.specs.declared.record.NodeRec.{NodeRec}
 use Rattle.zn_layout.specs.declared.record.SessionRec.{SessionRec}
 use Rattle.zn_layout.specs.Begin.{first_counts}
+use Rattle.zn_layout.specs.Counts.{one_less, one_more}
 use Rattle.zn_layout.specs.Keys.{Key, CountsKey, DataKey, SessionKey, key_bytes}
 use Rattle.zn_layout.proofs.ListRecords.{session_value-injective}
 use Rattle.zn_layout.proofs.Nodes.{counts_value-injective, node_value-injective}
 use Rattle.zn_view.specs.declared.leaving.NodeNow.{NodeNow}
 use Rattle.zn_view.specs.declared.leaving.TreeChange.{TreeChange}
 use Rattle.zn_view.specs.declared.leaving.TreeChange.TheVariants.{Created, Deleted, DataSet}
-use Rattle.zn_view.specs.Leaving.{are_seen, counted, counts_after, counts_with, create_change, delete_change, is_checked, is_owner_seen, node_after, node_now, node_path, node_with, one_child_less, one_child_more, room_after, owner_of, set_change, set_once, with_change, AreCountsNow, AreCountsShown, CheckLeaves, CreateLeaves, DeleteLeaves, IsLeft, IsLeftBy, IsNodeNow, IsNodeShown, IsRoomFor, IsRoomNow, IsRoomShown, NodeLeaves, PartLeaves, SetLeaves}
+use Rattle.zn_view.specs.Leaving.{are_seen, counted, counts_after, counts_with, create_change, delete_change, is_checked, is_owner_seen, node_after, node_now, node_path, node_with, room_after, owner_of, set_change, set_once, with_change, AreCountsNow, AreCountsShown, CheckLeaves, CreateLeaves, DeleteLeaves, IsLeft, IsLeftBy, IsNodeNow, IsNodeShown, IsRoomFor, IsRoomNow, IsRoomShown, NodeLeaves, PartLeaves, SetLeaves}
 use Rattle.zn_view.specs.Seen.{View, seen}
 use Rattle.zn_view.specs.Views.{counts_of_parent}
 
@@ -57,8 +58,8 @@ node_with_sooner p (Deleted q owner) a b h = test_sooner (same q p) _ a b h
 node_with_sooner p (DataSet q) a b h = mapped_sooner (same q p) (option_map set_once) a b h
 
 counts_with_sooner : (p : Bytes) (e : TreeChange) (a b : Option (Option CountRec)) → Sooner a b → Sooner (counts_with p a e) (counts_with p b e)
-counts_with_sooner p (Created q owner) a b h = test_sooner (same q p) _ _ _ (mapped_sooner (is_child p q) (option_map one_child_more) a b h)
-counts_with_sooner p (Deleted q owner) a b h = test_sooner (same q p) _ _ _ (mapped_sooner (is_child p q) (option_map one_child_less) a b h)
+counts_with_sooner p (Created q owner) a b h = test_sooner (same q p) _ _ _ (mapped_sooner (is_child p q) (option_map one_more) a b h)
+counts_with_sooner p (Deleted q owner) a b h = test_sooner (same q p) _ _ _ (mapped_sooner (is_child p q) (option_map one_less) a b h)
 counts_with_sooner p (DataSet q) a b h = h
 
 node_after_sooner : (p : Bytes) (changes : List TreeChange) (a b : Option (Option NodeNow)) → Sooner a b → Sooner (node_after changes p a) (node_after changes p b)
