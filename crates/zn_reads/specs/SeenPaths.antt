@@ -7,7 +7,7 @@ use Rattle.zk_model.specs.Watches.{Watches, set_watches}
 use Rattle.zk_model.specs.declared.request.Request.TheVariants as req
 use Rattle.zk_service.specs.States.{State}
 use Rattle.zx_base.specs.Maps.{Bytes}
-use Rattle.zn_layout.specs.Keys.{Key, DataKey, CountsKey, key_bytes}
+use Rattle.zn_layout.specs.Keys.{DataKey, CountsKey, key_bytes}
 use Rattle.zn_layout.specs.StandsFor.{czxid_of}
 use Rattle.zn_view.specs.declared.plan.Who.{Who}
 use Rattle.zn_view.specs.Seen.{View, found_of, seen}

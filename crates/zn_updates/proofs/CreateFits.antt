@@ -27,7 +27,7 @@ use Rattle.zn_updates.specs.declared.seen.SeenCounts.{SeenCounts}
 use Rattle.zn_layout.specs.Counts.{one_more}
 use Rattle.zn_layout.proofs.Counted.{plain-counted}
 use Rattle.zn_updates.specs.Choices.{create_changes, put_owned}
-use Rattle.zn_updates.specs.OwnedLists.{placed, with_node}
+use Rattle.zn_updates.specs.OwnedLists.{with_node}
 use Rattle.zn_updates.specs.Right.{with_tree}
 use Rattle.zn_updates.specs.Seen.{IsSeenCounts}
 use Rattle.zn_updates.proofs.ListBounds.{placed-within}

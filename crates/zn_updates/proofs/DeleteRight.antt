@@ -19,7 +19,7 @@ use Rattle.zk_service.proofs.Children.{not_root}
 use Rattle.zn_layout.specs.declared.record.CountRec.{CountRec}
 use Rattle.zn_layout.specs.declared.record.SessionRec.{SessionRec}
 use Rattle.zn_layout.specs.Records.{IsSessionRec}
-use Rattle.zn_layout.specs.StandsFor.{is_counted_in, nodes_record}
+use Rattle.zn_layout.specs.StandsFor.{is_counted_in}
 use Rattle.zn_updates.specs.declared.seen.SeenData.{SeenData}
 use Rattle.zn_updates.specs.declared.seen.SeenCounts.{SeenCounts}
 use Rattle.zn_updates.specs.Seen.{IsSeenData, IsSeenCounts, ShowsData, ShowsCounts, ShowsOwned}

@@ -5,13 +5,13 @@ use Rattle.ev_types.specs.declared.answer.Kv.{Kv}
 use Rattle.zk_model.specs.Paths.{sequence_path}
 use Rattle.zx_base.specs.Maps.{Bytes}
 use Rattle.zn_layout.specs.declared.record.NodeRec.{NodeRec}
-use Rattle.zn_layout.specs.Keys.{Key, HeadKey, DataKey, CountsKey, SessionKey, LeaseKey, key_bytes}
+use Rattle.zn_layout.specs.Keys.{Key, HeadKey, DataKey, SessionKey, LeaseKey, key_bytes}
 use Rattle.zn_layout.specs.Reading.{IsValueOf}
 use Rattle.zn_layout.specs.Records.{node_value, IsNodeRec}
 use Rattle.zn_view.specs.declared.want.Want.{Want}
 use Rattle.zn_view.specs.Lacking.{lacking}
 use Rattle.zn_view.specs.Needs.{IsCreatesSeen}
-use Rattle.zn_view.specs.Seen.{View, seen}
+use Rattle.zn_view.specs.Seen.{View}
 use Rattle.zn_view.specs.Views.{about_path, about_parent, counts_of_parent}
 
 -- the keys that every request looks up: the head, and the record of the session's life

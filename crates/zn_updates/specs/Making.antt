@@ -1,7 +1,6 @@
 -- A choice as the code makes it: the changes are operations.
 use Rattle.std.specs.Prelude.{◌≡◌, ℤ, pos, ◌≤ℤ◌, Bool, true, false, List, Option, Some, None, option_map}
 use Rattle.ev_types.specs.declared.answer.Kv.{Kv}
-use Rattle.zx_base.specs.Maps.{Bytes}
 use Rattle.zk_model.specs.declared.node.Trigger.{Trigger}
 use Rattle.zk_model.specs.declared.reply.PartResult.{PartResult}
 use Rattle.zn_layout.specs.declared.record.SessionRec.{SessionRec}

@@ -3,7 +3,7 @@
 ghost use Rattle.std.specs.Prelude.{◌≡◌, ◌≤◌, ◌≤ℤ◌, ◌++◌, ℤ, Some, None, pos, length, map, IfSome, IfOk, OnOk, IsTrue, IsFalse};
 ghost use Rattle.zk_model.specs.Limits.{max_path};
 ghost use Rattle.zk_model.specs.Paths.{is_path, is_sequence_prefix};
-ghost use Rattle.zn_layout.specs.Keys.{CountsKey, DataKey, key_bytes};
+ghost use Rattle.zn_layout.specs.Keys.{DataKey, key_bytes};
 ghost use Rattle.zn_view.specs.Lacking.{lacking};
 ghost use Rattle.zn_view.specs.Lookups.{sees};
 ghost use Rattle.zn_view.specs.Needs.{IsCreatesSeen};

@@ -6,7 +6,6 @@ use Rattle.ev_types.specs.Store.{acts_applied, last_revision}
 use Rattle.zk_model.specs.declared.request.Request.TheVariants as req
 use Rattle.zk_model.specs.Limits.{max_owned}
 use Rattle.zk_service.specs.States.{State, Session, IsSound, session_at, session_ended}
-use Rattle.zx_base.specs.Maps.{Bytes}
 use Rattle.zn_layout.specs.declared.record.SessionRec.{SessionRec}
 use Rattle.zn_layout.specs.Keys.{SessionKey, LeaseKey, key_bytes}
 use Rattle.zn_layout.specs.StandsFor.{StandsFor}

@@ -10,7 +10,6 @@ use Rattle.zk_model.specs.Watches.{no_watches}
 use Rattle.zk_service.specs.Answers.{plain_request}
 use Rattle.zk_service.specs.States.{State, IsSound}
 use Rattle.zx_base.specs.declared.memory.Memory.{Memory as Refused}
-use Rattle.zx_base.specs.Maps.{Bytes}
 use Rattle.zx_base.proofs.Options.{some_is}
 use Rattle.zn_layout.specs.declared.record.SessionRec.{SessionRec}
 use Rattle.zn_layout.specs.Keys.{SessionKey}

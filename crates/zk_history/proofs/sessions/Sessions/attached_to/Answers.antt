@@ -2,7 +2,7 @@ use Rattle.std.proofs.Common.{◌≡◌, ap, sym, ◌∙◌, subst, w64, to_z, o
 use Rattle.std.proofs.lemmas.Int.{to_z-of_z}
 use Rattle.std.specs.Prelude.{Option, Some, Bool, option_map}
 use Rattle.std.specs.FinMap.{get}
-use Rattle.zk_service.specs.States.{Session, Sessions}
+use Rattle.zk_service.specs.States.{Sessions}
 use Rattle.zk_history.specs.Attachments.{AreAttached}
 use Rattle.zk_history.proofs.AttachmentLaws.{attached-first, attached-none}
 use Rattle.zk_history.proofs.sessions.Sessions.attached_to.Goals as goal
