@@ -9,9 +9,9 @@ use Rattle.zk_model.specs.declared.node.Trigger.{Trigger}
 use Rattle.zk_model.specs.declared.reply.PartResult.{PartResult}
 use Rattle.zk_model.specs.declared.request.Part.{Part}
 use Rattle.zk_model.specs.declared.request.Request.{Request}
-use Rattle.zk_model.specs.Limits.{max_owned}
 use Rattle.zk_model.specs.Watches.{no_watches}
 use Rattle.zk_service.specs.Answers.{plain_request, tree_reply}
+use Rattle.zk_service.specs.States.{limit_of}
 use Rattle.zn_layout.specs.Changes.{KeyChange}
 use Rattle.zn_layout.specs.Keys.{Key, LeaseKey, key_bytes}
 use Rattle.zn_view.specs.declared.plan.Decision.{Decision}
@@ -87,7 +87,7 @@ module _ (r : Request) (p : Part) (who : Who) (v : View) (ks : List Key) (choice
   by_form t e = absurd (none_some (sym plain ∙ e))
 
   pub by_sound : IsBySound r who v d
-  by_sound _ s sound of x opened = subst (λ (y : Decision). IsByTree r y (tree_reply s.tree max_owned who.session no_watches r)) (sym is)
+  by_sound _ s sound of x opened = subst (λ (y : Decision). IsByTree r y (tree_reply s.tree (limit_of x) who.session no_watches r)) (sym is)
       (by_tree r p who v (on_keys v ks) choice now part chosen s sound of x opened)
 
   -- ---- a plan

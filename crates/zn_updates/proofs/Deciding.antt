@@ -12,12 +12,11 @@ use Rattle.zk_model.specs.declared.reply.PartResult.TheVariants as result
 use Rattle.zk_model.specs.declared.reply.Reply.TheVariants as reply
 use Rattle.zk_model.specs.declared.request.Part.{Part}
 use Rattle.zk_model.specs.declared.request.Request.{Request}
-use Rattle.zk_model.specs.Limits.{max_owned}
 use Rattle.zk_model.specs.Single.{Outcome, Refused, single}
 use Rattle.zk_model.specs.Watches.{no_watches}
 use Rattle.zk_model.specs.Znodes.{Tree}
 use Rattle.zk_service.specs.Answers.{owned_limit_in, refusal_of, tree_reply}
-use Rattle.zk_service.specs.States.{State, Session, Commit, IsSound, advanced, commit_single, committed, response_of, session_at}
+use Rattle.zk_service.specs.States.{State, Session, Commit, IsSound, advanced, commit_single, committed, limit_of, response_of, session_at}
 use Rattle.zn_layout.specs.Changes.{KeyChange, Put, last, update_acts}
 use Rattle.zn_layout.specs.Fits.{ChangesFit, KeyFits}
 use Rattle.zn_layout.specs.Keys.{Key, HeadKey, DataKey, CountsKey, SessionKey, LeaseKey, key_bytes}
@@ -64,9 +63,9 @@ by_choice r v s first (Make cs ts draft) o e right = done_told r v cs ts draft (
 
 -- a right choice decides as the tree does, whatever keys its plan guards
 pub by_tree : (r : Request) (p : Part) (who : Who) (v near : View) (choice : ℕ → Choice) (now : ℕ) → IsPart r p → IsChosen p who v choice → (s : State) → IsSound s → IsOf v s → (x : Session) → session_at who.session s ≡ Some x
-    → IsByTree r (decision_of near (choice now)) (tree_reply s.tree max_owned who.session no_watches r)
+    → IsByTree r (decision_of near (choice now)) (tree_reply s.tree (limit_of x) who.session no_watches r)
 by_tree r p who v near choice now part chosen s sound of x opened =
-    subst (IsByTree r (decision_of near (choice now))) (sym (part.told s.tree max_owned who.session))
+    subst (IsByTree r (decision_of near (choice now))) (sym (part.told s.tree (limit_of x) who.session))
     (by_choice r near s (choice 0) (choice now) _ (chosen.same_code now)
     (chosen.right s (pos 0) 0 (omega arith) sound (shows (pos 0) v of.0 s of.1 (told v of.0 (agrees-as_seen v of.0 of.2))) x opened))
 
@@ -120,11 +119,11 @@ module _ (r : Request) (p : Part) (who : Who) (v : View) (choice : ℕ → Choic
         life_not_head : (n : ℕ) → LeaseKey n ≡ HeadKey → ⊥
         life_not_head n e = cc
 
-    limit : limit_at who.session s ≡ max_owned
+    limit : limit_at who.session s ≡ limit_of opened.0
     limit = ap owned_limit_in opened.1
 
-    made : IsOutcome z s cs ts draft (single s.tree max_owned who.session p z now)
-    made = subst (λ (c : Choice). IsRight z s c (single s.tree max_owned who.session p z now)) is (chosen.right s z now time sound (shows z v m s stands tells) opened.0 opened.1)
+    made : IsOutcome z s cs ts draft (single s.tree (limit_of opened.0) who.session p z now)
+    made = subst (λ (c : Choice). IsRight z s c (single s.tree (limit_of opened.0) who.session p z now)) is (chosen.right s z now time sound (shows z v m s stands tells) opened.0 opened.1)
 
     abbrev commits : Commit
     commits = record { response = response_of (own_result z draft); tree = made.tree; triggers = ts }
