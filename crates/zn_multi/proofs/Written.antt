@@ -13,7 +13,7 @@ use Rattle.zx_base.specs.Maps.{Bytes}
 use Rattle.zn_layout.specs.Changes.{KeyChange, Put, act_of, acts_of, are_distinct, head_put, last, put_or_else, writes_key}
 use Rattle.zn_layout.specs.Fits.{ChangesFit, KeyFits}
 use Rattle.zn_layout.specs.Keys.{Key, HeadKey, DataKey, CountsKey, SessionKey, LeaseKey, key_bytes, same_key}
-use Rattle.zn_layout.specs.StandsFor.{CountsMean, DataMeans, LifeMeans, Means, NodesMean, Stored}
+use Rattle.zn_layout.specs.StandsFor.{CountsMean, DataMeans, LifeMeans, Means, NodesMean, Stored, is_counted_in}
 use Rattle.zn_layout.proofs.Keys.{same_key-true}
 use Rattle.zk_model.specs.declared.node.Node.{Node}
 use Rattle.zk_model.specs.Znodes.{num_children, owned}
@@ -188,10 +188,12 @@ data_absent None None h k = refl
 data_absent None (Some x) h k = absurd k
 data_absent (Some n) o h k = absurd h
 
-counts_absent : (n : Option Node) (c : ℕ) (o : Option Stored) → CountsMean n c None → CountsMean n c o → o ≡ None
-counts_absent None c None h k = refl
-counts_absent None c (Some x) h k = absurd k
-counts_absent (Some n) c o h k = absurd h
+counts_absent : (n : Option Node) (c : ℕ) (counted : Bool) (o : Option Stored) → CountsMean n c counted None → CountsMean n c counted o → o ≡ None
+counts_absent None c counted None h k = refl
+counts_absent None c counted (Some x) h k = absurd k
+counts_absent (Some n) c true o h k = absurd h
+counts_absent (Some n) c false None h k = refl
+counts_absent (Some n) c false (Some x) h k = absurd k
 
 nodes_absent : (y : Option Session) (ps : List Bytes) (o : Option Stored) → NodesMean y ps None → NodesMean y ps o → o ≡ None
 nodes_absent None ps None h k = refl
@@ -208,7 +210,7 @@ life_absent id (Some y) (Some x) h k = absurd (true≢false (sym h ∙ k.alive))
 only_absent : (s : State) (k : Key) (o : Option Stored) → (k ≡ HeadKey → ⊥) → Means s k None → Means s k o → o ≡ None
 only_absent s HeadKey o apart h means = absurd (apart refl)
 only_absent s (DataKey p) o apart h means = data_absent (get s.tree p) o h means
-only_absent s (CountsKey p) o apart h means = counts_absent (get s.tree p) (num_children s.tree p) o h means
+only_absent s (CountsKey p) o apart h means = counts_absent (get s.tree p) (num_children s.tree p) (is_counted_in s (get s.tree p)) o h means
 only_absent s (SessionKey n) o apart h means = nodes_absent (session_at (pos n) s) (owned s.tree (pos n)) o h means
 only_absent s (LeaseKey n) o apart h means = life_absent n (session_at (pos n) s) o h means
 

@@ -18,7 +18,7 @@ use Rattle.zk_service.specs.States.{Session, State}
 use Rattle.zx_base.specs.Maps.{Bytes, same}
 use Rattle.zx_base.proofs.MapLaws.{same-true}
 use Rattle.zn_layout.specs.Keys.{CountsKey, DataKey, HeadKey, Key, LeaseKey, SessionKey, counts_front, data_front, front, head_name, key_bytes, lease_front, session_front}
-use Rattle.zn_layout.specs.StandsFor.{CountsMean, DataMeans, HeadMeans, LifeMeans, Means, NodesMean, StandsFor, Stored, at, counts_record, data_record, life_record, stored_of}
+use Rattle.zn_layout.specs.StandsFor.{CountsMean, DataMeans, HeadMeans, LifeMeans, Means, NodesMean, StandsFor, Stored, at, counts_record, data_record, life_record, nodes_record, stored_of}
 use Rattle.zn_layout.proofs.Commits.{answer-is}
 use Rattle.zn_view.specs.Adding.{AreRecords, IsFirstDamaged}
 use Rattle.zn_view.specs.Asks.{kept_under, range_of, ranges_of}
@@ -37,13 +37,14 @@ data-kept : (o : Option Node) (s : Stored) → DataMeans o (Some s) → IsOfKind
 data-kept None s m = absurd m
 data-kept (Some n) s m = (data_record n m.stored, (m.fits, m.value))
 
-counts-kept : (o : Option Node) (children : ℕ) (s : Stored) → CountsMean o children (Some s) → IsOfKind (Some (kind_of_key (CountsKey []))) s.value
-counts-kept None children s m = absurd m
-counts-kept (Some n) children s m = (counts_record n children, (m.fits, m.value))
+counts-kept : (o : Option Node) (children : ℕ) (counted : Bool) (s : Stored) → CountsMean o children counted (Some s) → IsOfKind (Some (kind_of_key (CountsKey []))) s.value
+counts-kept None children counted s m = absurd m
+counts-kept (Some n) children true s m = (counts_record n children, (m.fits, m.value))
+counts-kept (Some n) children false s m = absurd m
 
 nodes-kept : (o : Option Session) (paths : List Bytes) (s : Stored) → NodesMean o paths (Some s) → IsOfKind (Some (kind_of_key (SessionKey 0))) s.value
 nodes-kept None paths s m = absurd m
-nodes-kept (Some x) paths s m = (paths, (m.fits, m.value))
+nodes-kept (Some x) paths s m = (nodes_record x paths, (m.fits, m.value))
 
 life-kept : (id : ℕ) (o : Option Session) (s : Stored) → LifeMeans id o (Some s) → IsOfKind (Some (kind_of_key (LeaseKey 0))) s.value
 life-kept id None s m = absurd m
@@ -76,7 +77,7 @@ module _ (m : Keys) (x : State) (stands : StandsFor m x) where
   layout-kept : (k : Key) (kv : Kv) → at m k ≡ Some kv → IsOfKind (Some (kind_of_key k)) kv.value
   layout-kept HeadKey kv e = let h : HeadMeans (Some kv) x = subst (λ o. HeadMeans o x) e stands.head in (x.triggers, (h.fits, h.value))
   layout-kept (DataKey p) kv e = data-kept _ _ (stored-kept (DataKey p) kv e)
-  layout-kept (CountsKey p) kv e = counts-kept _ _ _ (stored-kept (CountsKey p) kv e)
+  layout-kept (CountsKey p) kv e = counts-kept _ _ _ _ (stored-kept (CountsKey p) kv e)
   layout-kept (SessionKey id) kv e = nodes-kept _ _ _ (stored-kept (SessionKey id) kv e)
   layout-kept (LeaseKey id) kv e = life-kept id _ _ (stored-kept (LeaseKey id) kv e)
 

@@ -6,7 +6,6 @@ use Rattle.std.specs.List.{flat_map}
 use Rattle.std.proofs.lemmas.List.{length-append, length-map}
 use Rattle.ev_types.specs.declared.answer.ActAns.{ActAns}
 use Rattle.ev_types.specs.declared.answer.Kv.{Kv}
-use Rattle.zk_model.specs.Limits.{max_owned}
 use Rattle.zk_model.specs.Paths.{is_path, parent, sequence_path}
 use Rattle.zk_model.specs.Single.{form_refusal, is_ephemeral, is_sequential, named}
 use Rattle.zk_model.specs.declared.request.Part.{Part}
@@ -18,17 +17,19 @@ use Rattle.zx_base.specs.Maps.{Bytes}
 use Rattle.zn_layout.proofs.ListRecords.{session_value-injective}
 use Rattle.zn_layout.proofs.Nodes.{counts_value-injective, node_value-injective}
 use Rattle.zn_layout.specs.Keys.{Key, CountsKey, DataKey, SessionKey, key_bytes}
-use Rattle.zn_layout.specs.Records.{counts_value, node_value, session_value}
+use Rattle.zn_layout.specs.Records.{node_value, session_value}
 use Rattle.zn_layout.specs.declared.record.CountRec.{CountRec}
 use Rattle.zn_layout.specs.declared.record.NodeRec.{NodeRec}
+use Rattle.zn_layout.specs.declared.record.SessionRec.{SessionRec}
 use Rattle.zn_view.proofs.LeftOnViews.{counts_still, left_still}
 use Rattle.zn_view.proofs.Members.{In, contains_in, in_left, in_mapped, in_right}
 use Rattle.zn_view.proofs.SeenAfter.{listed-with_parts, seen-with_parts, wanted-shown}
+use Rattle.zn_view.proofs.Sizes.{owned-most}
 use Rattle.zn_view.specs.Adding.{at_revision, is_new}
 use Rattle.zn_view.specs.Asks.{head_want, with_parts}
 use Rattle.zn_view.specs.declared.leaving.TreeChange.{TreeChange}
 use Rattle.zn_view.specs.Leaving.{AreCountsNow}
-use Rattle.zn_view.specs.Needs.{AreNeeds, Follows, FollowsFrom, FollowsOwner, FollowsPart, IsLacking, IsRead, SawCounts, SawNode, SawNodes, SawValue, key_want, life_want}
+use Rattle.zn_view.specs.Needs.{AreNeeds, Follows, FollowsFrom, FollowsOwner, FollowsPart, IsLacking, IsRead, SawNode, SawNodes, SawValue, AreCreatesSeen, IsCreatesSeen, key_want, life_want}
 use Rattle.zn_view.specs.Seen.{View, listed, seen}
 use Rattle.zn_view.specs.Views.{about_parent, about_path, counts_of_parent, own_data, own_nodes, part_keys, part_reads, reads, valid}
 use Rattle.zn_view.specs.declared.plan.Who.{Who}
@@ -102,10 +103,21 @@ saw-same v u k a b x (kv, s, is) (kv', s', is') =
 node-same : (v u : View) (p : Bytes) (a b : NodeRec) → Extends v u → SawNode v p a → SawNode u p b → a ≡ b
 node-same v u p a b x h k = node_value-injective a b h.0 k.0 (saw-same v u (DataKey p) (node_value a) (node_value b) x h.1 k.1)
 
-counts-same : (v u : View) (p : Bytes) (a b : CountRec) → Extends v u → SawCounts v p a → SawCounts u p b → a ≡ b
-counts-same v u p a b x h k = counts_value-injective a b h.0 k.0 (saw-same v u (CountsKey p) (counts_value a) (counts_value b) x h.1 k.1)
+-- the creates that were seen are seen still
+creates-still : (a b a' b' : Option (Option Kv)) (n m : ℕ) → ((o : Option Kv) → a ≡ Some o → a' ≡ Some o) → ((o : Option Kv) → b ≡ Some o → b' ≡ Some o) → AreCreatesSeen a b (Some n) → AreCreatesSeen a' b' (Some m) → n ≡ m
+creates-still a None a' b' n m own counts h k = absurd (none_some (sym h))
+creates-still a (Some (Some kv)) a' b' n m own counts h k =
+    let same : AreCreatesSeen a' (Some (Some kv)) (Some m) = subst (λ (o : Option (Option Kv)). AreCreatesSeen a' o (Some m)) (counts (Some kv) refl) k in
+    some_is (h.2 ∙ ap (λ (c : CountRec). Some (nat_abs c.creates)) (counts_value-injective h.0 same.0 h.1.0 same.1.0 (sym h.1.1 ∙ same.1.1)) ∙ sym same.2)
+creates-still None (Some None) a' b' n m own counts h k = absurd (none_some (sym h))
+creates-still (Some None) (Some None) a' b' n m own counts h k = absurd (none_some (sym h))
+creates-still (Some (Some kv)) (Some None) a' b' n m own counts h k =
+    some_is (h ∙ sym (subst (λ (o : Option (Option Kv) × Option (Option Kv)). AreCreatesSeen o.0 o.1 (Some m)) (λ i. (own (Some kv) refl i, counts None refl i)) k))
 
-nodes-same : (v u : View) (id : ℤ) (a b : List Bytes) → Extends v u → SawNodes v id a → SawNodes u id b → a ≡ b
+creates-same : (v u : View) (p : Bytes) (n m : ℕ) → Extends v u → IsCreatesSeen v p (Some n) → IsCreatesSeen u p (Some m) → n ≡ m
+creates-same v u p n m x h k = creates-still (seen v (key_bytes (DataKey p))) (seen v (key_bytes (CountsKey p))) (seen u (key_bytes (DataKey p))) (seen u (key_bytes (CountsKey p))) n m (x.keys (key_bytes (DataKey p))) (x.keys (key_bytes (CountsKey p))) h k
+
+nodes-same : (v u : View) (id : ℤ) (a b : SessionRec) → Extends v u → SawNodes v id a → SawNodes u id b → a ≡ b
 nodes-same v u id a b x h k = session_value-injective a b h.0 k.0 (saw-same v u (SessionKey (nat_abs id)) (session_value a) (session_value b) x h.1 k.1)
 
 owner-same : (v u : View) (p : Bytes) (w t : Want) → Extends v u → FollowsOwner v p w → FollowsOwner u p t → w ≡ t
@@ -133,7 +145,7 @@ pub data Place : Type 0 where
   After : (index : ℕ) → Place
 
 abbrev FollowsClose : ℤ → View → ℕ → Want → Type 0
-FollowsClose id v i w = (ps : List Bytes) × (p q : Bytes) × SawNodes v id ps × (slice_get ps i ≡ Some p) × (parent p ≡ Some q) × (w ≡ key_want (CountsKey q))
+FollowsClose id v i w = (r : SessionRec) × (p q : Bytes) × SawNodes v id r × (slice_get r.paths i ≡ Some p) × (parent p ≡ Some q) × (w ≡ key_want (CountsKey q))
 
 abbrev FollowsPartAt : ℤ → View → List Part → List Part → ℕ → Want → Type 0
 FollowsPartAt id v before [] i w = ⊥
@@ -154,9 +166,9 @@ Takes r id v (Fixed named) w = w ≡ named
 Takes r id v (After i) w = FollowsAt r id v i w
 
 close-same : (id : ℤ) (v u : View) (i : ℕ) (w t : Want) → Extends v u → FollowsClose id v i w → FollowsClose id u i t → w ≡ t
-close-same id v u i w t x (ps, p, q, s, at, e, is) (ps', p', q', s', at', e', is') =
-    let same_ps : ps ≡ ps' = nodes-same v u id ps ps' x s s' in
-    let same_p : p ≡ p' = some_is (sym at ∙ ap (λ l. slice_get l i) same_ps ∙ at') in
+close-same id v u i w t x (r, p, q, s, at, e, is) (r', p', q', s', at', e', is') =
+    let same_nodes : r ≡ r' = nodes-same v u id r r' x s s' in
+    let same_p : p ≡ p' = some_is (sym at ∙ ap (λ (y : SessionRec). slice_get y.paths i) same_nodes ∙ at') in
     let same_q : q ≡ q' = some_is (sym e ∙ ap parent same_p ∙ e') in
     is ∙ ap (λ y. key_want (CountsKey y)) same_q ∙ sym is'
 
@@ -166,10 +178,10 @@ part-at-same id v u before (p ∷ parts) zero w t x h k = part-same id v u befor
 part-at-same id v u before (p ∷ parts) (suc i) w t x h k = part-at-same id v u (p ∷ before) parts i w t x h k
 
 create-same : (p d : Bytes) (a : List _) (f id : ℤ) (v u : View) (w t : Want) → Extends v u → Follows (req.Create p d a f) id v w → Follows (req.Create p d a f) id u t → w ≡ t
-create-same p d a f id v u w t x (s, q, e, r, saw, is) (s', q', e', r', saw', is') =
+create-same p d a f id v u w t x (s, q, e, n, saw, is) (s', q', e', m, saw', is') =
     let same_q : q ≡ q' = some_is (sym e ∙ e') in
-    let same_r : r ≡ r' = counts-same v u q r r' x saw (subst (λ y. SawCounts u y r') (sym same_q) saw') in
-    is ∙ ap (λ (y : CountRec). key_want (DataKey (sequence_path p (nat_abs y.creates)))) same_r ∙ sym is'
+    let same_n : n ≡ m = creates-same v u q n m x saw (subst (λ y. IsCreatesSeen u y (Some m)) (sym same_q) saw') in
+    is ∙ ap (λ (k : ℕ). key_want (DataKey (sequence_path p k))) same_n ∙ sym is'
 
 after-same : (r : Request) (id : ℤ) (v u : View) (i : ℕ) (w t : Want) → Extends v u → FollowsAt r id v i w → FollowsAt r id u i t → w ≡ t
 after-same (req.Create p d a f) id v u i w t x h k = create-same p d a f id v u w t x h k
@@ -199,7 +211,7 @@ abbrev follows_most : Request → ℕ
 follows_most (req.Create p d a f) = 1
 follows_most (req.Create2 p d a f) = 1
 follows_most (req.Delete p x) = 1
-follows_most req.Close = max_owned
+follows_most req.Close = 60
 follows_most (req.Multi parts) = length parts
 follows_most _ = 0
 
@@ -249,10 +261,10 @@ follows-place (req.Create2 p d a f) id v w few h = after-place (req.Create2 p d 
 follows-place (req.Delete p x) id v w few h = after-place (req.Delete p x) id v w 0 (omega arith) h
 follows-place (req.GetChildren p x) id v w few h = listed-place (req.GetChildren p x) id v w (inl (sym h))
 follows-place (req.GetChildren2 p x) id v w few h = listed-place (req.GetChildren2 p x) id v w (inl (sym h))
-follows-place req.Close id v w few (ps, p, q, saw, has, e, is) =
-    let at = contained-at ps p (contains_in p ps has) in
-    let most = few saw.1.0 ps saw.1.1 (saw.0, saw.1.2) in
-    after-place req.Close id v w at.0 (omega (arith, at.1, most)) (ps, p, q, saw, at.2, e, is)
+follows-place req.Close id v w few (r, p, q, saw, has, e, is) =
+    let at = contained-at r.paths p (contains_in p r.paths has) in
+    let most = few saw.1.0 r saw.1.1 (saw.0, saw.1.2) in
+    after-place req.Close id v w at.0 (omega (arith, at.1, most, owned-most r.layout)) (r, p, q, saw, at.2, e, is)
 follows-place (req.Multi parts) id v w few h = let t = from-part id v [] parts w h in after-place (req.Multi parts) id v w t.0 t.1 t.2
 follows-place _ id v w few h = absurd h
 

@@ -16,6 +16,7 @@ use Rattle.ev_types.specs.declared.ask.Ask.TheVariants as ask
 use Rattle.zk_model.specs.Paths.{parent}
 use Rattle.zk_model.specs.declared.request.Request.TheVariants as req
 use Rattle.zk_service.specs.Answers.{plain_request}
+use Rattle.zn_layout.specs.declared.record.SessionRec.{SessionRec}
 use Rattle.zn_layout.specs.Keys.{CountsKey, SessionKey, key_bytes}
 use Rattle.zn_layout.specs.Records.{IsSessionRec, session_value}
 use Rattle.zn_view.proofs.AsSeen.{agrees-seen}
@@ -69,7 +70,7 @@ pub record Covers (s : Store) (id revision_ : ℤ) (ws : List Want) : Type 0 whe
   pub real : int_lt id (pos 1) ≡ false
   pub now : revision_ ≡ revision s
   pub own : (w : Want) → Contains (reaper_wants id) w → Contains ws w
-  pub counts : (kv : Kv) (ps : List Bytes) (p q : Bytes) → get (present s) (key_bytes (SessionKey (nat_abs id))) ≡ Some kv → IsSessionRec ps → kv.value ≡ session_value ps → Contains ps p → parent p ≡ Some q → Contains ws (key_want (CountsKey q))
+  pub counts : (kv : Kv) (nodes : SessionRec) (p q : Bytes) → get (present s) (key_bytes (SessionKey (nat_abs id))) ≡ Some kv → IsSessionRec nodes → kv.value ≡ session_value nodes → Contains nodes.paths p → parent p ≡ Some q → Contains ws (key_want (CountsKey q))
 
 abbrev pub ReapOut : Store → ℤ → Phase → Ask → ℕ → Type 0
 ReapOut s id Unasked q k = Unit {0}
@@ -205,7 +206,7 @@ module _ (s u : Store) (r : Reap) (a : Answer) where
     real = real;
     now = revision-kept (at_revision empty_view z) (reaper_wants r.session) parts ∙ now;
     own = λ w has. Contains-append_left (reaper_wants r.session) ws w has;
-    counts = λ kv ps p q there within value has e. by-seen kv ps p q there within value has e (seen v (key_bytes (CountsKey q))) refl;
+    counts = λ kv r p q there within value has e. by-seen kv r p q there within value has e (seen v (key_bytes (CountsKey q))) refl;
   }
     where
       v : View
@@ -218,12 +219,12 @@ module _ (s u : Store) (r : Reap) (a : Answer) where
       looked None e kv there = absurd (wanted-shown (at_revision empty_view z) (reaper_wants r.session) parts (key_want (SessionKey (nat_abs r.session))) (omega (arith, long)) (in-first r.session (key_want (SessionKey (nat_abs r.session))) real (2, omega arith, refl)) e)
       looked (Some f) e kv there = e ∙ ap Some (sym (agrees-seen v (present s) nodes f agrees e) ∙ there)
 
-      by-seen : (kv : Kv) (ps : List Bytes) (p q : Bytes) → get (present s) nodes ≡ Some kv → IsSessionRec ps → kv.value ≡ session_value ps → Contains ps p → parent p ≡ Some q → (o : Option (Option Kv)) → seen v (key_bytes (CountsKey q)) ≡ o
+      by-seen : (kv : Kv) (r : SessionRec) (p q : Bytes) → get (present s) nodes ≡ Some kv → IsSessionRec r → kv.value ≡ session_value r → Contains r.paths p → parent p ≡ Some q → (o : Option (Option Kv)) → seen v (key_bytes (CountsKey q)) ≡ o
           → Contains (reaper_wants r.session ++ ws) (key_want (CountsKey q))
-      by-seen kv ps p q there within value has e None f =
+      by-seen kv r p q there within value has e None f =
           Contains-append_right (reaper_wants r.session) ws (key_want (CountsKey q))
-          (needs.all refl (key_want (CountsKey q)) (inr (inr (inr (ps, p, q, (within, (kv, looked (seen v nodes) refl kv there, value)), has, e, refl)))) f)
-      by-seen kv ps p q there within value has e (Some o) f = elim (seen-wanted (at_revision empty_view z) (reaper_wants r.session) parts (key_bytes (CountsKey q)) o f) [
+          (needs.all refl (key_want (CountsKey q)) (inr (inr (inr (r, p, q, (within, (kv, looked (seen v nodes) refl kv there, value)), has, e, refl)))) f)
+      by-seen kv r p q there within value has e (Some o) f = elim (seen-wanted (at_revision empty_view z) (reaper_wants r.session) parts (key_bytes (CountsKey q)) o f) [
         | inl none ↦ absurd (none_some none)
         | inr m ↦ Contains-append_left (reaper_wants r.session) ws (key_want (CountsKey q)) (in_contains (key_want (CountsKey q)) (reaper_wants r.session) m)
       ]
@@ -253,9 +254,9 @@ module _ (s u : Store) (r : Reap) (a : Answer) where
         | inl f ↦ own (key_want (SessionKey (nat_abs r.session))) (e ∙ ap key_want (sym f)) (2, omega arith, refl)
         | inr bad ↦ absurd (let lt = bad.1 in omega (arith, lt))
       ]
-      by-read (inr (inr (inr (ps, p, q, saw, has, e, is)))) =
+      by-read (inr (inr (inr (nodes, p, q, saw, has, e, is)))) =
           let kv = saw.1.0 in
-          shown (subst (Contains ws) (sym is) (cover.counts kv ps p q (agrees-seen v (present s) (key_bytes (SessionKey (nat_abs r.session))) (Some kv) agrees saw.1.1) saw.0 saw.1.2 has e))
+          shown (subst (Contains ws) (sym is) (cover.counts kv nodes p q (agrees-seen v (present s) (key_bytes (SessionKey (nat_abs r.session))) (Some kv) agrees saw.1.1) saw.0 saw.1.2 has e))
 
   -- a decision on the present
   decides-now : (v : View) (phase : Phase) (step : ReapStep) (j : ℕ) → 1 ≤ j → u ≡ s → Agrees v (present s) → ReaperDecides r.session v phase step → ReapThen u r.session step phase j

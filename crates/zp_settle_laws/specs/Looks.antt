@@ -5,7 +5,7 @@ use Rattle.zk_model.specs.declared.request.Request.{Request}
 use Rattle.zk_model.specs.declared.request.Request.TheVariants as req
 
 -- At most so many keys and listings: the head, the record of the session's life, and what it reads besides. A closeSession reads
--- the nodes of its session, and the counts of their parents, of which there are at most 40.
+-- the nodes of its session, and the counts of their parents, of which there are at most 60.
 abbrev pub looks : Request → ℕ
 looks (req.Create p d a f) = 7
 looks (req.Delete p n) = 6
@@ -17,7 +17,7 @@ looks (req.GetChildren p x) = 5
 looks (req.GetChildren2 p x) = 5
 looks (req.Check p n) = 3
 looks (req.SetWatches since exists datas children) = 2 + (length datas + length exists + 2 * length children)
-looks req.Close = 43
+looks req.Close = 63
 looks (req.Sync p) = 2
 looks req.Ping = 2
 looks (req.Auth kind scheme auth) = 2
