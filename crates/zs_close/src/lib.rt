@@ -6,8 +6,8 @@
 //! else the view saw: where the session made a node meanwhile, or was resumed, it changes nothing.
 //!
 //! What is looked up is the head, the record of the session's life, the list of its nodes, and the counts of the nodes'
-//! parents: two rounds where there are nodes, otherwise one. A session owns at most 40 nodes, and so a plan has at most 124
-//! operations.
+//! parents: two rounds where there are nodes, otherwise one. A session owns at most 40 nodes with counts of their own, or at most
+//! 60 without, and so a plan has at most 124 operations.
 //!
 //! In `specs/`, in reading order: `Ending` (what changes), `Wanting` (what is read, and so looked up and guarded), `Closing`
 //! (what decides a close, and the plan of an end), `Reaping` (what decides the end of a session that has lapsed). In
