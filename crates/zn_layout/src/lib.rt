@@ -2,10 +2,10 @@
 //!
 //! A node has two keys, one for its data and one for the counts of its children: a create below it changes the counts and
 //! leaves the data. So the data key's mod_revision is the node's mzxid, and the counts key's its pzxid. An ephemeral node of a
-//! session of layout 2 has no counts, which would say nothing: it has no children. The head holds the
-//! last update: its mod_revision is the zxid, its version the number of updates. A session has a key for the nodes that it
-//! owns, and one for its life, which is attached to its lease. `specs/Keys`, `specs/Records` and `specs/StandsFor` say all of
-//! it; the layout is this project's own.
+//! session of layout 2 has no counts, which would say nothing: it has no children. The head holds the last update: its
+//! mod_revision is the zxid, its version the number of updates. A session has a key for the nodes that it owns, and one for its
+//! life, which is attached to its lease. `specs/Keys`, `specs/Records` and `specs/StandsFor` say all of it, and `specs/Counts`
+//! how counts change; the layout is this project's own.
 //!
 //! Keys and records are written and read exactly: a value is read as a record where it is that record's value, and
 //! otherwise as damaged. Each key and each value is allocated once, at its full size.
