@@ -1,4 +1,4 @@
-use Rattle.std.proofs.Common.{◌≡◌, ◌∙◌, ℤ, ap, subst, w64, rules, arith, true}
+use Rattle.std.proofs.Common.{◌≡◌, ◌∙◌, ℤ, Option, ap, subst, w64, rules, arith, true}
 use Rattle.std.proofs.lemmas.Grind.{common_steps}
 use Rattle.std.proofs.lemmas.Int.{to_z-of_z}
 use Rattle.std.proofs.lemmas.Result.{IfOk-weaker}
@@ -7,11 +7,12 @@ use Rattle.zx_base.specs.Maps.{Bytes}
 use Rattle.zn_layout.specs.Keys.{DataKey}
 use Rattle.zn_view.specs.Lookups.{sees}
 use Rattle.zn_view.specs.Seen.{View}
+use Rattle.zn_updates.specs.declared.seen.SeenData.{SeenData}
 use Rattle.zn_updates.specs.Choices.{create_choice}
 use Rattle.zn_updates.specs.Deciding.{path_for}
 use Rattle.zn_updates.specs.Layers.{layered}
 use Rattle.zn_updates.specs.Making.{chosen_of, has_found}
-use Rattle.zn_updates.specs.Parts.{IfNodes}
+use Rattle.zn_updates.specs.Parts.{IfCounts, IfNodes}
 use Rattle.zn_updates.proofs.part.created_below.Goals as goal
 
 pub returns : goal.returns
@@ -26,7 +27,7 @@ returns c =
       above = c.in_ok-above.above;
       nodes = c.in_ok-nodes.nodes;
       up_is = c.in_ok-up.ensures.is;
-      above_is = c.in_ok-above.ensures.is;
+      above_is = subst (λ (o : Option SeenData). IfCounts v c.args.parent.now o c.in_ok-above.above) c.as_ref.ensures.value c.in_ok-above.ensures.is;
       above_within = c.in_ok-above.ensures.within;
       nodes_are = paths;
       nodes_within = c.in_ok-nodes.ensures.within;
