@@ -1,5 +1,6 @@
 -- What reading a stored value answers.
-use Rattle.std.specs.Prelude.{◌≡◌, Option, Some, None}
+use Rattle.std.specs.Prelude.{◌≡◌, ℤ, drop, length, nat_lt, Option, Some, None, if◌then◌else◌}
+use Rattle.zk_jute.specs.JuteReading.{front_long}
 use Rattle.zx_base.specs.Maps.{Bytes}
 use Rattle.zn_layout.specs.declared.record.HeadRec.{HeadRec}
 use Rattle.zn_layout.specs.declared.fault.RecordFault.{RecordFault}
@@ -41,6 +42,10 @@ abbrev pub node_record : NodeNumbers → Bytes → NodeRec
 node_record n content = record { czxid = n.czxid; version = n.version; ctime = n.ctime; mtime = n.mtime; owner = n.owner; content = content }
 
 -- ---- the head, as a record with its list
+
+-- the czxid in a node's value, which follows the first byte; None where the value is too short for it
+abbrev pub czxid_in : Bytes → Option ℤ
+czxid_in value = if nat_lt (length value) 9 then None else Some (front_long (drop 1 value))
 
 abbrev pub head_bytes : HeadRec → Bytes
 head_bytes r = head_value r.triggers

@@ -54,6 +54,7 @@ pub use node::czxid;
 pub use read::{counts_in, lease_in, read_counts, read_lease, read_node};
 pub use record::{CountRec, FIRST_COUNTS, HeadRec, LeaseRec, NodeRec, SessionRec};
 pub use test::{
-    NodeNumbers, is_counts_record, is_lease_record, is_node_record, node_content, node_numbers,
+    NodeNumbers, is_counts_record, is_lease_record, is_node_record, node_content, node_czxid,
+    node_numbers,
 };
 pub use write::{write_counts, write_head, write_lease, write_node, write_session};

@@ -2,7 +2,7 @@
 
 ghost use Rattle.std.specs.Prelude.{◌≡◌, ◌↔◌, ◌≤◌, ◌∷◌, length, drop, IsTrue, MatchOption};
 ghost use Rattle.zn_layout.specs.Records.{node_value, counts_value, lease_value, IsNodeRec, IsCountRec, IsLeaseRec};
-ghost use Rattle.zn_layout.specs.Reading.{IsSomeValue, IsNoValue, IsValueOf, node_record};
+ghost use Rattle.zn_layout.specs.Reading.{IsSomeValue, IsNoValue, IsValueOf, czxid_in, node_record};
 ghost use Rattle.zn_layout.specs.ReadingSteps.{HasNumbers};
 
 use crate::read::{
@@ -12,6 +12,9 @@ use zk_model::limit::MAX_FRAME;
 
 /// How many bytes a node's value has before its data.
 const BEFORE_DATA: usize = 37;
+
+/// How many bytes a node's value has up to the end of its czxid.
+const TO_CZXID: usize = 9;
 
 /// A znode's record without its data.
 #[derive(Clone, Copy)]
@@ -62,6 +65,18 @@ pub fn node_numbers(value: &[u8]) -> Option<NodeNumbers>
     }
     let (node, content) = numbers_of(numbers);
     bounded_numbers(node, content)
+}
+
+/// The stored czxid in a node's value, its first number. `None` where the value is too short for it; whether it is a record is not
+/// tested.
+pub fn node_czxid(value: &[u8]) -> Option<i64>
+    ensures { result ≡ czxid_in value.now }
+{
+    if value.len() < TO_CZXID {
+        return None;
+    }
+    let (czxid, _) = split_long(&value[1..]);
+    Some(czxid)
 }
 
 /// The data in a node's value: what follows its first 37 bytes.

@@ -1,6 +1,7 @@
 -- A setWatches on the tree is what comes of the paths as they were found.
-use Rattle.std.proofs.Common.{◌≡◌, ℕ, ℤ, Bool, true, false, cond, List, [], ◌∷◌, ◌++◌, drop, Option, Some, None, refl, sym, ap, ◌∙◌}
-use Rattle.std.specs.Prelude.{map, filter, option_map, if◌then◌else◌}
+use Rattle.std.proofs.Common.{◌≡◌, ℕ, ℤ, Bool, true, false, cond, List, [], ◌∷◌, ◌++◌, drop, length, Option, Some, None, refl, sym, ap, ◌∙◌, arith}
+use Rattle.std.specs.Prelude.{map, filter, nat_lt, option_map, if◌then◌else◌}
+use Rattle.std.proofs.lemmas.Bool.Decides.{nat_tests}
 use Rattle.std.specs.List.{flat_map}
 use Rattle.std.specs.FinMap.{get}
 use Rattle.ev_types.specs.declared.answer.Kv.{Kv}
@@ -15,7 +16,7 @@ use Rattle.zk_service.specs.States.{State}
 use Rattle.zn_layout.specs.Keys.{Key, DataKey, CountsKey, key_bytes}
 use Rattle.zn_layout.specs.StandsFor.{czxid_of, data_record, is_counted_in, stored_of, CountsMean, DataMeans, IsData}
 use Rattle.zn_layout.proofs.Lookups.{stored}
-use Rattle.zn_layout.proofs.Nodes.{has_numbers, node_numbers, node_value-is}
+use Rattle.zn_layout.proofs.Nodes.{has_numbers, node_numbers, node_value-is, node_value-length}
 use Rattle.zn_layout.proofs.Numbers.{long_back}
 use Rattle.zn_view.specs.declared.plan.Who.{Who}
 use Rattle.zn_view.specs.Seen.{View, seen}
@@ -40,11 +41,14 @@ data_put (Some n) None h = absurd h
 data_put (Some n) (Some kv) h = ap (λ (z : ℤ). Some z) (sym h.changed)
 
 -- the czxid of a node is in its record
-made_put : (kv : Kv) (n : Node) → IsData (stored kv) n → made_at kv ≡ n.czxid
+made_put : (kv : Kv) (n : Node) → IsData (stored kv) n → made_at kv ≡ Some n.czxid
 made_put kv n of_data =
     let r = data_record n of_data.stored in
-    let first : front_long (drop 1 kv.value) ≡ of_data.stored = ap (λ (v : Bytes). front_long (drop 1 v)) (of_data.value ∙ node_value-is r) ∙ long_back of_data.stored (drop 8 (node_numbers r)) (has_numbers r of_data.fits).czxid in
-    ap (λ (c : ℤ). czxid_of c kv.mod_revision) first ∙ sym of_data.made
+    let value : kv.value ≡ 1 ∷ node_numbers r = of_data.value ∙ node_value-is r in
+    let long : nat_lt (length kv.value) 9 ≡ false = let e = ap length value in let numbers = node_value-length r in grind (arith, nat_tests) in
+    let first : front_long (drop 1 kv.value) ≡ of_data.stored = ap (λ (v : Bytes). front_long (drop 1 v)) value ∙ long_back of_data.stored (drop 8 (node_numbers r)) (has_numbers r of_data.fits).czxid in
+    ap (λ b. option_map (λ (c : ℤ). czxid_of c kv.mod_revision) (if b then None else Some (front_long (drop 1 kv.value)))) long
+    ∙ ap (λ (c : ℤ). Some (czxid_of c kv.mod_revision)) first ∙ ap (λ (c : ℤ). Some c) (sym of_data.made)
 
 children_put : (n : Option Node) (k : ℕ) (counted : Bool) (own counts : Option Kv) → DataMeans n (stored_of own) → CountsMean n k counted (stored_of counts) → children_changed own counts ≡ option_map (λ (x : Node). x.pzxid) n
 children_put None k counted None None own_data h = refl
@@ -53,7 +57,7 @@ children_put None k counted (Some own) counts own_data h = absurd own_data
 children_put (Some n) k counted None counts own_data h = absurd own_data
 children_put (Some n) k true (Some own) None own_data h = absurd h
 children_put (Some n) k true (Some own) (Some kv) own_data h = ap (λ (z : ℤ). Some z) (sym h.pzxid)
-children_put (Some n) k false (Some own) None own_data h = ap (λ (z : ℤ). Some z) (made_put own n own_data ∙ sym h.pzxid)
+children_put (Some n) k false (Some own) None own_data h = made_put own n own_data ∙ ap (λ (z : ℤ). Some z) (sym h.pzxid)
 children_put (Some n) k false (Some own) (Some kv) own_data h = absurd h
 
 -- when it changed, at a path that may not be valid

@@ -1,13 +1,13 @@
 -- What a setWatches found at each of its paths (Programmer's Guide, "ZooKeeper Watches").
-use Rattle.std.specs.Prelude.{◌≡◌, ℤ, List, ◌++◌, drop, map, Option, Some, None, option_and_then, if◌then◌else◌}
+use Rattle.std.specs.Prelude.{◌≡◌, ℤ, List, ◌++◌, map, Option, Some, None, option_and_then, option_map, if◌then◌else◌}
 use Rattle.ev_types.specs.declared.answer.Kv.{Kv}
-use Rattle.zk_jute.specs.JuteReading.{front_long}
 use Rattle.zk_model.specs.Paths.{is_path}
 use Rattle.zk_model.specs.Watches.{Watches, set_watches}
 use Rattle.zk_model.specs.declared.request.Request.TheVariants as req
 use Rattle.zk_service.specs.States.{State}
 use Rattle.zx_base.specs.Maps.{Bytes}
 use Rattle.zn_layout.specs.Keys.{DataKey, CountsKey, key_bytes}
+use Rattle.zn_layout.specs.Reading.{czxid_in}
 use Rattle.zn_layout.specs.StandsFor.{czxid_of}
 use Rattle.zn_view.specs.declared.plan.Who.{Who}
 use Rattle.zn_view.specs.Seen.{View, found_of, seen}
@@ -27,14 +27,14 @@ put_at None = None
 put_at (Some kv) = Some kv.mod_revision
 
 -- when the node was made, by its record, whose first field is the czxid
-abbrev pub made_at : Kv → ℤ
-made_at kv = czxid_of (front_long (drop 1 kv.value)) kv.mod_revision
+abbrev pub made_at : Kv → Option ℤ
+made_at kv = option_map (λ (stored : ℤ). czxid_of stored kv.mod_revision) (czxid_in kv.value)
 
 -- when the node's children changed last: with the last put of their counts, or, where there is no record of them, with the node's create
 abbrev pub children_changed : Option Kv → Option Kv → Option ℤ
 children_changed node (Some counts) = Some counts.mod_revision
 children_changed None None = None
-children_changed (Some node) None = Some (made_at node)
+children_changed (Some node) None = made_at node
 
 -- when what the watch waits for changed last, by the node's record and the record of its counts
 abbrev pub changed_at : WatchList → Option Kv → Option Kv → Option ℤ

@@ -7,6 +7,7 @@ ghost use Rattle.zk_model.specs.Znodes.{stat};
 ghost use Rattle.zk_model.specs.declared.node.Node.{Node as Znode};
 ghost use Rattle.zn_layout.specs.Records.{IsCountRec};
 ghost use Rattle.zn_layout.specs.StandsFor.{stored_of, DataMeans, CountsMean};
+ghost use Rattle.zn_reads.specs.SeenPaths.{made_at};
 ghost use Rattle.zn_reads.specs.Found.{stat_by, AreCountsBy, AreNoCounts, IsStatAt, IsContentAt, IsVersionAt};
 
 use crate::found::found;
@@ -16,7 +17,7 @@ use std::alloc::Global;
 use zk_model::{Path, Stat};
 use zn_layout::{
     CountRec, FIRST_COUNTS, NodeNumbers, RecordFault, counts_in, cversion, czxid, node_content,
-    node_numbers, read_node,
+    node_czxid, node_numbers, read_node,
 };
 use zn_view::View;
 use zx_base::{Bytes, Memory};
@@ -113,12 +114,12 @@ pub(crate) fn content_at(alloc: Global, path: &Path, view: &View) -> Result<Byte
     }
 }
 
-/// The zxid of a node's create, by its record. A view holds no other value.
+/// The zxid of a node's create, by its record.
 pub(crate) fn made_at(own: &Kv) -> Option<i64>
-    ensures { IsSomeValue node_value IsNodeRec own.now.value → result ≡ Some (made_at own.now) }
+    ensures { result ≡ made_at own.now }
 {
-    let numbers = node_numbers(own.value.as_slice())?;
-    Some(czxid(numbers.czxid, own.mod_revision))
+    let stored = node_czxid(own.value.as_slice())?;
+    Some(czxid(stored, own.mod_revision))
 }
 
 fn version_of(own: &Kv) -> Option<i32>
