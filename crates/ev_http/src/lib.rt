@@ -43,11 +43,11 @@
 //!
 //! # Cost
 //!
-//! Heads, lines before chunks and trailers are taken byte by byte, so a source that asks the system for each read wants a
-//! buffer in front. Bodies are taken in pieces of up to 4,096 bytes, each copied once. A head is parsed anew at each of its
-//! lines, but for empty lines in front of it, and once more for its fields. A call keeps the head, the body and one line before a chunk or the trailer fields,
-//! each in a buffer that grows by doubling. A [`Lines`] keeps the bytes after the last line that it gave: less than one line
-//! and a piece. It scans each byte once. When it gives a line, it copies the bytes after it, which are less than a piece.
+//! Heads, lines before chunks and trailers are taken by [`Source::read_line`](zx_outside::Source::read_line), each byte copied once, and
+//! bodies in pieces of up to 4,096 bytes, each copied once. A head is parsed at the empty line that ends it, and once more for its fields.
+//! A call keeps the head, the body and one line before a chunk or the trailer fields, each in a buffer that grows by doubling. A [`Lines`]
+//! keeps the bytes after the last line that it gave: less than one line and a piece. It scans each byte once. When it gives a line, it
+//! copies the bytes after it, which are less than a piece.
 #![tactic(auto)]
 
 mod body;

@@ -21,7 +21,7 @@ use std::alloc::Global;
 use zx_base::Memory;
 use zx_history::GhostHistory;
 use zx_outside::{Sink, Source};
-use zx_words::{HangsUp, LetsGo};
+use zx_random::{HangsUp, LetsGo};
 
 /// How a link stands.
 #[derive(Clone, Copy)]

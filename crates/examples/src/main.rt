@@ -40,7 +40,7 @@ use std::time::Clock;
 use zetcd_cmd::{plain, zetcd};
 use zx_net::{InlineSpawner, MemClock, MemNet};
 use zx_outside::{MemSink, MemSource};
-use zx_words::MemRandom;
+use zx_random::MemRandom;
 
 /// The sizes of the pieces in which an input is handed over, in bytes: the least, a prime, and the most that one read takes.
 const SIZES: [u32; 3] = [1, 7, 65_536];

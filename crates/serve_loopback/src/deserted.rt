@@ -16,7 +16,7 @@ use std::time::Clock;
 use zx_base::Memory;
 use zx_net::Net as Streams;
 use zx_sockets::StdNet;
-use zx_words::RandWord;
+use zx_random::RandWord;
 
 /// How many streams an etcd of one line serves: more than come.
 const STREAMS: u64 = 1000;

@@ -7,7 +7,7 @@ use zp_server::follow;
 use zw_hub::{FeedEnd, hub};
 use zx_base::Memory;
 use zx_net::MemNet;
-use zx_words::MemStop;
+use zx_random::MemStop;
 
 /// How a follower ended.
 fn end_of(alloc: Global, end: Option<FeedEnd>) -> Result<Option<String>, Memory> {

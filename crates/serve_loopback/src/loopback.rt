@@ -19,7 +19,7 @@ use zp_server::{ListBook, is_address, serve};
 use zx_base::Memory;
 use zx_outside::MemSink;
 use zx_sockets::{StdClock, StdNet, ThreadSpawner};
-use zx_words::{RandWord, Random};
+use zx_random::{RandWord, Random};
 
 /// How many clients connect.
 const CLIENTS: u64 = 2;

@@ -13,7 +13,7 @@ use zx_base::Memory;
 use zx_net::{MemClock, MemNet};
 use zx_outside::MemSink;
 use zx_sockets::ThreadSpawner;
-use zx_words::MemRandom;
+use zx_random::MemRandom;
 
 /// The end, and the first and the last line of what was written.
 fn text_of(alloc: Global, end: &str, written: &[u8]) -> Result<Option<String>, Memory> {

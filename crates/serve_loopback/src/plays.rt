@@ -16,7 +16,7 @@ use zx_base::Memory;
 use zx_net::Net as Streams;
 use zx_outside::{Got, Sink, Source};
 use zx_sockets::StdNet;
-use zx_words::{MemRandom, RandWord};
+use zx_random::{MemRandom, RandWord};
 
 /// How many idle turns of some 10 milliseconds a client waits at most for what a step is to bring.
 const MAX_TURNS: u32 = 3000;

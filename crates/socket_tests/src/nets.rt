@@ -12,7 +12,7 @@ use std::time::{Duration, Instant};
 use zx_net::{InlineSpawner, MemNet, Net, NetFault, Spawner, Wakes};
 use zx_outside::{Got, Sink, Took};
 use zx_sockets::{StdNet, connect, prepare};
-use zx_words::{HangsUp, LetsGo};
+use zx_random::{HangsUp, LetsGo};
 
 #[test]
 fn a_worker_waits_between_its_dials(rt: HostRuntime) -> Result<(), Fail> {

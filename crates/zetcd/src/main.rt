@@ -37,7 +37,7 @@ use zetcd_cmd::{Status, zetcd};
 use zx_net::{Clock, Net, Spawner, Wakes};
 use zx_outside::{Sink, Source, StdSink, StdSource};
 use zx_sockets::{StdClock, StdNet, ThreadSpawner};
-use zx_words::{HangsUp, LetsGo, RandWord, Random};
+use zx_random::{HangsUp, LetsGo, RandWord, Random};
 
 fn main(rt: HostRuntime) -> ExitCode {
     take_closed(&rt);

@@ -14,7 +14,7 @@ use crate::command::plain;
 use crate::status::Status;
 use crate::words::{etcd_words, serve_words};
 use ev_call::Cluster;
-use ev_words::{Fault, tell};
+use ev_faults::{Fault, tell};
 use std::alloc::Global;
 use std::sync::Wait;
 use std::time::Clock as SystemClock;
@@ -22,7 +22,7 @@ use zd_etcd::{EtcdEnd, etcd};
 use zp_server::{NoBook, OpenGate, ServeEnd, serve};
 use zx_net::{Clock, Net, NetFault, Spawner, Wakes};
 use zx_outside::{Sink, Source};
-use zx_words::{HangsUp, LetsGo, Random};
+use zx_random::{HangsUp, LetsGo, Random};
 
 /// The status of an etcd in memory that ended so.
 fn status_of_etcd(end: EtcdEnd) -> Status

@@ -1,6 +1,6 @@
 -- Which key is guessed absent, and that a view with the guess lacks nothing, where that key was all that the view lacked.
-use Rattle.std.proofs.Common.{◌≡◌, ◌≢◌, ℕ, ℤ, zero, suc, ◌<◌, refl, sym, ap, ◌∙◌, subst, arith, inl, inr, Bool, true, false, List, [], ◌∷◌, ◌&&◌, not, length, take, ◌⊎◌, ⊎_elim}
-use Rattle.std.specs.Prelude.{AllPairs, Contains, Option, Some, None}
+use Rattle.std.proofs.Common.{◌≡◌, ℕ, ℤ, ◌<◌, refl, sym, ap, ◌∙◌, subst, arith, inl, inr, Bool, true, false, List, [], ◌∷◌, ◌&&◌, not, length, take, ◌⊎◌, ⊎_elim}
+use Rattle.std.specs.Prelude.{Option, Some, None}
 use Rattle.ev_types.specs.declared.answer.Kv.{Kv}
 use Rattle.zk_model.specs.declared.request.Request.{Request}
 use Rattle.zk_model.specs.declared.request.Request.TheVariants as req
@@ -19,7 +19,7 @@ use Rattle.zn_view.specs.declared.plan.Who.{Who}
 use Rattle.zn_view.specs.declared.snapshot.SeenKey.{SeenKey}
 use Rattle.zn_view.specs.declared.want.Want.{Want}
 use Rattle.zn_view.specs.declared.want.Want.TheVariants as want
-use Rattle.zn_view.specs.Needs.{AreNeeds, Follows, IsLacking, IsRead, SawCounts, SawValue, key_want}
+use Rattle.zn_view.specs.Needs.{AreNeeds, Follows, IsLacking, IsRead, SawCounts}
 use Rattle.zn_view.specs.Seen.{View, seen}
 use Rattle.zn_view.proofs.Elements.{contains-cases, empty-contains}
 use Rattle.zn_view.proofs.Placed.{seen_in-placed_other, seen_in-placed_same}

@@ -1,6 +1,6 @@
 -- What is out after a step was asked by it, or was out before.
-use Rattle.std.proofs.Common.{◌≡◌, ℕ, List, [], Bool, true, false, refl, sym, ap, ◌∙◌, subst, inl, inr}
-use Rattle.std.specs.Prelude.{◌⊎◌, Option, Some, None, MatchBool}
+use Rattle.std.proofs.Common.{◌≡◌, ℕ, List, [], true, false, refl, sym, ap, ◌∙◌, subst, inl, inr}
+use Rattle.std.specs.Prelude.{◌⊎◌, Some, None, MatchBool}
 use Rattle.std.specs.Arc.{arc_value}
 use Rattle.ev_types.specs.declared.ask.Ask.{Ask}
 use Rattle.zk_jute.specs.Requests.{read_request}

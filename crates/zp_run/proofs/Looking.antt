@@ -8,7 +8,7 @@ use Rattle.ev_types.specs.declared.answer.Kv.{Kv}
 use Rattle.ev_types.specs.declared.ask.TxnReq.{TxnReq}
 use Rattle.zk_model.specs.declared.connect.ConnectRequest.{ConnectRequest}
 use Rattle.zx_base.proofs.MapLaws.{same-refl}
-use Rattle.zx_base.proofs.Options.{none_some, some_none}
+use Rattle.zx_base.proofs.Options.{some_none}
 use Rattle.zx_base.specs.Maps.{Bytes, same}
 use Rattle.zn_layout.specs.Keys.{HeadKey, key_bytes}
 use Rattle.zn_view.specs.Asks.{head_want, ranges_of, reading, with_part, with_parts}

@@ -20,7 +20,7 @@ use crate::ready::Ready;
 use crate::turns::in_turn;
 use crate::working::start_work;
 use ev_link::{HttpLink, NoLink, link_to};
-use ev_words::{Fault, tell_link};
+use ev_faults::{Fault, tell_link};
 use std::alloc::Global;
 use std::sync::{Arc, Wait};
 use std::time::Clock as SystemClock;
@@ -28,7 +28,7 @@ use zp_core::Fresh;
 use zx_base::Memory;
 use zx_net::{Clock, Net, Spawner, Wakes};
 use zx_outside::Sink;
-use zx_words::{HangsUp, LetsGo, Random};
+use zx_random::{HangsUp, LetsGo, Random};
 
 /// Has a client served over this link by a worker.
 fn start_one<

@@ -16,7 +16,7 @@ use std::alloc::Global;
 use std::sync::Wait;
 use zx_net::{Net, Wakes};
 use zx_outside::Sink;
-use zx_words::HangsUp;
+use zx_random::HangsUp;
 
 /// Waits until there is room for one more client, and then for the client.
 pub fn admit<W: Wait + Eprint, N: Net, O: Sink, G: Gate + Drop, B: Book<N::In, N::Out>>(

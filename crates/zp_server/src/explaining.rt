@@ -1,7 +1,7 @@
 //! Tells an operator why a first ask had no answer.
 
 use ev_addresses::{address_at, count_of};
-use ev_words::{Fault, tell};
+use ev_faults::{Fault, tell};
 use zx_net::Net;
 
 /// Whether an address begins with a scheme, and so cannot be dialled.

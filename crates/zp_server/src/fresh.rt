@@ -4,7 +4,7 @@ ghost use Rattle.std.specs.Prelude.{pos, ◌≤ℤ◌};
 
 use zk_model::Layout;
 use zp_core::Fresh;
-use zx_words::Random;
+use zx_random::Random;
 
 /// A word's low 63 bits are below this.
 const PAST_63_BITS: u64 = 9_223_372_036_854_775_808;

@@ -8,7 +8,7 @@
 //!   so that their descriptors are free at once.
 //! - The *watch worker* follows the head, the key that each update puts, and publishes an entry for each update at a hub, from
 //!   which the connections read ([`follow`]).
-//! - The *reaper workers* look for sessions whose lease has lapsed, and remove them with their ephemeral nodes ([`zs_lapsed`]).
+//! - The *reaper workers* look for sessions whose lease has lapsed, and remove them with their ephemeral nodes ([`zs_reaper`]).
 //!
 //! Two proxies share nothing but the etcd cluster. Within one proxy, updates that contend wait for each other ([`zp_turns`]), those of
 //! the reapers too.

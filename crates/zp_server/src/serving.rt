@@ -23,7 +23,7 @@ use crate::lines::{NET_FAULT, feed, listening, write_all};
 use crate::starting::{Home, Opened, begin_at, start_reapers, start_watch};
 use crate::taking::{await_all, await_rest};
 use ev_call::Cluster;
-use ev_words::{Fault, tell};
+use ev_faults::{Fault, tell};
 use std::alloc::Global;
 use std::sync::{Arc, Wait};
 use std::time::Clock as SystemClock;
@@ -33,7 +33,7 @@ use zw_hub::{FeedEnd, Keeper, hub};
 use zx_base::Memory;
 use zx_net::{Clock, Net, NetFault, Spawner, Wakes};
 use zx_outside::{Sink, Source};
-use zx_words::{HangsUp, LetsGo, Random, SharedStop};
+use zx_random::{HangsUp, LetsGo, Random, SharedStop};
 
 /// How many clients are served at once.
 const MAX_CLIENTS: usize = 256;

@@ -17,12 +17,12 @@ use std::alloc::Global;
 use std::sync::{Arc, Wait};
 use std::time::Clock as SystemClock;
 use zp_turns::Queues;
-use zs_lapsed::{REAPERS, reap};
+use zs_reaper::{REAPERS, reap};
 use zw_follow::{Place, follow_and_ring};
 use zw_hub::Hub;
 use zx_base::Memory;
 use zx_net::{Net, Spawner, Wakes};
-use zx_words::{Random, SharedStop};
+use zx_random::{Random, SharedStop};
 
 /// What the workers share, for a net and a book.
 pub type Home<N, B, G> = House<

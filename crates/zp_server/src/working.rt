@@ -9,7 +9,7 @@ use crate::gate::Gate;
 use crate::house::House;
 use crate::ready::Ready;
 use crate::served::Served;
-use ev_words::tell_link;
+use ev_faults::tell_link;
 use std::alloc::Global;
 use std::sync::{Arc, Wait};
 use std::time::Clock as SystemClock;
@@ -17,11 +17,11 @@ use zk_service::Cause;
 use zp_conn::{Belled, Turns, serve_in_turn};
 use zp_run::Trace;
 use zp_turns::InTurn;
-use zs_lapsed::fault_of;
+use zs_reaper::fault_of;
 use zw_hub::{Feed, HubReader};
 use zx_net::{Bell, Clock, Spawner, Wakes};
 use zx_outside::{Sink, Source};
-use zx_words::{HangsUp, LetsGo};
+use zx_random::{HangsUp, LetsGo};
 
 /// Serves a connection over this feed, and ends its stream and that of its link.
 fn serve_over<

@@ -6,7 +6,7 @@ use Rattle.ev_http.specs.Stream.{IsAt}
 use Rattle.ev_http.specs.declared.fault.HttpFault.{HttpFault}
 use Rattle.ev_http.specs.declared.fault.HttpFault.TheVariants as http
 use Rattle.ev_http.specs.declared.lines.Lines.{Lines}
-use Rattle.ev_words.specs.declared.fault.Fault.{Fault}
+use Rattle.ev_faults.specs.declared.fault.Fault.{Fault}
 use Rattle.zn_layout.specs.declared.entry.Entry.{Entry}
 use Rattle.zw_hub.specs.Lists.{forgetting, with_end}
 use Rattle.zw_hub.specs.declared.feed.FeedEnd.{FeedEnd}

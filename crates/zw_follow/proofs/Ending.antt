@@ -6,15 +6,15 @@ use Rattle.ev_http.specs.Taking.{Told, risen}
 use Rattle.ev_http.specs.declared.lines.Lines.{Lines}
 use Rattle.ev_json.specs.declared.line.Line.{Line}
 use Rattle.ev_json.specs.declared.line.Line.TheVariants as line
-use Rattle.ev_words.specs.declared.fault.Fault.{Fault}
-use Rattle.ev_words.specs.declared.fault.Fault.TheVariants as fault
+use Rattle.ev_faults.specs.declared.fault.Fault.{Fault}
+use Rattle.ev_faults.specs.declared.fault.Fault.TheVariants as fault
 use Rattle.zw_feed.specs.Following.{FollowerState, heads_in}
 use Rattle.zw_hub.specs.Ends.{IsProper}
 use Rattle.zw_hub.specs.declared.feed.FeedEnd.{FeedEnd}
 use Rattle.zw_hub.specs.declared.feed.FeedEnd.TheVariants as ends
 use Rattle.zw_hub.specs.declared.published.Published.{Published}
 use Rattle.zx_outside.specs.Counts.{one_more}
-use Rattle.zx_words.specs.Words.{readings_after}
+use Rattle.zx_random.specs.Words.{readings_after}
 use Rattle.zx_outside.proofs.Streams.{Gives-nil}
 use Rattle.zw_follow.specs.Publishing.{IsBehind, IsNotBehind, IsPlaced, IsShown, Said, Stands, TakesLine, greatest, told_after, told_by, zxids}
 use Rattle.zw_follow.specs.Streams.{AreNotBehind, EndsBehind, EndsBy, GoesOn, IsBrokenBy, IsFollowing, IsHeeded, IsReadTo, IsSilent, IsWaitedFor, ReadsOn, ReadsStream, idles_of, is_barren, max_silence, minute, spelled, taken_after}

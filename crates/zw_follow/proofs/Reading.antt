@@ -15,8 +15,8 @@ use Rattle.ev_json.specs.Bodies.{FaultOf, reads_line}
 use Rattle.ev_json.specs.Ranges.{LineFits}
 use Rattle.ev_json.specs.declared.line.Line.{Line}
 use Rattle.ev_json.specs.declared.line.Line.TheVariants as line
-use Rattle.ev_words.specs.declared.fault.Fault.{Fault}
-use Rattle.ev_words.specs.declared.fault.Fault.TheVariants as fault
+use Rattle.ev_faults.specs.declared.fault.Fault.{Fault}
+use Rattle.ev_faults.specs.declared.fault.Fault.TheVariants as fault
 use Rattle.zx_outside.specs.Counts.{one_more}
 use Rattle.zx_outside.proofs.Streams.{Gives-append}
 use Rattle.zw_follow.specs.Publishing.{Said}

@@ -20,7 +20,7 @@ use Rattle.zw_hub.specs.declared.published.Published.{Published}
 use Rattle.zx_net.specs.Nets.{GivesNext, IsFreshSink, IsFreshSource, NetCounts, no_room_after}
 use Rattle.zx_net.specs.declared.net.NetFault.{NetFault}
 use Rattle.zx_net.specs.declared.net.NetFault.TheVariants as refused
-use Rattle.ev_words.specs.declared.fault.Fault.TheVariants as fault
+use Rattle.ev_faults.specs.declared.fault.Fault.TheVariants as fault
 use Rattle.zx_outside.specs.Counts.{InputCounts, OutputCounts, one_more}
 use Rattle.zw_follow.specs.Publishing.{Explains, Publishes, Said, heads_of, told_after, with_entries}
 use Rattle.zw_follow.specs.Streams.{IsHeeded, IsOver, IsReadTo, IsWaitedFor, spelled}

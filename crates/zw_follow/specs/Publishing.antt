@@ -9,7 +9,7 @@ use Rattle.zn_layout.specs.declared.entry.Entry.{Entry}
 use Rattle.zw_feed.specs.Following.{AreEntries, BreaksAt, FollowerState, heads_in}
 use Rattle.zw_feed.specs.declared.fault.FeedFault.{FeedFault}
 use Rattle.zw_feed.specs.declared.fault.FeedFault.TheVariants as fault
-use Rattle.ev_words.specs.declared.fault.Fault.{Fault}
+use Rattle.ev_faults.specs.declared.fault.Fault.{Fault}
 use Rattle.zw_hub.specs.Ends.{IsProper}
 use Rattle.zw_hub.specs.Lists.{last_number}
 use Rattle.zw_hub.specs.declared.feed.FeedEnd.{FeedEnd}

@@ -13,8 +13,8 @@ use Rattle.ev_http.specs.Taking.{Told, is_read_fault, risen}
 use Rattle.ev_http.specs.declared.fault.HttpFault.{HttpFault}
 use Rattle.ev_http.specs.declared.fault.HttpFault.TheVariants as http
 use Rattle.ev_http.specs.declared.lines.Lines.{Lines}
-use Rattle.ev_words.specs.declared.fault.Fault.{Fault}
-use Rattle.ev_words.specs.declared.fault.Fault.TheVariants as fault
+use Rattle.ev_faults.specs.declared.fault.Fault.{Fault}
+use Rattle.ev_faults.specs.declared.fault.Fault.TheVariants as fault
 use Rattle.zn_layout.specs.declared.entry.Entry.{Entry}
 use Rattle.zw_hub.specs.Ends.{IsProper}
 use Rattle.zw_hub.specs.declared.feed.FeedEnd.TheVariants as ends

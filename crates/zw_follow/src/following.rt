@@ -11,13 +11,13 @@ use crate::place::Place;
 use crate::rings::{NoBells, Rings};
 use crate::stream::{StreamEnd, open, read_stream};
 use ev_addresses::{address_at, next_of};
-use ev_words::{Fault, tell};
+use ev_faults::{Fault, tell};
 use std::alloc::Global;
 use std::sync::Wait;
 use zw_hub::{FeedEnd, Hub};
 use zx_base::{Bytes, Memory};
 use zx_net::Net;
-use zx_words::StopWord;
+use zx_random::StopWord;
 
 /// How many dials in a row may give no line.
 const MAX_BARREN: u32 = 10;

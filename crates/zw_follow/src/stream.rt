@@ -16,7 +16,7 @@ use crate::rings::Rings;
 use ev_http::{HttpFault, Lines, send_request};
 use ev_json::{JsonFault, Line, read_line, what_is_read_fits, write_watch};
 use ev_types::Route;
-use ev_words::Fault;
+use ev_faults::Fault;
 use std::alloc::Global;
 use std::collections::VecDeque;
 use std::sync::{Arc, Wait};
@@ -27,7 +27,7 @@ use zw_watch::bits_of;
 use zx_base::Memory;
 use zx_net::{Net, NetFault};
 use zx_outside::Source;
-use zx_words::StopWord;
+use zx_random::StopWord;
 
 /// How many minutes without a line end a stream. An etcd that has nothing else to tell sends a line of progress every ten minutes, and leaves
 /// one out after an update.

@@ -1,8 +1,6 @@
 -- Counts never fall, and rise by one at most.
 use Rattle.std.proofs.Common.{◌≡◌, ℕ, ◌+◌, ◌-◌, ◌^◌, ◌<◌, min, arith}
 use Rattle.zx_outside.specs.Counts.{one_more}
-use Rattle.zx_outside.specs.declared.source.Got.TheVariants as got
-use Rattle.zx_outside.specs.declared.sink.Took.TheVariants as took
 
 -- one more, as a saturating sum, for a count that has 64 bits
 pub min-is-one_more : (count : ℕ) → count < 2 ^ 64 → min (count + 1) (2 ^ 64 - 1) ≡ one_more count

@@ -17,7 +17,7 @@
 //! such limits. The system asks its peer's system for a sign of life after each minute without a byte (TCP's keepalive), and the stream is broken
 //! where six such asks, each 10 seconds after the last, got no answer.
 //!
-//! A source that was told to end its stream ([`HangsUp`](zx_words::HangsUp)), and a sink that let go of it ([`LetsGo`](zx_words::LetsGo)),
+//! A source that was told to end its stream ([`HangsUp`](zx_random::HangsUp)), and a sink that let go of it ([`LetsGo`](zx_random::LetsGo)),
 //! hold no descriptor any more, and each read or write is a fault. Before that the source takes what the peer has sent and nobody will
 //! read, up to 8 MiB: a stream that is closed over bytes that were not read is reset, and the peer may lose what was written before.
 //!

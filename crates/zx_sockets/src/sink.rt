@@ -6,7 +6,7 @@ use std::io::Write;
 use std::net::TcpStream;
 use std::sync::Arc;
 use zx_outside::{Sink, Took};
-use zx_words::LetsGo;
+use zx_random::LetsGo;
 
 /// The sink end of a TCP stream.
 #[derive(Drop)]

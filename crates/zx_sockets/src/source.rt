@@ -17,7 +17,7 @@ use std::thread;
 use std::time::{Clock as SystemClock, Duration};
 use zx_net::Wakes;
 use zx_outside::{Got, Source, judge};
-use zx_words::HangsUp;
+use zx_random::HangsUp;
 
 /// How many bytes are asked of the system at once.
 const ROOM: usize = 8192;

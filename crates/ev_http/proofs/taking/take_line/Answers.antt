@@ -1,4 +1,4 @@
-use Rattle.std.proofs.Common.{◌≡◌, ◌+◌, ◌-◌, ◌≤◌, [], ◌++◌, length, Ok, Err, rules, arith}
+use Rattle.std.proofs.Common.{◌+◌, ◌-◌, [], ◌++◌, Ok, Err, rules}
 use Rattle.ev_http.specs.declared.taking.Piece.TheVariants as piece
 use Rattle.ev_http.specs.Taking.{told}
 use Rattle.ev_http.proofs.Takings.{Took-none, Took-append, Grows-none, line_after}

@@ -1,6 +1,5 @@
 -- The key that is lacking may be guessed absent.
-use Rattle.std.proofs.Common.{subst, sym, ◌∙◌, ap}
-use Rattle.std.specs.Prelude.{Option, Some, None}
+use Rattle.std.proofs.Common.{sym, ◌∙◌, ap}
 use Rattle.std.proofs.lemmas.Result.{IfOk-weaker}
 use Rattle.zp_core.specs.Guessing.{GuessesAt, GuessesOn, may_guess}
 use Rattle.zp_core.proofs.Guessing.{guesses-on, may-guess}

@@ -1,6 +1,6 @@
 -- A plan on a guess, or an ask.
 use Rattle.std.proofs.Common.{take, subst}
-use Rattle.std.specs.Prelude.{IfOk, Option, Some, None}
+use Rattle.std.specs.Prelude.{Option}
 use Rattle.std.proofs.lemmas.Result.{IfOk-weaker}
 use Rattle.zn_view.specs.declared.plan.Decision.TheVariants.{Planned}
 use Rattle.zp_step.specs.Looking.{Looks, asks_for, decided, max_ranges}

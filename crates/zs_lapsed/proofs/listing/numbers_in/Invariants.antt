@@ -1,6 +1,0 @@
-use Rattle.std.proofs.Common.{◌≡◌, take}
-use Rattle.zs_lapsed.specs.Listing.{numbers_in}
-use Rattle.zs_lapsed.proofs.listing.numbers_in.Given as goal
-
-abbrev pub invariant-keys : goal.invariant-keys
-invariant-keys l = l.found.items ≡ numbers_in l.kind (take l.kv-index l.kvs)

@@ -1,8 +1,0 @@
-use Rattle.zs_lapsed.specs.Calling.{Makes, link_told}
-use Rattle.zs_lapsed.proofs.Paging.{GoesOn}
-use Rattle.zs_lapsed.specs.Turning.{max_lists}
-use Rattle.zs_lapsed.proofs.turning.pages.Given as goal
-
-abbrev pub invariant-pages : goal.invariant-pages
-invariant-pages g l =
-    Makes (GoesOn max_lists l.made l.fn.from l.end l.next l.is_damaged) (link_told g.L.Etcd.told g.L.Etcd.failures l.fn.link) (link_told g.L.Etcd.told g.L.Etcd.failures l.link)
