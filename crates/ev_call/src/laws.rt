@@ -1,4 +1,4 @@
-//! The law of links. The function does nothing, and its contract is the law.
+//! The law of links. The function does nothing, and its contract is the law: only what a contract names is proved.
 
 ghost use Rattle.ev_call.specs.Honest.{AloneIsHonest};
 

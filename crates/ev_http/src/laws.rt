@@ -1,4 +1,5 @@
-//! What is true of every message that is sent. These functions do nothing: each clause is a law of the definitions.
+//! What is true of every message that is sent. These functions do nothing: each clause is a law of the definitions, and only
+//! what a contract names is proved.
 
 ghost use Rattle.std.specs.Prelude.{◌≡◌, ℕ, ◌<◌, ◌≤◌, ◌++◌, All, List, length};
 ghost use Rattle.std.specs.List.{flat_map};

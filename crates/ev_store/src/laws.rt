@@ -1,4 +1,5 @@
-//! What the store's definitions amount to. Each function does nothing, and its contract is the law.
+//! What the store's definitions amount to. Each function does nothing, and its contract is the law: only what a contract
+//! names is proved.
 
 ghost use Rattle.std.specs.Prelude.{◌≡◌};
 ghost use Rattle.ev_types.specs.Store as etcd;

@@ -1,4 +1,5 @@
-//! What the definitions of a store amount to. Each function does nothing, and its contract is the law.
+//! What the definitions of a store amount to. Each function does nothing, and its contract is the law: only what a contract
+//! names is proved.
 
 ghost use Rattle.ev_types.specs.Laws.{ForeignCanPut, ForeignKeepsLeases, ForeignKeepsThePast, ForeignMakesARevision, ForeignNeedsARevision, ForeignPutsOneKey, KeysWerePut, KeysWerePutByNow, LapseKeepsThePast, LapseMakesARevision, LapseOfNoKeys, LapseTakesItsKeys, LapseTakesItsLease, LeasesCanLapse, OneKeyIsFound, OnlyLeasesLapse, ReadsAreAllowed, ReadsChangeNothing, ZeroNeverLapses};
 

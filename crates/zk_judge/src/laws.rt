@@ -1,4 +1,5 @@
-//! What holds of every verdict.
+//! What holds of every verdict. Each function does nothing, and its contract is the law: only what a contract names is
+//! proved.
 
 ghost use Rattle.std.specs.Prelude.{◌≡◌, true, ℕ, List};
 ghost use Rattle.zk_transcript.specs.declared.transcript.TranscriptLine.{TranscriptLine};

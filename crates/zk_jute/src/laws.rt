@@ -1,4 +1,5 @@
-//! What is true of every frame. These functions do nothing: each clause is a law of the definitions.
+//! What is true of every frame. These functions do nothing: each clause is a law of the definitions, and only what a
+//! contract names is proved.
 
 ghost use Rattle.std.specs.Prelude.{◌≡◌, ◌≢◌, ℕ, ℤ, ◌≤◌, Some, List, [], ◌∷◌, length};
 ghost use Rattle.zk_jute.specs.Connects.{connect_response_values, read_connect};

@@ -1,4 +1,5 @@
-//! The laws of the least walk.
+//! The laws of the least walk. Each function does nothing, and its contract is the law: only what a contract names is
+//! proved.
 
 ghost use Rattle.zk_least.specs.LeastWalk.{LeastWalkLaw, ConversationLaw};
 ghost use Rattle.zk_least.specs.LeastSteps.{AttachedAboveZero, LeastStepLaw, PlacesRise};

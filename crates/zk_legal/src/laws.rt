@@ -1,4 +1,5 @@
-//! What holds of every transcript without a fault.
+//! What holds of every transcript without a fault. Each function does nothing, and its contract is the law: only what a
+//! contract names is proved.
 
 ghost use Rattle.zk_legal.specs.Laws.{FramesWithoutFaultAreFresh, LinesInOrderAreOrdered, LinesWithoutFaultAreLegal, LinesWithoutFaultHaveZxids, NumbersWithoutFaultFit, ResponsesWithoutFaultAreShort, SessionsWithoutFaultHavePasswords, TriggersWithoutFaultAreShort, UnopenedConnectionsAreSilent};
 

@@ -1,4 +1,5 @@
-//! Where no number is beyond its field.
+//! Where no number is beyond its field. Each function does nothing, and its contract is the law: only what a contract names
+//! is proved.
 
 ghost use Rattle.std.specs.Prelude.{◌≤◌, ℕ, ℤ, List};
 ghost use Rattle.std.specs.List.{AllByRecursion};

@@ -1,4 +1,5 @@
-//! What holds of every legal history.
+//! What holds of every legal history. Each function does nothing, and its contract is the law: only what a contract names is
+//! proved.
 
 ghost use Rattle.zk_transcript.specs.Laws.{AliveSinceOwnLine, AttachedByOwnLine, AttachedLast, AttachedSinceOwnLine, AttachedToOwnLine, AttachesComeAfter, AttachesShowThePassword, BeginComesAfterAnOpenLine, BeginComesBeforeLapses, LegalHistoriesAreBounded, LegalHistoriesAreSound, ReapedSessionsHadLapsed, RequestsAreCarriedOutInOrder, SessionsBeginAsOffered, UpdatesAreCounted, ZxidsRise};
 

@@ -1,4 +1,5 @@
-//! What is true of every stream. The function does nothing: each clause is a law of the definitions.
+//! What is true of every stream. The function does nothing: each clause is a law of the definitions, and only what a
+//! contract names is proved.
 
 ghost use Rattle.std.specs.Prelude.{◌≡◌, ℕ, ◌++◌, List, [], Result};
 ghost use Rattle.std.specs.Global.{Vec as AVec};

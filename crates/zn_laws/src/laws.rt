@@ -1,4 +1,4 @@
-//! The laws. Each function does nothing, and its contract is the law.
+//! The laws. Each function does nothing, and its contract is the law: only what a contract names is proved.
 
 ghost use Rattle.zn_laws.specs.Carried.{LeftPartsAreCarriedOut};
 ghost use Rattle.zn_laws.specs.Created.{Create2ShowsItsNode};

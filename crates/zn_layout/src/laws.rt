@@ -1,4 +1,4 @@
-//! The laws of the layout. Each function does nothing, and its contract is the law.
+//! The laws of the layout. Each function does nothing, and its contract is the law: only what a contract names is proved.
 
 ghost use Rattle.zn_layout.specs.Laws.{AliveStands, BeginAgainChangesNothing, BeginStands, BoundedPathsAreValid, ChildrenAreUnderTheirFront, ChildrenListed, CountsValueIsInjective, FitsAppend, FitsSame, ForeignStands, GrantStands, GuardsHoldAsSeen, GuardsTellWhatWasSeen, HeadValueIsInjective, KeyBytesIsInjective, LapseStands, LeaseValueIsInjective, NodeValueIsInjective, RangeStands, ReadsStand, SessionValueIsInjective, StandsAfter, UnchangedStands, UpdateCommits, UpdateHasItsSize, UpdateIsAllowed, UpdateIsSendable, UpdateLooksAgain};
 

@@ -1,4 +1,4 @@
-//! The laws of multis. Each function does nothing, and its contract is the law.
+//! The laws of multis. Each function does nothing, and its contract is the law: only what a contract names is proved.
 
 ghost use Rattle.zn_multi.specs.Laws.{EachKeyIsLaidOnce, LastChangeIsLaid, LaterPartsSeeEarlierOnes, OperationsAreLaid, PartsPassAlike, PartsStopAlike, RefusalsDoNotDependOnTheTime, WhatPartsLookAtWasSeen};
 

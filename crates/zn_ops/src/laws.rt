@@ -1,4 +1,4 @@
-//! The laws of decisions. Each function does nothing, and its contract is the law.
+//! The laws of decisions. Each function does nothing, and its contract is the law: only what a contract names is proved.
 
 ghost use Rattle.zn_ops.specs.Laws.{PlannedSinglesAreUpdates, PlannedWhereNotRefused};
 

@@ -1,4 +1,4 @@
-//! The laws of views. Each function does nothing, and its contract is the law.
+//! The laws of views. Each function does nothing, and its contract is the law: only what a contract names is proved.
 
 ghost use Rattle.zn_view.specs.Laws.{APlanCommits, AgreedKeysAreAsSeen, ChildrenAreListed, FailedPlanIsAnswered, FirstRoundAgrees, FormDecidesFirst, GuardedKeysAreAsSeen, GuardedKeysWereFound, GuardsHoldUnchanged, LaterRoundAgrees, ListedStaysListed, PlanIsCarriedOut, PlanMayBeAsked, SeenKeysWerePut, SeenStaysSeen, SessionHasExpired, SessionHasMoved, SomeKeysAgree, SomeKeysAreEnough, SomeKeysAreShown, TheLastUpdateIsTold, TreeDecidesLast, UpdateLeavesAView, ViewAfterAPlanAgrees, ViewAfterAgrees, WhatWasWantedIsSeen};
 

@@ -1,4 +1,5 @@
-//! What the counts of packets amount to. Each function does nothing, and its contract is the law.
+//! What the counts of packets amount to. Each function does nothing, and its contract is the law: only what a contract names
+//! is proved.
 
 ghost use Rattle.std.specs.Prelude.{◌≡◌, ◌≤ℤ◌, ◌<ℤ◌, ℕ, ℤ, pos, true, false};
 ghost use Rattle.zk_jute.specs.Packets.{connect_packet, notice_packet, reply_packet};

@@ -1,4 +1,5 @@
-//! A law of connections that were served. The function does nothing, and its contract is the law.
+//! A law of connections that were served. The function does nothing, and its contract is the law: only what a contract names
+//! is proved.
 
 ghost use Rattle.zp_conn.specs.Uncut.{UncutEndSo};
 

@@ -1,4 +1,5 @@
-//! The laws of a connection's steps. Each function does nothing, and its contract is the law.
+//! The laws of a connection's steps. Each function does nothing, and its contract is the law: only what a contract names is
+//! proved.
 
 ghost use Rattle.zp_laws.specs.Growing.{FreshnessLasts, StandingLasts};
 ghost use Rattle.zp_laws.specs.Honest.{PastIsRecords, PresentIsRecords, RecordsAreSound};

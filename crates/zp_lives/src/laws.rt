@@ -1,4 +1,4 @@
-//! The laws of lives. Each function does nothing, and its contract is the law.
+//! The laws of lives. Each function does nothing, and its contract is the law: only what a contract names is proved.
 
 ghost use Rattle.zp_lives.specs.Alone.{AloneFromTheFirst, AloneIsServed};
 ghost use Rattle.zp_lives.specs.Followed.{HonestLinesGiveEntries};

@@ -1,4 +1,4 @@
-//! The laws of runs. Each function does nothing, and its contract is the law.
+//! The laws of runs. Each function does nothing, and its contract is the law: only what a contract names is proved.
 
 ghost use Rattle.zp_run.specs.Laws.{NewRests, RunsGoOn, StepsCountBytes, StepsShow};
 

@@ -1,4 +1,5 @@
-//! What holds of a script's lines by the tests that they must pass. Each function does nothing, and its contract is the law.
+//! What holds of a script's lines by the tests that they must pass. Each function does nothing, and its contract is the law:
+//! only what a contract names is proved.
 
 ghost use Rattle.std.specs.Prelude.{◌≡◌, ℕ, ℤ, List, None};
 ghost use Rattle.zt_text.specs.declared.script.Happening.TheVariants as line;

@@ -1,4 +1,5 @@
-//! The laws of connections that were served alone. Each function does nothing, and its contract is the law.
+//! The laws of connections that were served alone. Each function does nothing, and its contract is the law: only what a
+//! contract names is proved.
 
 ghost use Rattle.zp_served.specs.Served.{EarlierAreInTime, ServedAreAlone, ServedAreFed, ServedFromTheFirst};
 

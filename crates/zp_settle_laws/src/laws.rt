@@ -1,4 +1,5 @@
-//! The laws of settles and of connections that stay open. Each function does nothing, and its contract is the law.
+//! The laws of settles and of connections that stay open. Each function does nothing, and its contract is the law: only what
+//! a contract names is proved.
 
 ghost use Rattle.zp_settle_laws.specs.Answering.{EverySettleAnswers};
 ghost use Rattle.zp_settle_laws.specs.Causes.{ReplaysNeverEndBy, ReplaysShowNoDamage};

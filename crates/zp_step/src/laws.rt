@@ -1,5 +1,5 @@
-//! What holds of a step by its definition. Each function does nothing, and its contract is the law. The laws that tie steps
-//! to a store and a transcript are in `zp_laws`.
+//! What holds of a step by its definition. Each function does nothing, and its contract is the law: only what a contract
+//! names is proved. The laws that tie steps to a store and a transcript are in `zp_laws`.
 
 ghost use Rattle.zp_step.specs.Ending.{StepsCount, StepsEndWell};
 ghost use Rattle.zp_step.specs.Laws.{EndsAreNamed, ShutForGood};

@@ -1,4 +1,5 @@
-//! The laws of verdicts on runs, and on their texts. Each function does nothing, and its contract is the law.
+//! The laws of verdicts on runs, and on their texts. Each function does nothing, and its contract is the law: only what a
+//! contract names is proved.
 
 ghost use Rattle.zp_verdict_laws.specs.Lawful.{EveryReplayIsLawful, FewLinesAreCounted, LinesCountFrames};
 ghost use Rattle.zp_verdict_laws.specs.Written.{LinesOfRunsFit, WrittenReplaysAreLawful};

@@ -1,4 +1,4 @@
-//! The laws of worlds. Each function does nothing, and its contract is the law.
+//! The laws of worlds. Each function does nothing, and its contract is the law: only what a contract names is proved.
 
 ghost use Rattle.std.specs.Prelude.{ℕ, ℤ, List};
 ghost use Rattle.zt_text.specs.declared.script.Happening.TheVariants as line;

@@ -1,4 +1,4 @@
-//! The laws of reaps. Each function does nothing, and its contract is the law.
+//! The laws of reaps. Each function does nothing, and its contract is the law: only what a contract names is proved.
 
 ghost use Rattle.std.specs.Prelude.{ℤ, pos, ◌≤ℤ◌};
 ghost use Rattle.zk_service.specs.States.{State, IsSound};

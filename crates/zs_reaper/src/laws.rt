@@ -1,4 +1,5 @@
-//! What the definitions amount to. Each function does nothing, and its contract is the law.
+//! What the definitions amount to. Each function does nothing, and its contract is the law: only what a contract names is
+//! proved.
 
 ghost use Rattle.std.specs.Prelude.{◌≡◌, ℕ, ℤ, Bool, false, List, [], ◌∷◌, ◌++◌, Some, Contains};
 ghost use Rattle.ev_types.specs.declared.answer.Kv.{Kv};

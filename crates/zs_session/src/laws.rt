@@ -1,4 +1,4 @@
-//! The laws of sessions. Each function does nothing, and its contract is the law.
+//! The laws of sessions. Each function does nothing, and its contract is the law: only what a contract names is proved.
 
 ghost use Rattle.zs_session.specs.Laws.{AttachmentIsReadAgain, AttachmentIsSendable, AttachmentShowsItsNumber, NewSessionIsReadAgain, NewSessionIsSendable, NewSessionShowsItsNumber};
 

@@ -1,5 +1,5 @@
-//! What is written of a transcript's lines is read as these lines, and what is read as lines is what is written of them. Each
-//! function does nothing, and its contract is the law.
+//! What is written of a transcript's lines is read as these lines, and what is read as lines is what is written of them.
+//! Each function does nothing, and its contract is the law: only what a contract names is proved.
 
 ghost use Rattle.zt_lines.specs.Laws.{AReadLineIsWritten, AReadTranscriptIsWritten, AWrittenLineIsRead, CutTranscriptIsRead, DoneTranscriptIsRead, RefusedTranscriptIsRead, UnreadTranscriptIsRead};
 

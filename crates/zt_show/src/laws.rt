@@ -1,4 +1,5 @@
-//! What is true of every stream. This function does nothing: each clause is a law of the definitions.
+//! What is true of every stream. This function does nothing: each clause is a law of the definitions, and only what a
+//! contract names is proved.
 
 ghost use Rattle.std.specs.Prelude.{◌≡◌, ℕ, List};
 ghost use Rattle.zt_show.specs.Shown.{Shown, IsShown};

@@ -1,4 +1,5 @@
-//! What holds of the text of every transcript. Each function does nothing, and its contract is the law.
+//! What holds of the text of every transcript. Each function does nothing, and its contract is the law: only what a contract
+//! names is proved.
 
 ghost use Rattle.std.specs.Prelude.{◌≡◌, ◌++◌, ◌∷◌, [], List, ℕ, Contains};
 ghost use Rattle.std.specs.List.{AllByRecursion};
