@@ -5,9 +5,10 @@ ghost use Rattle.zk_model.specs.Paths.{is_path};
 ghost use Rattle.zk_model.specs.Watches.{tell, see_data, see_exist, see_children, see_all, set_watches, valid_at, arm_data, arm_children};
 ghost use Rattle.zk_answers.specs.Outcomes.{seen_of};
 
-use crate::watches::{CHANGED, CHILDREN, CREATED, DELETED, Seen, Watches};
+use crate::watches::{Seen, Watches};
 use std::alloc::Global;
 use zk_machine::Tree;
+use zk_model::event::{CHANGED, CHILDREN, CREATED, DELETED};
 use zk_model::{Node, Notice, read_path};
 use zx_base::{Memory, Seq, Text};
 

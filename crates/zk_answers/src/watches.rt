@@ -7,21 +7,10 @@ ghost use Rattle.zk_answers.specs.Outcomes.{fired_of};
 
 use std::alloc::Global;
 use std::marker::Model;
+use zk_model::event::{CHANGED, CHILDREN, CREATED, DELETED};
 use zk_model::watcher::{names_children, names_data};
 use zk_model::{Notice, Path, PathSet, Trigger};
 use zx_base::{Memory, Seq, Text};
-
-/// The kind of a notice that a node was created (`NodeCreated` of `Watcher.Event.EventType`).
-pub const CREATED: u8 = 1;
-
-/// The kind of a notice that a node was deleted (`NodeDeleted`).
-pub const DELETED: u8 = 2;
-
-/// The kind of a notice that a node's data changed (`NodeDataChanged`).
-pub const CHANGED: u8 = 3;
-
-/// The kind of a notice that a node's children changed (`NodeChildrenChanged`).
-pub const CHILDREN: u8 = 4;
 
 /// The data watches and the child watches of a connection.
 #[derive(Drop)]

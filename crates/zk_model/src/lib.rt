@@ -11,6 +11,7 @@
 pub mod access;
 pub mod code;
 mod connect;
+pub mod event;
 pub mod flags;
 mod layout;
 pub mod limit;

@@ -6,6 +6,9 @@ pub const MAX_FRAME: usize = 1_048_575;
 /// The most creates of children that a node counts: the Stat's `cversion` is an int and counts each of them twice.
 pub const MAX_CREATES: i32 = 1_073_741_823;
 
+/// The greatest version of a node's data: the Stat's `version` is an int.
+pub const MAX_VERSION: i32 = 2_147_483_647;
+
 /// The most parts of a multi.
 pub const MAX_PARTS: usize = 24;
 

@@ -20,13 +20,10 @@ ghost use Rattle.zn_view.specs.Views.{counts_of_parent};
 use crate::creator::{Creator, creator_id};
 use std::alloc::Global;
 use zk_model::Path;
-use zk_model::limit::MAX_CREATES;
+use zk_model::limit::{MAX_CREATES, MAX_VERSION};
 use zn_layout::{CountRec, FIRST_COUNTS, counts_key, data_key, fewer, one_more, session_key};
 use zn_view::{NodeNow, TreeChange, View};
 use zx_base::{Memory, Seq};
-
-/// The greatest version of a node's data, an int.
-const MAX_VERSION: i64 = i32::MAX as i64;
 
 /// The changes of the tree that the parts so far make, in turn: none where one of them is not carried out, or where the view does
 /// not show yet whether it is.
@@ -513,7 +510,7 @@ pub(crate) fn delete_leaves(
 fn is_settable(version: i32, node: NodeNow) -> bool
     ensures { result ≡ (matches_version version node.version && not (int_eq node.version max_version)) }
 {
-    matches(version, node.version) && node.version != MAX_VERSION
+    matches(version, node.version) && node.version != i64::from(MAX_VERSION)
 }
 
 /// Whether a node's counts were looked up.

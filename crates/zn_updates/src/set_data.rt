@@ -27,14 +27,12 @@ use crate::plan::decision;
 use crate::seen::{SeenCounts, SeenData, counts_seen, data_seen};
 use std::alloc::Global;
 use zk_model::code::{BAD_ARGUMENTS, BAD_VERSION, NO_NODE, SYSTEM_ERROR};
+use zk_model::limit::MAX_VERSION;
 use zk_model::version::matches;
 use zk_model::{PartResult, Path, Stat, Trigger, read_path};
 use zn_layout::{NodeRec, cversion};
 use zn_view::{Decision, View, Want, Who, refused};
 use zx_base::{Memory, Seq};
-
-/// The greatest version of a node's data: a Stat has it as an int.
-const MAX_VERSION: i32 = i32::MAX;
 
 /// The version after the setData.
 fn next_version(node: &SeenData) -> i32

@@ -8,15 +8,6 @@ use std::alloc::Global;
 use zk_model::Notice;
 use zx_base::{Memory, Text};
 
-/// The kinds of notices (`Watcher.Event.EventType`).
-pub(crate) const CREATED: u8 = 1;
-
-pub(crate) const DELETED: u8 = 2;
-
-pub(crate) const CHANGED: u8 = 3;
-
-pub(crate) const CHILDREN: u8 = 4;
-
 /// A notice, where a watch is hit.
 pub(crate) fn note(
     alloc: Global,

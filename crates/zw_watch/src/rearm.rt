@@ -8,10 +8,11 @@ ghost use Rattle.zw_watch.specs.Rounds.{told_of, CanUndo};
 ghost use Rattle.zw_watch.specs.SeenPaths.{if_changed, if_absent, rearming_of, with_rearming, see_at, see_paths, unseen};
 
 use crate::noted::{Noted, insert_noted, remove_all};
-use crate::notices::{CHANGED, CHILDREN, CREATED, DELETED, tell};
+use crate::notices::tell;
 use crate::seen_path::{SeenPath, WatchList};
 use crate::sets::PathSets;
 use std::alloc::Global;
+use zk_model::event::{CHANGED, CHILDREN, CREATED, DELETED};
 use zk_model::{Notice, Path, PathFault};
 use zx_base::Memory;
 

@@ -8,8 +8,9 @@ ghost use Rattle.zw_watch.specs.Armed.{armed, fired_both, fired_of, has_either, 
 
 use crate::bits::across;
 use crate::marked::MarkedPaths;
-use crate::notices::{CHANGED, CHILDREN, CREATED, DELETED, note};
+use crate::notices::note;
 use std::alloc::Global;
+use zk_model::event::{CHANGED, CHILDREN, CREATED, DELETED};
 use zk_model::watcher::{names_children, names_data};
 use zk_model::{Notice, Trigger};
 use zx_base::Memory;
