@@ -127,9 +127,7 @@ fn run<W: Wait, L: Etcd, F: Feed, S: Source, K: Sink, C: Clock, T: Trace, U: Tur
             Ok(asked) => asked,
             Err(why) => return why,
         };
-        if asked.is_none() {
-            turns.end();
-        }
+        turns.go_on(asked.is_some());
         let due = is_due(
             &core,
             &asked,

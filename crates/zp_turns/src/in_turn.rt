@@ -5,8 +5,16 @@ use crate::queues::Queues;
 use crate::turns::{Reaps, Turns};
 use std::alloc::Global;
 use std::sync::{Arc, Condvar, Wait};
-use std::time::Clock as SystemClock;
+use std::thread;
+use std::time::{Clock as SystemClock, Duration};
 use zx_base::Memory;
+
+/// More asks than these in a turn are a sign of another proxy that updates there: a plan was refused.
+const ALONE: u32 = 2;
+
+/// How long a turn waits after one that met another proxy, in milliseconds. Without it proxies that update one place refuse each
+/// other's plans all the time.
+const GIVEN_WAY: u64 = 2;
 
 /// Somebody who takes turns with all others of the same queues. A turn that is not ended before a drop lasts until somebody waits
 /// for it for half a second.
@@ -19,6 +27,8 @@ pub struct InTurn<R: Drop> {
     path: Vec<u8>,
     /// Of the present turn.
     ticket: Option<u64>,
+    /// How many asks went out in it.
+    asks: u32,
 }
 
 impl<R: Wait + SystemClock + Drop> InTurn<R> {
@@ -30,6 +40,7 @@ impl<R: Wait + SystemClock + Drop> InTurn<R> {
             bell: Arc::new(alloc, Condvar::new())?,
             path: Vec::new(alloc),
             ticket: None,
+            asks: 0,
         })
     }
 
@@ -44,16 +55,21 @@ impl<R: Wait + SystemClock + Drop> InTurn<R> {
 
     /// Waits where it waited last.
     fn wait_there(&mut self) {
-        self.ticket = match self.queues.wait(&self.rt, self.path.as_slice(), &self.bell) {
-            Ok(ticket) => Some(ticket),
-            Err(_refused) => None,
+        let Ok(turn) = self.queues.wait(&self.rt, self.path.as_slice(), &self.bell) else {
+            return;
         };
+        self.ticket = Some(turn.ticket);
+        self.asks = 0;
+        if turn.has_met {
+            thread::sleep(&self.rt, Duration::from_millis(GIVEN_WAY));
+        }
     }
 
     /// Ends the present turn, if there is one.
     fn leave(&mut self) {
         if let Some(ticket) = self.ticket.take() {
-            self.queues.leave(&self.rt, self.path.as_slice(), ticket);
+            self.queues
+                .leave(&self.rt, self.path.as_slice(), ticket, self.asks > ALONE);
         }
     }
 }
@@ -69,6 +85,14 @@ impl<R: Wait + SystemClock + Drop> Turns for InTurn<R> {
             self.wait_at(path);
         } else if is_close(frame) {
             self.wait_there();
+        }
+    }
+
+    fn go_on(&mut self, asks: bool) {
+        if asks {
+            self.asks = self.asks.saturating_add(1);
+        } else {
+            self.leave();
         }
     }
 

@@ -9,6 +9,9 @@
 //! A wait has no such bound, since whoever went on without a turn would be in the way of all others again. Nobody who has a turn
 //! waits for another, so no two wait for each other.
 //!
+//! Proxies do not wait for each other. A turn of more than two asks is taken for a sign that another proxy updates there, since a plan was
+//! refused, and the next turn at that path begins two milliseconds later: so proxies do not refuse each other's plans all the time.
+//!
 //! No clause speaks of order or time: a turn that comes too early, too late or never costs time alone. A join, a leave and a
 //! look at whose turn it is cost a search for the queue among those that are there, and nothing that grows with who waits in it.
 #![tactic(auto)]

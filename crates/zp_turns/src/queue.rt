@@ -25,6 +25,8 @@ pub(crate) struct Queue {
     turn: u64,
     /// Since when the turn lasts.
     since: io::Result<Instant>,
+    /// Whether the turn before it met another proxy.
+    has_met: bool,
     waiters: VecDeque<Waiter>,
 }
 
@@ -40,6 +42,7 @@ impl Queue {
             path: Vec::from_slice(alloc, path)?,
             turn: ticket,
             since: Instant::now(rt),
+            has_met: false,
             waiters: VecDeque::new(alloc),
         })
     }
@@ -65,12 +68,19 @@ impl Queue {
         Ok(())
     }
 
-    /// Gives the turn to the first who waits, and wakes it. False if nobody waits.
-    pub(crate) fn pass_on<R: SystemClock>(&mut self, rt: &R) -> bool {
+    /// Whether the turn before the present one met another proxy.
+    pub(crate) fn has_met(&self) -> bool {
+        self.has_met
+    }
+
+    /// Gives the turn to the first who waits, and wakes it; `has_met` says whether the turn that ends met another proxy. False if
+    /// nobody waits.
+    pub(crate) fn pass_on<R: SystemClock>(&mut self, rt: &R, has_met: bool) -> bool {
         let Some(first) = self.waiters.pop_front() else {
             return false;
         };
         self.turn = first.ticket;
+        self.has_met = has_met;
         self.since = Instant::now(rt);
         first.bell.notify_one();
         true

@@ -8,6 +8,14 @@ use std::sync::{Arc, Condvar, CondvarTimeouts, Mutex, Wait};
 use std::time::{Clock as SystemClock, Duration};
 use zx_base::Memory;
 
+/// A turn that has come.
+#[derive(Clone, Copy)]
+pub(crate) struct Turn {
+    pub(crate) ticket: u64,
+    /// Whether the turn before it met another proxy.
+    pub(crate) has_met: bool,
+}
+
 /// What stands under the lock.
 #[derive(Drop)]
 struct Kept {
@@ -46,7 +54,7 @@ impl Kept {
         let place = self.place_of(path)?;
         let queue = self.queues.get_mut(place)?;
         if queue.is_waiting(ticket) && queue.left(rt).is_zero() {
-            queue.pass_on(rt);
+            queue.pass_on(rt, false);
         }
         if queue.is_waiting(ticket) {
             Some(queue.left(rt))
@@ -55,12 +63,20 @@ impl Kept {
         }
     }
 
+    /// Whether the turn before the present one at a path met another proxy.
+    fn has_met(&self, path: &[u8]) -> bool {
+        match self.place_of(path) {
+            Some(place) => self.queues[place].has_met(),
+            None => false,
+        }
+    }
+
     /// Ends the turn of a ticket, if it still has it.
-    fn leave<R: SystemClock>(&mut self, rt: &R, path: &[u8], ticket: u64) {
+    fn leave<R: SystemClock>(&mut self, rt: &R, path: &[u8], ticket: u64, has_met: bool) {
         let Some(place) = self.place_of(path) else {
             return;
         };
-        if self.queues[place].has_turn(ticket) && !self.queues[place].pass_on(rt) {
+        if self.queues[place].has_turn(ticket) && !self.queues[place].pass_on(rt, has_met) {
             drop(self.queues.swap_remove(place));
         }
     }
@@ -83,27 +99,35 @@ impl Queues {
         })
     }
 
-    /// Waits for the turn at a path, and gives its ticket. The bell is rung by whoever passes a turn on.
+    /// Waits for the turn at a path. The bell is rung by whoever passes a turn on.
     pub(crate) fn wait<R: Wait + SystemClock>(
         &self,
         rt: &R,
         path: &[u8],
         bell: &Arc<Condvar, Global>,
-    ) -> Result<u64, Memory> {
+    ) -> Result<Turn, Memory> {
         let rung = Arc::try_clone(bell)?;
         let mut kept = self.kept.lock(rt);
         let ticket = kept.join(rt, self.alloc, path, rung)?;
         'looks: for _ in rt.forever() {
             let Some(longest) = kept.wait(rt, path, ticket) else {
-                return Ok(ticket);
+                let has_met = kept.has_met(path);
+                return Ok(Turn { ticket, has_met });
             };
             kept = bell.wait_timeout(rt, kept, longest).0;
         }
         unreachable!()
     }
 
-    /// Ends the turn of this ticket at a path, and wakes who is next. Nothing happens if the turn was over already.
-    pub(crate) fn leave<R: Wait + SystemClock>(&self, rt: &R, path: &[u8], ticket: u64) {
-        self.kept.lock(rt).leave(rt, path, ticket);
+    /// Ends the turn of this ticket at a path, and wakes who is next; `has_met` says whether it met another proxy. Nothing happens if
+    /// the turn was over already.
+    pub(crate) fn leave<R: Wait + SystemClock>(
+        &self,
+        rt: &R,
+        path: &[u8],
+        ticket: u64,
+        has_met: bool,
+    ) {
+        self.kept.lock(rt).leave(rt, path, ticket, has_met);
     }
 }

@@ -11,7 +11,10 @@ pub trait Turns {
     /// Where memory is refused, it goes on without one.
     fn wait(&mut self, frame: &[u8]);
 
-    /// Ends the present turn, if there is one: no ask is out any more.
+    /// Whether an ask goes out now. If none does, the present turn is over, if there is one.
+    fn go_on(&mut self, asks: bool);
+
+    /// Ends the present turn, if there is one.
     fn end(&mut self);
 }
 
@@ -34,6 +37,8 @@ impl Turns for NoTurns {
     }
 
     fn wait(&mut self, _frame: &[u8]) {}
+
+    fn go_on(&mut self, _asks: bool) {}
 
     fn end(&mut self) {}
 }
