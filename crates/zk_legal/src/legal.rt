@@ -3,7 +3,7 @@
 ghost use Rattle.std.specs.Prelude.{◌≡◌, ◌≤◌, ◌&&◌, true, is_none, is_some, IfOk};
 ghost use Rattle.zk_model.specs.Limits.{max_time};
 ghost use Rattle.zk_transcript.specs.History.{asked_commit as asked_commit_of, frame as frame_of, opening as opening_of, request as request_of};
-ghost use Rattle.zk_service.specs.States.{attached_session, session_at, session_of};
+ghost use Rattle.zk_service.specs.States.{attached_session, session_at};
 ghost use Rattle.zk_transcript.specs.Legal.{asks_anew as asks_anew_of, is_close as is_close_of, is_id as is_id_of, is_lapsed as is_lapsed_of, is_legal_line as is_legal_line_of, is_live as is_live_of, is_live_as as is_live_as_of, is_next_zxid as is_next_zxid_of, is_resumed_by as is_resumed_by_of, is_small_frame as is_small_frame_of, is_within_parts as is_within_parts_of, may_attach as may_attach_of, may_update as may_update_of, offers as offers_of};
 ghost use Rattle.zk_service.specs.declared.update.UpdateKind.TheVariants as kind;
 ghost use Rattle.zk_history.specs.Fits.{AskedFits, IsTime};
@@ -194,7 +194,7 @@ fn is_committed(
     index: u64,
     now: u64,
 ) -> Result<bool, Memory>
-    requires { IsTime now × AskedFits state.now.tree (session_of connection state.now) (request_of connection index (lines_of before.now)) zxid now }
+    requires { IsTime now × AskedFits state.now.tree (attached_session connection state.now) (request_of connection index (lines_of before.now)) zxid now }
     ensures { IfOk result (λ b. b ≡ is_some (asked_commit_of (lines_of before.now) state.now zxid connection index now)) }
 {
     match planned_commit(alloc, before, state, zxid, connection, index, now) {
