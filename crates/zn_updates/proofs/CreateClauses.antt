@@ -76,7 +76,7 @@ same_cond false x y z w e f = f
 
 owned_codes : (p q content : Bytes) (now : ℕ) (above : CountRec) (session : ℤ) (nodes : Option SessionRec) → code_of (create_owned p q content now above session nodes) ≡ code_of (create_owned p q content 0 above session nodes)
 owned_codes p q content now above session None = refl
-owned_codes p q content now above session (Some r) = same_cond (nat_le (max_owned r.layout) (length r.nodes)) _ _ _ _ refl refl
+owned_codes p q content now above session (Some r) = same_cond (nat_le (max_owned r.layout) (length r.paths)) _ _ _ _ refl refl
 
 create_codes : (p q content : Bytes) (now : ℕ) (ephemeral : Bool) (session : ℤ) (x : Option SeenData) (c : Option SeenCounts) (taken : Bool) (nodes : Option SessionRec)
     → code_of (create_choice p q content now ephemeral session x c taken nodes) ≡ code_of (create_choice p q content 0 ephemeral session x c taken nodes)
@@ -89,7 +89,7 @@ create_codes p q content now ephemeral session (Some x) (Some c) false nodes =
 
 owned_bounds : (p q content : Bytes) (now : ℕ) (above : CountRec) (session : ℤ) (nodes : Option SessionRec) → IsTrue (is_path p) → IsTrue (is_path q) → IfMakes IsHeadRec (create_owned p q content now above session nodes)
 owned_bounds p q content now above session None valid also = tt
-owned_bounds p q content now above session (Some r) valid also = makes_cond IsHeadRec (nat_le (max_owned r.layout) (length r.nodes)) _ _ tt (two_triggers (Created p) (Children q) valid also)
+owned_bounds p q content now above session (Some r) valid also = makes_cond IsHeadRec (nat_le (max_owned r.layout) (length r.paths)) _ _ tt (two_triggers (Created p) (Children q) valid also)
 
 pub create_bounds : (p q content : Bytes) (now : ℕ) (ephemeral : Bool) (session : ℤ) (x : Option SeenData) (c : Option SeenCounts) (taken : Bool) (nodes : Option SessionRec) → IsTrue (is_path p) → IsTrue (is_path q)
     → IfMakes IsHeadRec (create_choice p q content now ephemeral session x c taken nodes)

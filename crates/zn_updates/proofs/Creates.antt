@@ -1,5 +1,5 @@
 -- The creates that a view saw of a node, by its record and by that of its counts.
-use Rattle.std.proofs.Common.{◌≡◌, ℕ, Option, Some, None, refl, sym, ap, ◌∙◌}
+use Rattle.std.proofs.Common.{◌≡◌, ℕ, Option, Some, None, sym, ap, ◌∙◌}
 use Rattle.std.specs.Prelude.{nat_abs, option_map}
 use Rattle.ev_types.specs.declared.answer.Kv.{Kv}
 use Rattle.zn_layout.specs.declared.record.CountRec.{CountRec}

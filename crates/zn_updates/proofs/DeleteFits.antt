@@ -23,7 +23,7 @@ use Rattle.zn_updates.specs.declared.seen.SeenCounts.{SeenCounts}
 use Rattle.zn_layout.specs.Counts.{one_less}
 use Rattle.zn_layout.proofs.Counted.{plain-counted}
 use Rattle.zn_updates.specs.Choices.{delete_changes, put_owned}
-use Rattle.zn_updates.specs.OwnedLists.{without, without_node}
+use Rattle.zn_updates.specs.OwnedLists.{without_node}
 use Rattle.zn_updates.specs.Right.{with_tree}
 use Rattle.zn_updates.specs.Seen.{IsSeenCounts}
 use Rattle.zn_updates.proofs.Deleting.{delete_tree, delete_gone, delete_parent, delete_other, delete_count_parent, delete_count_other}

@@ -72,9 +72,13 @@ module _ (v : View) (p q : Bytes) (session : ℤ) where
     owned-new b above None e = tt
     owned-new b above (Some r) e = deleted-new b above (put_owned x.owner (without_node p r) ∷ []) (one v keys (put_owned x.owner (without_node p r)) (inr (inl (owner-in e))))
 
+    plain-new : (b : Bool) (above : CountRec) → All (IsAccounted v keys) (delete_changes p q b above)
+    plain-new true above = deleted-new true above [] (All-nil (IsAccounted v keys))
+    plain-new false above = deleted-new false above [] (All-nil (IsAccounted v keys))
+
     here-new : (b : Bool) (a : Option SeenCounts) (nodes : Option SessionRec) → AreAccounted v keys (delete_here p q x b a nodes)
     here-new b None nodes = tt
-    here-new b (Some above) nodes = changes_cond (AreAll v keys) (int_eq x.owner (pos 0)) _ _ (λ _. deleted-new b above.counts [] (All-nil (IsAccounted v keys))) (λ e. owned-new b above.counts nodes e)
+    here-new b (Some above) nodes = changes_cond (AreAll v keys) (int_eq x.owner (pos 0)) _ _ (λ _. plain-new b above.counts) (λ e. owned-new b above.counts nodes e)
 
   pub delete-new : (version : ℤ) (o : Option SeenData) (c a : Option SeenCounts) (nodes : Option SessionRec) → AreAccounted v (delete_keys p (Some q) session (owner_seen o)) (delete_choice p q version o c a nodes)
   unfolding delete_choice

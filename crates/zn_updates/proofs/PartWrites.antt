@@ -135,9 +135,9 @@ module _ (id : ℤ) (v : View) (p q : Bytes) (version : ℤ) (valid : IsTrue (is
   deleted_light true above = omega (arith, counts_value-size (one_less above))
   deleted_light false above = omega (arith, counts_value-size (one_less above))
 
-  owned_light : (b : Bool) (above : CountRec) (owner : ℤ) (nodes : SessionRec) → sum_by plain_size (delete_changes p q b above ++ put_owned owner nodes ∷ []) ≤ 55
-  owned_light true above owner nodes = omega (arith, counts_value-size (one_less above))
-  owned_light false above owner nodes = omega (arith, counts_value-size (one_less above))
+  removed_light : (b : Bool) (above : CountRec) (owner : ℤ) (nodes : SessionRec) → sum_by plain_size (delete_changes p q b above ++ put_owned owner nodes ∷ []) ≤ 55
+  removed_light true above owner nodes = omega (arith, counts_value-size (one_less above))
+  removed_light false above owner nodes = omega (arith, counts_value-size (one_less above))
 
   pub delete-own : (x : Option SeenData) (c a : Option SeenCounts) (nodes : Option SessionRec) → IfData v p x → IfOwn id v r (delete_choice p q version x c a nodes)
   unfolding delete_choice
@@ -154,7 +154,7 @@ module _ (id : ℤ) (v : View) (p q : Bytes) (version : ℤ) (valid : IsTrue (is
       from b None above owns = tt
       from b (Some listed) above owns = record {
         each = deleted_own b above (put_owned x.owner (without_node p listed) ∷ []) (own_nodes id v r x.owner (without_node p listed) (x, is, not_owned x.owner owns, refl));
-        light = owned_light b above x.owner (without_node p listed);
+        light = removed_light b above x.owner (without_node p listed);
       }
 
       here : (o : Option SeenCounts) → IfOwn id v r (delete_here p q x c.is_stored o nodes)

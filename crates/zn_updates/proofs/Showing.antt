@@ -1,5 +1,5 @@
 -- What a view saw under a node's and a session's keys shows what a state has that the view shows.
-use Rattle.std.proofs.Common.{◌≡◌, ℕ, ℤ, pos, Bool, true, List, Option, Some, None, refl, subst}
+use Rattle.std.proofs.Common.{◌≡◌, ℕ, ℤ, pos, Bool, true, Option, Some, None, refl, subst}
 use Rattle.std.specs.Prelude.{is_some}
 use Rattle.std.specs.FinMap.{get}
 use Rattle.ev_types.specs.declared.answer.Kv.{Kv}

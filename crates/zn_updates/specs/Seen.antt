@@ -27,8 +27,8 @@ pub record IsSeenData (z : ℤ) (x : SeenData) (n : Node) : Type 0 where
   pub is : x ≡ seen_data x.czxid n
   pub czxid : n.czxid ≡ own z x.czxid
 
-pub record IsSeenCounts (z : ℤ) (x : SeenCounts) (n : Node) (children : ℕ) (stored : Bool) : Type 0 where
-  pub stored : x.is_stored ≡ stored
+pub record IsSeenCounts (z : ℤ) (x : SeenCounts) (n : Node) (children : ℕ) (counted : Bool) : Type 0 where
+  pub stored : x.is_stored ≡ counted
   pub within : IsCountRec x.counts
   pub is : x.counts ≡ counts_record n children
   pub pzxid : n.pzxid ≡ own z x.pzxid
@@ -45,10 +45,10 @@ ShowsData z (Some x) None = ⊥
 ShowsData z (Some x) (Some n) = IsSeenData z x n
 
 abbrev pub ShowsCounts : ℤ → Option SeenCounts → Option Node → ℕ → Bool → Type 0
-ShowsCounts z None None children stored = Unit {0}
-ShowsCounts z None (Some n) children stored = ⊥
-ShowsCounts z (Some x) None children stored = ⊥
-ShowsCounts z (Some x) (Some n) children stored = IsSeenCounts z x n children stored
+ShowsCounts z None None children counted = Unit {0}
+ShowsCounts z None (Some n) children counted = ⊥
+ShowsCounts z (Some x) None children counted = ⊥
+ShowsCounts z (Some x) (Some n) children counted = IsSeenCounts z x n children counted
 
 -- a record was seen, and it is that of the session's nodes
 abbrev pub ShowsOwned : Option SessionRec → Session → List Bytes → Type 0

@@ -9,7 +9,7 @@ pub delete_node-requires : goal.delete_node-requires
 delete_node-requires c = subst (λ (p : Bytes). length p ≤ max_path) (sym c.bytes.ensures) (path_short c.args.path.now c.requires.valid)
 
 pub delete_counts-requires : goal.delete_counts-requires
-delete_counts-requires c = subst (λ (p : Bytes). length p ≤ max_path) (sym c.bytes-2.ensures) (path_short c.args.path.now c.requires.valid)
+delete_counts-requires c = subst (λ (p : Bytes). length p ≤ max_path) (sym c.bytes-then-has_counts.ensures) (path_short c.args.path.now c.requires.valid)
 
 pub put_counts-requires-clause-short : goal.put_counts-requires-clause-short
-put_counts-requires-clause-short c = subst (λ (p : Bytes). length p ≤ max_path) (sym c.bytes-3.ensures) (path_short c.args.parent.now c.requires.parent)
+put_counts-requires-clause-short c = subst (λ (p : Bytes). length p ≤ max_path) (sym c.bytes-2.ensures) (path_short c.args.parent.now c.requires.parent)

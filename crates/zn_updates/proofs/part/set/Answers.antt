@@ -25,7 +25,7 @@ returns-in_ok-counts-in-Some c = λ who.
     IfOk-weaker c.choose_set_data.result _ _ (λ d is.
     set_part c.args.path.now c.args.content.now c.args.version who c.args.now (layered c.args.over.now c.args.view.now) path.1 c.requires.short c.requires.time c.in_ok-node-in-Some.node c.in_ok-counts-in-Some.counts
     (subst (λ (p : Bytes). IfData (layered c.args.over.now c.args.view.now) p c.in_ok-node-in-Some.node) path.0 c.in_ok-node-in-Some.ensures.is)
-    (subst (λ (t : Bytes × Option SeenData). IfCounts (layered c.args.over.now c.args.view.now) t.0 t.1 c.in_ok-counts-in-Some.counts) (λ i. (path.0 i, c.as_ref-in-Some.ensures.value i)) c.in_ok-counts-in-Some.ensures.is)
+    (subst (λ (t : Bytes × Option SeenData). IfCounts (layered c.args.over.now c.args.view.now) t.0 t.1 c.in_ok-counts-in-Some.counts) (λ i. (path.0 i, c.as_ref.ensures.value i)) c.in_ok-counts-in-Some.ensures.is)
     c.in_ok-node-in-Some.ensures.within d
     (let made : d ≡ chosen_of (set_data_choice c.in-Some.path c.args.content.now c.args.version c.args.now c.in_ok-node-in-Some.node c.in_ok-counts-in-Some.counts) = first_of (search rules, grind (arith, common_steps, is, version)) in
     made ∙ ap (λ (p : Bytes). chosen_of (set_data_choice p c.args.content.now c.args.version c.args.now c.in_ok-node-in-Some.node c.in_ok-counts-in-Some.counts)) path.0)) c.choose_set_data.ensures
