@@ -46,7 +46,7 @@ made_put kv n of_data =
     let r = data_record n of_data.stored in
     let value : kv.value ≡ 1 ∷ node_numbers r = of_data.value ∙ node_value-is r in
     let long : nat_lt (length kv.value) 9 ≡ false = let e = ap length value in let numbers = node_value-length r in grind (arith, nat_tests) in
-    let first : front_long (drop 1 kv.value) ≡ of_data.stored = ap (λ (v : Bytes). front_long (drop 1 v)) value ∙ long_back of_data.stored (drop 8 (node_numbers r)) (has_numbers r of_data.fits).czxid in
+    let first : front_long (drop 1 kv.value) ≡ of_data.stored = ap (λ (v : Bytes). front_long (drop 1 v)) value ∙ long_back of_data.stored _ (has_numbers r of_data.fits).czxid in
     ap (λ b. option_map (λ (c : ℤ). czxid_of c kv.mod_revision) (if b then None else Some (front_long (drop 1 kv.value)))) long
     ∙ ap (λ (c : ℤ). Some (czxid_of c kv.mod_revision)) first ∙ ap (λ (c : ℤ). Some c) (sym of_data.made)
 

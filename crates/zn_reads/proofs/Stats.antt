@@ -1,6 +1,7 @@
 -- What two records show is the stat of the node that they mean.
-use Rattle.std.proofs.Common.{◌≡◌, ℕ, ℤ, pos, ◌≤◌, Bool, true, false, ◌∷◌, drop, Option, Some, None, arith, refl, sym, ap, ◌∙◌}
+use Rattle.std.proofs.Common.{◌≡◌, ℕ, ℤ, pos, ◌≤◌, Bool, true, false, ◌∷◌, drop, Option, Some, None, arith, refl, sym, ap, subst, ◌∙◌}
 use Rattle.std.specs.Prelude.{length, nat_abs}
+use Rattle.std.proofs.lemmas.Int.{ints}
 use Rattle.ev_types.specs.declared.answer.Kv.{Kv}
 use Rattle.zk_model.specs.declared.node.Node.{Node}
 use Rattle.zk_model.specs.declared.node.Stat.{Stat}
@@ -15,7 +16,7 @@ use Rattle.zn_layout.specs.declared.test.NodeNumbers.{NodeNumbers}
 use Rattle.zx_base.specs.Maps.{Bytes}
 use Rattle.zn_layout.proofs.Nodes.{node_numbers, node_value-is, node_value-length}
 use Rattle.zn_layout.proofs.Lookups.{stored, data_read, counts_read}
-use Rattle.zn_reads.specs.Found.{stat_by, AreCountsBy}
+use Rattle.zn_reads.specs.Found.{stat_by, AreCountsBy, AreNoCounts}
 
 -- by the records
 by_records : NodeRec → ℤ → CountRec → ℤ → Stat
@@ -79,6 +80,20 @@ stat_found-is own None d content c changed n k true own_read by of_data means = 
 stat_found-is own None d content c changed n k false own_read by of_data means = (λ i. stat_by d (length content) own.mod_revision (by.0 i) (by.1 i)) ∙ uncounted-is own d content n k own_read of_data means
 stat_found-is own (Some kv) d content c changed n k true own_read by of_data means = ap (stat_by d (length content) own.mod_revision c) by.1 ∙ stat_by-is own kv d content c n k own_read by.0 of_data means
 stat_found-is own (Some kv) d content c changed n k false own_read by of_data means = absurd means
+
+-- what was found of its counts is within the bounds of a record
+first-within : IsCountRec first_counts
+first-within = record { children = grind (arith, ints); fewer = grind (arith, ints); creates = grind (arith, ints) }
+
+pub counts-within : (d : NodeNumbers) (revision changed : ℤ) (counts : Option Kv) (c : CountRec) → AreCountsBy d revision counts c changed → IsCountRec c
+counts-within d revision changed None c by = subst IsCountRec (sym by.0) first-within
+counts-within d revision changed (Some kv) c by = by.0.0
+
+-- the record of its counts that was found is one
+pub counts-found : (counts : Option Kv) (n : Node) (k : ℕ) (b : Bool) → CountsMean (Some n) k b (stored_of counts) → AreNoCounts counts → ⊥
+counts-found None n k b means none = none
+counts-found (Some kv) n k true means none = none (counts_record n k) (means.fits, means.value)
+counts-found (Some kv) n k false means none = means
 
 -- ---- by the node's numbers and the length of its data
 

@@ -1,5 +1,4 @@
 -- The keys of a path of a setWatches, as the code keeps them.
-use Rattle.std.specs.Prelude.{Option}
 use Rattle.zn_reads.specs.declared.set_watches.Place.{Place as Kept}
 use Rattle.zn_reads.specs.SeenPaths.{Place}
 

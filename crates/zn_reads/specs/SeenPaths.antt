@@ -32,15 +32,15 @@ made_at kv = option_map (λ (stored : ℤ). czxid_of stored kv.mod_revision) (cz
 
 -- when the node's children changed last: with the last put of their counts, or, where there is no record of them, with the node's create
 abbrev pub children_changed : Option Kv → Option Kv → Option ℤ
-children_changed node (Some counts) = Some counts.mod_revision
+children_changed own (Some counts) = Some counts.mod_revision
 children_changed None None = None
-children_changed (Some node) None = made_at node
+children_changed (Some own) None = made_at own
 
 -- when what the watch waits for changed last, by the node's record and the record of its counts
 abbrev pub changed_at : WatchList → Option Kv → Option Kv → Option ℤ
-changed_at Datas node counts = put_at node
-changed_at Exists node counts = put_at node
-changed_at Children node counts = children_changed node counts
+changed_at Datas own counts = put_at own
+changed_at Exists own counts = put_at own
+changed_at Children own counts = children_changed own counts
 
 -- what was found at a path; one that isn't valid counts as absent
 abbrev pub seen_path : View → WatchList → Bytes → SeenPath

@@ -81,12 +81,12 @@ fn found_under<'a>(index: &Index<'a>, key: &'a [u8]) -> Option<&'a Kv>
 }
 
 /// When a node's children changed last: with the last put of its counts, or, where there is no record of them, with its create.
-fn children_changed(data: Option<&Kv>, counts: Option<&Kv>) -> Option<i64>
-    ensures { result ≡ children_changed (option_copied data.entry) (option_copied counts.entry) }
+fn children_changed(own: Option<&Kv>, counts: Option<&Kv>) -> Option<i64>
+    ensures { result ≡ children_changed (option_copied own.entry) (option_copied counts.entry) }
 {
     match counts {
         Some(counts) => Some(counts.mod_revision),
-        None => made_at(data?),
+        None => made_at(own?),
     }
 }
 

@@ -1,6 +1,6 @@
 //! What the records of a node show.
 
-ghost use Rattle.std.specs.Prelude.{IsTrue, ◌≡◌, ◌≤◌, ℕ, pos, IfOk, Option, option_copied, option_map};
+ghost use Rattle.std.specs.Prelude.{IsTrue, ◌≡◌, ◌≤◌, ℕ, pos, Bool, IfOk, MatchOption, Option, option_copied, option_map};
 ghost use Rattle.zk_model.specs.Paths.{is_path};
 ghost use Rattle.zk_model.specs.Limits.{max_frame};
 ghost use Rattle.zk_model.specs.Znodes.{stat};
