@@ -4,6 +4,7 @@ use Rattle.std.proofs.Common.{◌≡◌, ℕ, ◌+◌, ◌*◌, ◌≤◌, List,
 use Rattle.std.proofs.lemmas.List.{length-append}
 use Rattle.zk_jute.proofs.RequestLaws.{found}
 use Rattle.zk_jute.specs.Grammar.{IsAsked, IsHeader, IsPart}
+use Rattle.zk_jute.specs.JuteValues as jute
 use Rattle.zk_jute.specs.JuteValues.{IsBoolean, IsUstring, IsVector, Spelled, Spells}
 use Rattle.zk_jute.specs.Records.{part_values}
 use Rattle.zk_jute.specs.Requests.{Frame, NoHeader, Unreadable, Unknown, Asks, read_request}
@@ -51,7 +52,7 @@ parts-long (p ∷ ps) bytes (front, rest, one, more, e) = omega (arith, part-lon
 
 -- ---- requests
 
-asked-long : (r : Request) (bytes : List ℕ) → IsAsked r bytes → looks r * 2 ≤ 86 + length bytes
+asked-long : (r : Request) (bytes : List ℕ) → IsAsked r bytes → looks r * 2 ≤ 126 + length bytes
 asked-long (req.Create p d a f) bytes h = omega arith
 asked-long (req.Delete p n) bytes h = omega arith
 asked-long (req.SetData p d n) bytes h = omega arith
@@ -72,10 +73,14 @@ asked-long (req.RemoveWatches p k) bytes h = omega arith
 asked-long (req.Auth kind scheme auth) bytes h = omega arith
 asked-long (req.Multi parts) bytes (front, last, spelled, end, e) = omega (arith, parts-long parts front spelled, ap (λ (l : List ℕ). length l) e, length-append front last)
 
-pub request-long : (bytes : List ℕ) (xid : ℤ) (r : Request) → read_request bytes ≡ Asks xid r → looks r * 2 ≤ 86 + length bytes
+-- the xid and the type, before the body
+type-long : (xid type : ℤ) (bytes : List ℕ) → Spelled Spells (jute.int xid ∷ jute.int type ∷ []) bytes → 8 ≤ length bytes
+type-long xid type bytes (a, r, first, (b, q, second, none, f), e) = omega (arith, first.0, second.0, ap (λ (l : List ℕ). length l) e, length-append a r, ap (λ (l : List ℕ). length l) f, length-append b q)
+
+pub request-long : (bytes : List ℕ) (xid : ℤ) (r : Request) → read_request bytes ≡ Asks xid r → looks r * 2 ≤ 118 + length bytes
 request-long bytes xid r e =
     let t = found bytes xid r e in
-    omega (arith, asked-long r t.1 t.3, ap (λ (l : List ℕ). length l) t.4, length-append t.0 t.1)
+    omega (arith, type-long _ _ t.0 t.2, asked-long r t.1 t.3, ap (λ (l : List ℕ). length l) t.4, length-append t.0 t.1)
 
 frame-long : (bytes : List ℕ) (x : Frame) → read_request bytes ≡ x → looks_in x + 4 ≤ 64 + length bytes
 frame-long bytes NoHeader e = omega arith
