@@ -193,7 +193,7 @@ module _ (s : State) (z id : ℤ) (alive : Bool) (counts : Bytes → Option Coun
   -- a node that goes, and whose counts had a record or none
   gone_fits : (r : Bytes) (c : Bool) → has_counts session.layout ≡ c → list_any (same r) ps ≡ true → get new.tree r ≡ None → KeyFits z (gone_if c) (CountsKey r) s new
   gone_fits r true e h is = subst (λ (n : Option Node). CountsMean n (num_children new.tree r) (is_counted_in new n) None) (sym is) tt
-  gone_fits r false e h is o was =
+  gone_fits r false e h is = λ o was.
       let own = mine r h in
       let counted : is_counted_in s (get s.tree r) ≡ false = counted_mine r h ∙ e in
       let before = subst (λ (b : Bool). CountsMean (get s.tree r) (num_children s.tree r) b o) counted was in

@@ -1,6 +1,6 @@
 -- The plan of a session's end writes each key once and is small enough for an etcd, which does not deny it.
-use Rattle.std.proofs.Common.{◌≡◌, ◌+◌, ◌≤◌, ℤ, pos, Bool, true, false, length, List, [], ◌∷◌, ◌++◌, Some, sym, ap, subst, arith}
-use Rattle.std.specs.Prelude.{◌≤ℤ◌, All, IsTrue, map, nat_abs, option_map}
+use Rattle.std.proofs.Common.{◌≡◌, ◌+◌, ◌≤◌, ℤ, pos, Bool, true, false, length, List, [], ◌∷◌, ◌++◌, Some, refl, sym, ap, subst, arith}
+use Rattle.std.specs.Prelude.{◌≤ℤ◌, All, IsTrue, map, nat_abs}
 use Rattle.std.specs.List.{list_any}
 use Rattle.std.specs.List.Sorted.{IsStrictlySortedBy}
 use Rattle.std.specs.Ordering.{nat_cmp}

@@ -1,5 +1,5 @@
 -- What the end of a session that has lapsed is decided by, and what its plan is worth.
-use Rattle.std.specs.Prelude.{◌≡◌, ℤ, pos, nat_abs, ◌≤ℤ◌, ◌<ℤ◌, Bool, true, false, List, length, nat_le, Option, Some, None, is_some, Contains, MatchBool}
+use Rattle.std.specs.Prelude.{◌≡◌, ℤ, pos, nat_abs, ◌≤ℤ◌, ◌<ℤ◌, Bool, true, false, length, nat_le, Option, Some, None, is_some, Contains, MatchBool}
 use Rattle.ev_types.specs.declared.answer.Kv.{Kv}
 use Rattle.ev_types.specs.Ranges.{Keys}
 use Rattle.ev_types.specs.Store.{acts_applied, last_revision}

@@ -9,4 +9,4 @@ pub delete_node-requires : goal.delete_node-requires
 delete_node-requires c = subst (λ (p : Bytes). length p ≤ max_path) (sym c.bytes.ensures) (path_short c.args.path.now c.requires)
 
 pub delete_counts-requires : goal.delete_counts-requires
-delete_counts-requires c = subst (λ (p : Bytes). length p ≤ max_path) (sym c.bytes-2.ensures) (path_short c.args.path.now c.requires)
+delete_counts-requires c = subst (λ (p : Bytes). length p ≤ max_path) (sym c.bytes-then-has_counts.ensures) (path_short c.args.path.now c.requires)
