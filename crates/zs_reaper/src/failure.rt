@@ -4,8 +4,8 @@ ghost use Rattle.std.specs.Prelude.{◌≡◌};
 ghost use Rattle.ev_link.specs.Asking.{failure_in};
 ghost use Rattle.zs_reaper.specs.Turning.{fault_in};
 
-use ev_link::{HttpLink, LinkFailure};
 use ev_faults::Fault;
+use ev_link::{HttpLink, LinkFailure};
 use zx_outside::{Sink, Source};
 
 /// Why a link failed; of one that did not, that memory was refused.
