@@ -60,6 +60,7 @@ use Rattle.zp_laws.proofs.Attachments.{session-attached}
 use Rattle.zs_session.proofs.Welcomes.{number-welcomed}
 use Rattle.zs_session.specs.Connecting.{asked_in_phase, number_shown, timeout_in}
 use Rattle.zs_session.specs.Sessions.{attach_changes, attach_guards, attach_txn, attach_wants, first_wants, new_session_changes, new_session_guards, new_session_txn, session_wants}
+use Rattle.zk_service.specs.declared.fresh.Fresh.{Fresh}
 use Rattle.zs_session.specs.declared.connect.Connect.{Connect}
 use Rattle.zs_session.specs.declared.connect.Phase.TheVariants.{Attaching, Creating, Granting, Keeping, Looking, LookingAgain, Over, Unasked}
 use Rattle.zs_session.specs.declared.connect.Phase.{Phase}
@@ -231,7 +232,7 @@ module _ (s u : Store) (lines : List TranscriptLine) (c : ℕ) (core : Core) (x 
           untouched = record {
             silent = packets-append c lines (line_of s kind ∷ []) ∙ append-nil (packets c lines) ∙ (k.untouched).silent;
             turn = ahead-push lines (line_of s kind) c 1 (ap (is_below_place 1) (line (next_revision s)).no_index) (k.untouched).turn;
-            offered = first_shown-push (open_shown c) lines (line_of s kind ∷ []) (x.fresh.id, x.fresh.passwd) (k.untouched).offered;
+            offered = first_shown-push (open_shown c) lines (line_of s kind ∷ []) x.fresh (k.untouched).offered;
             offer = (k.untouched).offer;
           };
           next = k.next;

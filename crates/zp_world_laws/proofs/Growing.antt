@@ -140,7 +140,7 @@ new-kept s u lines more c id t x none silent b = record {
   least = b.least;
   most = b.most;
   long = b.long;
-  offered = first_shown-push (open_shown c) lines more ((b.fresh).id, (b.fresh).passwd) b.offered;
+  offered = first_shown-push (open_shown c) lines more b.fresh b.offered;
   txn = b.txn;
 }
 

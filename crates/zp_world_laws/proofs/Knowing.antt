@@ -120,7 +120,7 @@ untouched-push : (lines more : List TranscriptLine) (c : ℕ) (fresh : Fresh) �
 untouched-push lines more c fresh h k = record {
   silent = h.packets ∙ k.silent;
   turn = h.below 1 k.turn;
-  offered = first_shown-push (open_shown c) lines more (fresh.id, fresh.passwd) k.offered;
+  offered = first_shown-push (open_shown c) lines more fresh k.offered;
   offer = k.offer;
 }
 

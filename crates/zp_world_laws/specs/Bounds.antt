@@ -94,7 +94,7 @@ pub record IsBoundNew (s : Store) (lines : List TranscriptLine) (c : ℕ) (id : 
   pub least : pos 1 ≤ℤ fresh.id
   pub most : fresh.id ≤ℤ max_long
   pub long : length fresh.passwd ≡ 16
-  pub offered : opening c lines ≡ Some (fresh.id, fresh.passwd)
+  pub offered : opening c lines ≡ Some fresh
   pub txn : t ≡ new_session_txn fresh (granted_timeout request.timeout)
 
 -- the record of the session's life was so at a revision of the store

@@ -45,7 +45,7 @@ pub record IsOffer (fresh : Fresh) : Type 0 where
 pub record IsUntouched (lines : List TranscriptLine) (c : ℕ) (fresh : Fresh) : Type 0 where
   pub silent : packets c lines ≡ []
   pub turn : is_ahead lines c 1 ≡ true
-  pub offered : opening c lines ≡ Some (fresh.id, fresh.passwd)
+  pub offered : opening c lines ≡ Some fresh
   pub offer : IsOffer fresh
 
 pub record IsUnconnected (lines : List TranscriptLine) (c : ℕ) (core : Core) (fresh : Fresh) : Type 0 where

@@ -1,5 +1,5 @@
 -- What is known of an open connection in whatever stage: its own lines, and its frames.
-use Rattle.std.specs.Prelude.{List, None, Some, [], ℕ, ℤ, ◌≡◌, ◌≤◌}
+use Rattle.std.specs.Prelude.{List, None, Some, [], ℕ, ◌≡◌, ◌≤◌}
 use Rattle.zk_service.specs.declared.fresh.Fresh.{Fresh}
 use Rattle.zk_transcript.specs.Conversations.{close_shown}
 use Rattle.zk_transcript.specs.History.{first_place, opening}

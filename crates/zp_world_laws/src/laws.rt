@@ -1,6 +1,7 @@
 //! The laws of worlds. Each function does nothing, and its contract is the law: only what a contract names is proved.
 
 ghost use Rattle.std.specs.Prelude.{ℕ, ℤ, List};
+ghost use Rattle.zk_model.specs.declared.layout.Layout.{Layout};
 ghost use Rattle.zt_text.specs.declared.script.Happening.TheVariants as line;
 ghost use Rattle.zp_world_laws.specs.Keeping.{EveryRunGives, FirstHasEntries, FirstIsAccounted, FirstIsWhole, IsAttachedIn, Keeps, KeepsAccounts, KeepsEntries, KeepsIf, MayEnter, WholeGives};
 ghost use Rattle.zp_world_laws.specs.Settled.{SettledIsIdle};
@@ -57,7 +58,7 @@ pub fn connections_end()
 
 /// A world stays whole while a connection opens, or a reaper begins and looks at its session, under a number that was never used.
 pub fn connections_open()
-    ensures open { (c p : ℕ) (id : ℤ) (passwd : List ℕ) → Keeps (line.Open c p id passwd) }
+    ensures open { (c p : ℕ) (id : ℤ) (passwd : List ℕ) (layout : Layout) → Keeps (line.Open c p id passwd layout) }
     ensures reap { (c p : ℕ) (id : ℤ) → Keeps (line.Reap c p id) }
 {}
 
