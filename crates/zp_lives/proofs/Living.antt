@@ -22,7 +22,6 @@ use Rattle.zp_lives.specs.Events.{ends}
 use Rattle.zp_lives.specs.Feeding.{AreAnswered}
 use Rattle.zp_lives.specs.Showing.{index_after, shown_act, shown_from, shown_in, shown_of, until_close}
 use Rattle.zp_run.specs.Runs.{Runs, Step, answers_of, asks_of, frames_of}
-use Rattle.zn_layout.specs.declared.entry.Entry.{Entry}
 use Rattle.zp_step.proofs.Shutting.{ends-named}
 use Rattle.zp_step.specs.Laws.{end_by}
 use Rattle.zp_step.specs.Stages.{Core, is_shut, max_count, new_core}
@@ -170,16 +169,16 @@ lives-on c (s ∷ ss) w x core last k (mid, may, steps, runs) fed few =
 -- ---- from the world in which it opens
 
 module _ (w : World) (c p : ℕ) (fresh : Fresh) (steps : List Step) (core : Core) (k : IsAccounted w) (free : conn_at c w ≡ None) (r : IsRunAlone w.store fresh steps core) where
-  lived : IsLived c (opened w c p fresh.id fresh.passwd) (new_conn p (Connection (new_core fresh))) steps (until_close steps)
-  lived = lives-on c steps (opened w c p fresh.id fresh.passwd) (new_conn p (Connection (new_core fresh))) (new_core fresh) core
-      (record { accounted = open-accounted w c p fresh.id fresh.passwd free r.offer k; there = conn-here w c (new_conn p (Connection (new_core fresh))); actor = refl; undone = tt })
+  lived : IsLived c (opened w c p fresh) (new_conn p (Connection (new_core fresh))) steps (until_close steps)
+  lived = lives-on c steps (opened w c p fresh) (new_conn p (Connection (new_core fresh))) (new_core fresh) core
+      (record { accounted = open-accounted w c p fresh.id fresh.passwd fresh.layout free r.offer k; there = conn-here w c (new_conn p (Connection (new_core fresh))); actor = refl; undone = tt })
       r.ran (record { after = (r.fed).after; answers = (r.fed).answers; entries = (r.fed).entries }) (omega (arith, r.few))
 
   -- its `open` line and the lines before show nothing of it
   nothing : shown_of c (w.lines ++ Open c p fresh.id fresh.passwd fresh.layout ∷ []) ≡ []
   nothing = shown-append c w.lines (Open c p fresh.id fresh.passwd fresh.layout ∷ []) ∙ append-nil (shown_of c w.lines) ∙ unnamed-shows c w.lines ((k.known).unused c free)
 
-  alone : IsAlone (opened w c p fresh.id fresh.passwd) c steps
+  alone : IsAlone (opened w c p fresh) c steps
   alone = record {
     after = lived.after;
     lives = lived.lives;

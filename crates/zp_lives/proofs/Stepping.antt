@@ -3,7 +3,7 @@ use Rattle.ev_types.specs.Denials.{carry}
 use Rattle.ev_types.specs.Store.{Store}
 use Rattle.ev_types.specs.declared.answer.Answer.{Answer}
 use Rattle.ev_types.specs.declared.ask.Ask.{Ask}
-use Rattle.std.proofs.Common.{Bool, List, [], ap, append-nil, append_assoc, arith, false, pos, refl, subst, sym, true, ℕ, ℤ, ◌++◌, ◌+◌, ◌<◌, ◌∙◌, ◌∷◌, ◌≡◌, ◌≢◌}
+use Rattle.std.proofs.Common.{Bool, List, [], ap, append-nil, append_assoc, arith, false, pos, refl, subst, sym, true, ℕ, ◌++◌, ◌+◌, ◌<◌, ◌∙◌, ◌∷◌, ◌≡◌, ◌≢◌}
 use Rattle.std.specs.Arc.{arc_value}
 use Rattle.std.specs.Option.{option_and_then}
 use Rattle.std.specs.Prelude.{None, Option, Some, filter_map, if◌then◌else◌, ◌+ℤ◌}
@@ -44,7 +44,6 @@ use Rattle.zp_run.specs.Runs.{Step, answers_of, asks_of, entry_in}
 use Rattle.zp_step.proofs.Shutting.{ends-named}
 use Rattle.zp_step.specs.Laws.{end_by}
 use Rattle.zp_step.specs.Steps.{IsNextEntry, MayTake, Steps, awaits_entry}
-use Rattle.zp_step.specs.declared.action.Action.TheVariants as action
 use Rattle.zp_step.specs.declared.action.Action.{Action}
 use Rattle.zp_step.specs.declared.input.Input.TheVariants as input
 use Rattle.zp_step.specs.declared.input.Input.{Input}

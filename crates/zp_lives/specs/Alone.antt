@@ -57,10 +57,10 @@ pub record IsAlone (w : World) (c : ℕ) (steps : List Step) : Type 0 where
 -- whichever proxy it opened at, under a number that was never used
 abbrev pub AloneIsServed : Type 0
 AloneIsServed = (w : World) (c p : ℕ) (fresh : Fresh) (steps : List Step) (core : Core) → IsAccounted w → conn_at c w ≡ None
-    → IsRunAlone w.store fresh steps core → IsAlone (opened w c p fresh.id fresh.passwd) c steps
+    → IsRunAlone w.store fresh steps core → IsAlone (opened w c p fresh) c steps
 
 -- over the store that Begin makes of a new one, carried out at time 0
 abbrev pub AloneFromTheFirst : Type 0
 AloneFromTheFirst = (s : Store) (a : Answer) (c p : ℕ) (fresh : Fresh) (steps : List Step) (core : Core)
     → carry new_store (begin_ask 0) ≡ Some (s, a) → IsRunAlone s fresh steps core
-    → IsAlone (opened (world_over s) c p fresh.id fresh.passwd) c steps
+    → IsAlone (opened (world_over s) c p fresh) c steps

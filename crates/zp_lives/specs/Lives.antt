@@ -14,7 +14,6 @@ use Rattle.zp_script.specs.Happens.{Happens}
 use Rattle.zp_script.specs.Worlds.{Conn, World, conn_at}
 use Rattle.zp_script.specs.declared.flight.Flight.TheVariants.{Carried}
 use Rattle.zt_text.specs.declared.script.Happening.{Happening}
-use Rattle.zt_text.specs.declared.script.Happening.TheVariants as line
 use Rattle.zp_run.specs.Runs.{Step}
 use Rattle.zp_world_laws.specs.Accounting.{IsAccounted, IsWithinCounts, OffersSession}
 use Rattle.zp_world_laws.specs.Giving.{IsOneHistory}
