@@ -21,7 +21,7 @@ ServedAreFed = (s : Store) (fresh : Fresh) (old new : Told) (why : Cause) (h : S
 -- whichever proxy it opened at, under a number that was never used
 abbrev pub ServedAreAlone : Type 0
 ServedAreAlone = (w : World) (c p : ℕ) (fresh : Fresh) (old new : Told) (why : Cause) (h : Serves fresh old new why) → IsAccounted w
-    → conn_at c w ≡ None → IsServedOver w.store fresh old new h.steps → IsAlone (opened w c p fresh.id fresh.passwd) c h.steps
+    → conn_at c w ≡ None → IsServedOver w.store fresh old new h.steps → IsAlone (opened w c p fresh) c h.steps
 
 -- over the store that Begin makes of a new one, carried out at time 0
 abbrev pub ServedFromTheFirst : Type 0
