@@ -1,0 +1,180 @@
+"""Which connection and which of its requests caused each update.
+
+A reply that says that its own update was made names it: its zxid is the revision. A welcome names its session. Beyond that an update is
+nobody's yet, and it is looked for what may have caused it:
+
+- the attachment of a session: a connect that named the session, which came before the update. Of several, the one whose later replies
+  fit: the first that was read off the tree is not older than the attachment, and the first that needed none repeats its zxid;
+- the close of a session: a closeSession of the connection that the session was attached to;
+- any other: a request without an answer, of a connection whose session is open then, that came before the update, and would do on the
+  state before it just what etcd shows: the same triggers, in the same order, the same data, versions and owners. If several may, they
+  are matched so that each update has one if possible, each request is carried out once at most, and those of a connection in order.
+
+If no request without an answer fits, but one that was answered already, then that one: a second update for one request is what the
+judge calls out of order. If none fits at all, then nobody who was recorded asked for it. It is written as what a connection that was not
+recorded asked for, with the same effect. Updates that are older than the record are all written so.
+"""
+from collections import namedtuple
+
+from packets import CLOSE, UPDATES
+from keys import did
+
+Cause = namedtuple("Cause", "number index is_recorded")
+
+
+def granted(timeout):
+    return max(4000, min(40000, timeout))
+
+
+class Causes:
+    """`found` has the cause of each update by its revision, `sessions` the connections of each session by the revisions that attached it,
+    and `unasked` the revisions that nobody recorded asked for."""
+
+    def __init__(self, streams, revisions, service):
+        self.streams, self.revisions, self.service = streams, revisions, service
+        self.found, self.unasked, self.attached, self.sessions, self.notes = {}, [], {}, {}, []
+        self.claims = self.claimed()
+        self.welcomes = self.session_welcomes()
+        self.attachments = self.matched_attachments()
+        self.open = []
+        for revision in revisions:
+            self.look(revision)
+            service.take(revision)
+        self.match()
+
+    def each(self):
+        return self.streams.connections.values()
+
+    def claimed(self):
+        """By revision, the answers that say that it is their request's own update."""
+        found = {}
+        for it in self.each():
+            for answer in it.answers:
+                if answer.reply.updates and answer.index < len(it.requests):
+                    found.setdefault(answer.reply.zxid, []).append((it.number, answer.index))
+        return found
+
+    def session_welcomes(self):
+        return {it.welcome[0]: it.number for it in self.each() if it.is_anew() and it.welcome and it.welcome[0]}
+
+    def matched_attachments(self):
+        """By revision, the connection that resumed a session by it."""
+        by_session, found = {}, {}
+        for it in self.revisions:
+            if it.kind() == "attach":
+                by_session.setdefault(it.session(), []).append(it)
+        for session, made in by_session.items():
+            mine = [it for it in self.each() if it.connect and it.connect.session == session]
+            left = {it.number: it for it in made}
+            welcomed = sorted((it for it in mine if it.welcome and it.welcome[0]), key=lambda it: it.welcomed_at)
+            for it in reversed(welcomed):
+                revision = self.attachment_of(it, left)
+                if revision:
+                    found[revision] = it.number
+                    del left[revision]
+            waiting = sorted((it for it in mine if not it.welcome), key=lambda it: it.places[0])
+            for revision in sorted(left):
+                first = next((it for it in waiting if it.times[0] <= left[revision].time and it.connect.last_zxid < revision), None)
+                if first:
+                    found[revision] = first.number
+                    waiting.remove(first)
+        return found
+
+    def attachment_of(self, it, left):
+        """Which of these attachments a connection that was welcomed made."""
+        may = [number for number, made in left.items() if made.time >= it.times[0] and number > it.connect.last_zxid]
+        if it.answers:
+            first = it.answers[0]
+            if not first.has_moment and first.reply.zxid in may:
+                return first.reply.zxid
+            may = [number for number in may if number <= first.reply.zxid] or may
+            return max(may, default=None)
+        return min(may, default=None)
+
+    def look(self, revision):
+        kind = revision.kind()
+        if kind in (None, "lapse", "begin", "reaped"):
+            return
+        number = revision.number
+        if kind in ("session", "attach"):
+            session = revision.session()
+            who = self.welcomes.get(session) if kind == "session" else self.attachments.get(number)
+            who = who or (kind == "session" and self.starter(revision)) or None
+            self.attached[session] = who
+            self.sessions.setdefault(session, {})[number] = who
+            self.tell(revision, who and Cause(who, 0, True))
+        elif kind == "closed":
+            self.tell(revision, self.closer(revision))
+        else:
+            claims = self.claims.get(number, [])
+            if len(claims) > 1:
+                self.notes.append(f"update {number} is claimed by the replies to {' and to '.join(f'frame {i} of connection {c}' for c, i in claims)}")
+            if claims:
+                self.tell(revision, Cause(*claims[0], True))
+            else:
+                self.open.append((revision, self.candidates(revision)))
+
+    def tell(self, revision, cause):
+        if cause:
+            self.found[revision.number] = cause
+        else:
+            self.unasked.append(revision.number)
+
+    def starter(self, revision):
+        """A connection that asked for a new session, and was not answered."""
+        life = revision.of(b"zk/l/")[0][1].value
+        timeout = int.from_bytes(life[1:5], "big")
+        used = {it.number for it in self.found.values()}
+        return next((it.number for it in self.each() if it.is_anew() and not it.welcome and it.number not in used
+                     and granted(it.connect.timeout) == timeout and it.times[0] <= revision.time), None)
+
+    def closer(self, revision):
+        it = self.streams.connections.get(self.attached.get(revision.session()))
+        if it is None:
+            return None
+        closes = [index for index, request in enumerate(it.requests) if request and request.kind == CLOSE and it.times[index] <= revision.time]
+        claimed = [index for number, index in self.claims.get(revision.number, []) if number == it.number]
+        return Cause(it.number, (claimed or closes)[0], True) if claimed or closes else None
+
+    def candidates(self, revision):
+        """The requests that may have caused this update: those without an answer, and those that have one."""
+        fresh, again = [], []
+        for session, number in self.attached.items():
+            it = self.streams.connections.get(number)
+            if it is None or session not in self.service.lives:
+                continue
+            for index, request in enumerate(it.requests):
+                if request and request.kind in UPDATES and it.times[index] <= revision.time:
+                    answer = it.answer_of(index)
+                    if answer is not None and not (answer.reply.updates and answer.reply.zxid <= revision.number):
+                        continue
+                    if did(revision, self.service.effect(session, request.parts)):
+                        (again if answer else fresh).append((number, index))
+        return fresh, again
+
+    def match(self):
+        """Gives each open update one of its candidates (a matching by augmenting paths)."""
+        owner = {}
+
+        def place(at, seen):
+            for it in self.open[at][1][0]:
+                if it not in seen:
+                    seen.add(it)
+                    if it not in owner or place(owner[it], seen):
+                        owner[it] = at
+                        return True
+            return False
+
+        for at in range(len(self.open)):
+            place(at, set())
+        chosen = {at: it for it, at in owner.items()}
+        for number in {it[0] for it in owner}:
+            mine = sorted(at for at, it in chosen.items() if it[0] == number)
+            for at, index in zip(mine, sorted(chosen[at][1] for at in mine)):
+                if (number, index) in self.open[at][1][0]:
+                    chosen[at] = (number, index)
+        for at, (revision, (_, again)) in enumerate(self.open):
+            found = chosen.get(at) or (again[-1] if again else None)
+            if at not in chosen and again:
+                self.notes.append(f"update {revision.number} does again what frame {found[1]} of connection {found[0]} asked for")
+            self.tell(revision, found and Cause(*found, True))

@@ -1,0 +1,143 @@
+"""The verdict on a record, in words that a stranger can look up in it.
+
+The verdict is that of `zetcd judge`, which is proved, on the transcript. It names a line of the history, or the least connection whose
+packets are not what the service gives it. This module finds which reply that is: the first for which the connection's packets up to it are
+not lawful, by a search with some ten runs of the judge. What was sent to such a connection after that reply is then left out, and the rest is
+judged again, so that each connection at fault is told, in the order of time.
+
+Then it says, of the reply: its frame, what was sent between the reply before and it, how old it is, and the updates around it. Two
+experiments help to say what is wrong: one of the notifications is left out, or one that an update of that time may have given is put in. If
+the judge then finds the reply lawful, that notification was one too many, or is missing.
+"""
+import os
+import subprocess
+import sys
+
+from packets import is_notice
+
+ROOT = os.path.dirname(os.path.dirname(os.path.dirname(os.path.realpath(__file__))))
+MOST_FAULTS = 10
+
+
+class NoProgram(Exception):
+    """A program is not built."""
+
+
+def program_of(name, variable):
+    wanted = [os.environ.get(variable), f"{ROOT}/crates/{name}/out/{name}", f"{ROOT}/out/native/{name}"]
+    found = next((it for it in wanted if it and os.access(it, os.X_OK)), None)
+    if found is None:
+        raise NoProgram(f"there is no program `{name}`: build it by tools/prove {name} or tools/native {name}, or name one by {variable}")
+    return found
+
+
+def judge(text):
+    """The words of the verdict on a transcript."""
+    made = subprocess.run([program_of("zetcd", "ZETCD"), "judge"], input=text.encode(), capture_output=True, check=False)
+    words = made.stdout.decode().split()
+    if made.returncode not in (0, 3, 8) or not words:
+        raise NoProgram(f"the judge ended with status {made.returncode}: {made.stderr.decode().strip()}")
+    return words
+
+
+class Verdict:
+    def __init__(self, transcript):
+        self.it, self.lines, self.faults, self.said = transcript, list(transcript.lines), [], None
+        self.dropped = []
+        while len(self.faults) < MOST_FAULTS:
+            words = judge(self.it.text(self.lines))
+            self.said = self.said or words
+            if words[0] != "unlawful" or words[1] != "connection":
+                if words[0] != "lawful":
+                    self.faults.append((0, self.of_line(words)))
+                break
+            number = int(words[2])
+            if not self.mend(number):
+                self.faults.append(self.of_connection(number))
+        self.faults.sort(key=lambda it: it[0])
+
+    def is_lawful(self):
+        return not self.faults and not self.it.unasked
+
+    # ---- the lines of one connection
+
+    def alone(self, number, end=None, lines=None):
+        """The lines of the transcript without the packets of other connections, and of this one only those before a line."""
+        some = self.lines if lines is None else lines
+        return [it for at, it in enumerate(some) if not it[0].startswith("send ")
+                or it[0].startswith(f"send {number} ") and (end is None or at < end)]
+
+    def is_wrong(self, number, lines):
+        words = judge(self.it.text(lines))
+        return words[:2] == ["unlawful", "connection"] and int(words[2]) == number
+
+    def sends(self, number):
+        return [at for at, (text, _) in enumerate(self.lines) if text.startswith(f"send {number} ")]
+
+    def mend(self, number):
+        """A stream that broke off may have carried the first of several notifications of one update, and not the others. The judge takes
+        all or none. So of a connection that ended otherwise than by its close, up to three notifications at its end may be left out."""
+        if self.it.streams.connections[number].cause() == "closed":
+            return False
+        sends, dropped = self.sends(number), []
+        while sends and len(dropped) < 3 and is_notice(self.lines[sends[-1]][1].data):
+            dropped.append(sends.pop())
+            if not self.is_wrong(number, self.alone(number, dropped[-1])):
+                self.lines = [it for at, it in enumerate(self.lines) if at not in dropped]
+                self.dropped.append(f"the last {len(dropped)} notifications of connection {number} are left out: the stream ended among those of one update")
+                return True
+        return False
+
+    def of_connection(self, number):
+        """The time and the words of the first reply of this connection that is wrong; what comes after it is left out from now on."""
+        sends = self.sends(number)
+        ends = [place + 1 for place in sends if not is_notice(self.lines[place][1].data)] + [sends[-1] + 1]
+        low, high = 0, len(ends) - 1
+        while low < high:
+            middle = (low + high) // 2
+            if self.is_wrong(number, self.alone(number, ends[middle])):
+                high = middle
+            else:
+                low = middle + 1
+        first, end = (ends[low - 1] if low else 0), ends[low]
+        from story import Story
+        words = Story(self, number, first, end).words()
+        time = self.lines[end - 1][1].time
+        self.lines = [it for at, it in enumerate(self.lines) if not it[0].startswith(f"send {number} ") or at < first]
+        return time, words
+
+    def of_line(self, words):
+        """The words of a verdict that names a line."""
+        from story import line_words
+        if words[0] == "fault" or len(words) < 3:
+            return f"the transcript cannot be read: {' '.join(words)}"
+        return line_words(self, words[1], int(words[2]) - 1)
+
+    def words(self):
+        streams, it = self.it.streams, self.it
+        replies = sum(len(each.answers) for each in streams.connections.values())
+        notices = sum(1 for item in streams.items if item.what == "send" and is_notice(item.data))
+        updates = sum(1 for each in it.all if each.kind() != "lapse")
+        found = [f"{'lawful' if self.is_lawful() else 'unlawful'}: {len(streams.connections)} connections, {replies} replies, {notices} notifications, "
+                 f"{updates} updates, {streams.time / 1e6:.1f} s"]
+        found += [f"\n{text}" for _, text in self.faults]
+        if it.unasked:
+            found.append(f"\nnobody who was recorded asked for {len(it.unasked)} updates: {', '.join(map(str, it.unasked[:10]))}"
+                         f"{' ..' if len(it.unasked) > 10 else ''}. (If other clients do not go through the relays, judge with --others.)")
+        found += [f"note: {note}" for note in it.notes + it.causes.notes + self.dropped]
+        return "\n".join(found)
+
+
+def verdict(folder, takes_others):
+    """Prints the verdict on a record, and gives the status."""
+    from transcript import Transcript
+    it = Transcript(folder)
+    if takes_others:
+        it.unasked = []
+    try:
+        found = Verdict(it)
+    except NoProgram as wrong:
+        print(f"audit: {wrong}", file=sys.stderr)
+        return 1
+    print(found.words())
+    return 8 if not found.is_lawful() else 1 if it.notes else 0
