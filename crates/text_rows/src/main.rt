@@ -1,9 +1,10 @@
-//! Tries the rows of the files in `data/vectors` on the lines of scripts and transcripts and on `show`, and says on standard
-//! error where a row differs.
+//! Tries the rows of the files in `data/vectors` on the lines of scripts and transcripts, on what is said of those that cannot be read,
+//! and on `show`, and says on standard error where a row differs.
 //!
 //! A row is LEFT = RIGHT ([`row_files`]); each file says in its first lines what its rows are. A new row needs no proof.
 #![tactic(auto)]
 
+mod faults;
 mod longest;
 mod scripts;
 mod shows;
@@ -21,6 +22,8 @@ enum Kind {
     Shows,
     Scripts,
     Transcripts,
+    ScriptFaults,
+    TranscriptFaults,
 }
 
 impl Rows for Kind {
@@ -29,14 +32,18 @@ impl Rows for Kind {
             Kind::Shows => shows::shown(alloc, left),
             Kind::Scripts => scripts::read(alloc, left),
             Kind::Transcripts => transcripts::written(alloc, left),
+            Kind::ScriptFaults => faults::of_script(alloc, left),
+            Kind::TranscriptFaults => faults::of_transcript(alloc, left),
         }
     }
 }
 
-const FILES: [(&'static str, Kind); 3] = [
+const FILES: [(&'static str, Kind); 5] = [
     ("shows", Kind::Shows),
     ("scripts", Kind::Scripts),
     ("transcripts", Kind::Transcripts),
+    ("script-faults", Kind::ScriptFaults),
+    ("transcript-faults", Kind::TranscriptFaults),
 ];
 
 /// Looks in the folder that its first argument names, and without one in `vectors`.
