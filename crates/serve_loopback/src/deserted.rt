@@ -15,8 +15,8 @@ use std::thread::{self, Threads};
 use std::time::Clock;
 use zx_base::Memory;
 use zx_net::Net as Streams;
-use zx_sockets::StdNet;
 use zx_random::RandWord;
+use zx_sockets::StdNet;
 
 /// How many streams an etcd of one line serves: more than come.
 const STREAMS: u64 = 1000;

@@ -18,8 +18,8 @@ use zp_run::{Event, Trace};
 use zp_server::{ListBook, is_address, serve};
 use zx_base::Memory;
 use zx_outside::MemSink;
-use zx_sockets::{StdClock, StdNet, ThreadSpawner};
 use zx_random::{RandWord, Random};
+use zx_sockets::{StdClock, StdNet, ThreadSpawner};
 
 /// How many clients connect.
 const CLIENTS: u64 = 2;

@@ -12,8 +12,8 @@ use zp_server::{NoBook, OpenGate, serve};
 use zx_base::Memory;
 use zx_net::{MemClock, MemNet};
 use zx_outside::MemSink;
-use zx_sockets::ThreadSpawner;
 use zx_random::MemRandom;
+use zx_sockets::ThreadSpawner;
 
 /// The end, and the first and the last line of what was written.
 fn text_of(alloc: Global, end: &str, written: &[u8]) -> Result<Option<String>, Memory> {

@@ -15,8 +15,8 @@ use std::time::{Clock, Duration, Instant};
 use zx_base::Memory;
 use zx_net::Net as Streams;
 use zx_outside::{Got, Sink, Source};
-use zx_sockets::StdNet;
 use zx_random::{MemRandom, RandWord};
+use zx_sockets::StdNet;
 
 /// How many idle turns of some 10 milliseconds a client waits at most for what a step is to bring.
 const MAX_TURNS: u32 = 3000;

@@ -11,8 +11,8 @@ use std::test::Fail;
 use std::time::{Duration, Instant};
 use zx_net::{InlineSpawner, MemNet, Net, NetFault, Spawner, Wakes};
 use zx_outside::{Got, Sink, Took};
-use zx_sockets::{StdNet, connect, prepare};
 use zx_random::{HangsUp, LetsGo};
+use zx_sockets::{StdNet, connect, prepare};
 
 #[test]
 fn a_worker_waits_between_its_dials(rt: HostRuntime) -> Result<(), Fail> {

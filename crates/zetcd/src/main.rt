@@ -36,8 +36,8 @@ use std::time::Clock as SystemClock;
 use zetcd_cmd::{Status, zetcd};
 use zx_net::{Clock, Net, Spawner, Wakes};
 use zx_outside::{Sink, Source, StdSink, StdSource};
-use zx_sockets::{StdClock, StdNet, ThreadSpawner};
 use zx_random::{HangsUp, LetsGo, RandWord, Random};
+use zx_sockets::{StdClock, StdNet, ThreadSpawner};
 
 fn main(rt: HostRuntime) -> ExitCode {
     take_closed(&rt);

@@ -13,10 +13,10 @@ ghost use Rattle.zw_follow.specs.Streams.{has_no_events, is_nothing, spelled, ta
 
 use crate::place::Place;
 use crate::rings::Rings;
+use ev_faults::Fault;
 use ev_http::{HttpFault, Lines, send_request};
 use ev_json::{JsonFault, Line, read_line, what_is_read_fits, write_watch};
 use ev_types::Route;
-use ev_faults::Fault;
 use std::alloc::Global;
 use std::collections::VecDeque;
 use std::sync::{Arc, Wait};
