@@ -9,8 +9,7 @@ use Rattle.zk_service.specs.Answers.{plain_request}
 use Rattle.zx_base.specs.Maps.{Bytes, same}
 use Rattle.zx_base.proofs.MapLaws.{same-true}
 use Rattle.zx_base.proofs.Options.{none_some, some_is}
-use Rattle.zn_layout.specs.declared.record.CountRec.{CountRec}
-use Rattle.zn_layout.specs.Keys.{CountsKey, Key, key_bytes}
+use Rattle.zn_layout.specs.Keys.{CountsKey, DataKey, key_bytes}
 use Rattle.zn_view.specs.Adding.{is_new}
 use Rattle.zn_view.specs.Deciding.{IsTaken}
 use Rattle.zn_view.specs.declared.plan.Decision.TheVariants.{Planned}
@@ -19,7 +18,7 @@ use Rattle.zn_view.specs.declared.plan.Who.{Who}
 use Rattle.zn_view.specs.declared.snapshot.SeenKey.{SeenKey}
 use Rattle.zn_view.specs.declared.want.Want.{Want}
 use Rattle.zn_view.specs.declared.want.Want.TheVariants as want
-use Rattle.zn_view.specs.Needs.{AreNeeds, Follows, IsLacking, IsRead, SawCounts}
+use Rattle.zn_view.specs.Needs.{AreCreatesSeen, AreNeeds, Follows, IsCreatesSeen, IsLacking, IsRead}
 use Rattle.zn_view.specs.Seen.{View, seen}
 use Rattle.zn_view.proofs.Elements.{contains-cases, empty-contains}
 use Rattle.zn_view.proofs.Placed.{seen_in-placed_other, seen_in-placed_same}
@@ -41,6 +40,11 @@ may-guess r v key h = go (makes_sequence r) (is_new v) (is_node_key key) refl re
     go true true c made begun node e = absurd (cc)
     go true false false made begun node e = absurd (cc)
     go false b c made begun node e = absurd (cc)
+
+-- the key of a node's counts is no key of a node's record
+no_node_key : (q : Bytes) → is_node_key (key_bytes (CountsKey q)) ≡ false
+unfolding key_bytes
+no_node_key q = refl
 
 -- ---- what such a view saw
 
@@ -67,21 +71,37 @@ module _ (v : View) (key : Bytes) where
       go true t = absurd (none_some (sym e ∙ ap (λ (q : Bytes). seen (guessed v key) q) (sym (same-true key k t)) ∙ guessed-seen))
       go false t = sym (seen_in-placed_other absent v.keys k t) ∙ e
 
-  saw-before : (q : Bytes) (r : CountRec) → SawCounts (guessed v key) q r → SawCounts v q r
-  saw-before q r saw = let found = saw.1 in (saw.0, (found.0, found-before (key_bytes (CountsKey q)) found.0 found.1, found.2))
+  -- a record of counts that it saw to be absent was seen to be so before, since a node's record is guessed
+  absent-before : is_node_key key ≡ true → (q : Bytes) → seen (guessed v key) (key_bytes (CountsKey q)) ≡ Some None → seen v (key_bytes (CountsKey q)) ≡ Some None
+  absent-before node q e = go (same key (key_bytes (CountsKey q))) refl
+    where
+      go : (b : Bool) → same key (key_bytes (CountsKey q)) ≡ b → seen v (key_bytes (CountsKey q)) ≡ Some None
+      go true t = let both : true ≡ false = sym node ∙ ap is_node_key (same-true key (key_bytes (CountsKey q)) t) ∙ no_node_key q in absurd (cc)
+      go false t = sym (seen_in-placed_other absent v.keys (key_bytes (CountsKey q)) t) ∙ e
+
+  creates-before : is_node_key key ≡ true → (q : Bytes) (n : ℕ) → IsCreatesSeen (guessed v key) q (Some n) → IsCreatesSeen v q (Some n)
+  creates-before node q n = go (seen (guessed v key) (key_bytes (DataKey q))) (seen (guessed v key) (key_bytes (CountsKey q))) refl refl
+    where
+      go : (d c : Option (Option Kv)) → seen (guessed v key) (key_bytes (DataKey q)) ≡ d → seen (guessed v key) (key_bytes (CountsKey q)) ≡ c → AreCreatesSeen d c (Some n) → IsCreatesSeen v q (Some n)
+      go d None e f is = absurd (cc)
+      go d (Some (Some kv)) e f is = subst (λ (o : Option (Option Kv)). AreCreatesSeen (seen v (key_bytes (DataKey q))) o (Some n)) (sym (found-before (key_bytes (CountsKey q)) kv f)) is
+      go (Some (Some kv)) (Some None) e f is = subst (λ (o : Option (Option Kv)). AreCreatesSeen o (seen v (key_bytes (CountsKey q))) (Some n)) (sym (found-before (key_bytes (DataKey q)) kv e))
+          (subst (λ (o : Option (Option Kv)). AreCreatesSeen (Some (Some kv)) o (Some n)) (sym (absent-before node q f)) is)
+      go (Some None) (Some None) e f is = absurd (cc)
+      go None (Some None) e f is = absurd (cc)
 
   -- ---- what a create reads
 
-  follows-before : (r : Request) (id : ℤ) (w : Want) → makes_sequence r ≡ true → Follows r id (guessed v key) w → Follows r id v w
-  follows-before (req.Create p d a f) id w made (t, q, up, r, saw, is) = (t, q, up, r, saw-before q r saw, is)
-  follows-before (req.Create2 p d a f) id w made (t, q, up, r, saw, is) = (t, q, up, r, saw-before q r saw, is)
-  follows-before _ id w made h = absurd (cc)
+  follows-before : (r : Request) (id : ℤ) (w : Want) → makes_sequence r ≡ true → is_node_key key ≡ true → Follows r id (guessed v key) w → Follows r id v w
+  follows-before (req.Create p d a f) id w made node (t, q, up, n, saw, is) = (t, q, up, n, creates-before node q n saw, is)
+  follows-before (req.Create2 p d a f) id w made node (t, q, up, n, saw, is) = (t, q, up, n, creates-before node q n saw, is)
+  follows-before _ id w made node h = absurd (cc)
 
-  read-before : (r : Request) (who : Who) (w : Want) → makes_sequence r ≡ true → IsRead r who (guessed v key) w → IsRead r who v w
-  read-before r who w made (inl e) = inl e
-  read-before r who w made (inr (inl e)) = inr (inl e)
-  read-before r who w made (inr (inr (inl e))) = inr (inr (inl e))
-  read-before r who w made (inr (inr (inr f))) = inr (inr (inr (follows-before r who.session w made f)))
+  read-before : (r : Request) (who : Who) (w : Want) → makes_sequence r ≡ true → is_node_key key ≡ true → IsRead r who (guessed v key) w → IsRead r who v w
+  read-before r who w made node (inl e) = inl e
+  read-before r who w made node (inr (inl e)) = inr (inl e)
+  read-before r who w made node (inr (inr (inl e))) = inr (inr (inl e))
+  read-before r who w made node (inr (inr (inr f))) = inr (inr (inr (follows-before r who.session w made node f)))
 
   -- a create lists no children
   no-children : (r : Request) (who : Who) (u : View) (p : Bytes) → makes_sequence r ≡ true → IsRead r who u (want.Children p) → ⊥
@@ -92,18 +112,18 @@ module _ (v : View) (key : Bytes) where
   no-children (req.Create2 path d a f) who u p made (inr (inr (inr (t, q, up, counts, saw, e)))) = absurd (cc)
   no-children _ who u p made (inr (inr (inr f))) = absurd (cc)
 
-  none-lacking : (r : Request) (who : Who) → makes_sequence r ≡ true → AreNeeds r who v (want.Key key ∷ []) → plain_request no_watches r ≡ None → (w : Want) → IsRead r who (guessed v key) w → IsLacking (guessed v key) w → ⊥
-  none-lacking r who made needs plain (want.Key k) read lacks = ⊎_elim
+  none-lacking : (r : Request) (who : Who) → makes_sequence r ≡ true → is_node_key key ≡ true → AreNeeds r who v (want.Key key ∷ []) → plain_request no_watches r ≡ None → (w : Want) → IsRead r who (guessed v key) w → IsLacking (guessed v key) w → ⊥
+  none-lacking r who made node needs plain (want.Key k) read lacks = ⊎_elim
       (λ e. let seen = guessed-seen in absurd (cc))
       (λ h. empty-contains [] (want.Key k) refl h)
-      (contains-cases (want.Key key) [] (want.Key k) (needs.all plain (want.Key k) (read-before r who (want.Key k) made read) (lacking-before k lacks)))
-  none-lacking r who made needs plain (want.Children p) read lacks = no-children r who (guessed v key) p made read
+      (contains-cases (want.Key key) [] (want.Key k) (needs.all plain (want.Key k) (read-before r who (want.Key k) made node read) (lacking-before k lacks)))
+  none-lacking r who made node needs plain (want.Children p) read lacks = no-children r who (guessed v key) p made read
 
-  pub guess-whole : (r : Request) (who : Who) → makes_sequence r ≡ true → AreNeeds r who v (want.Key key ∷ []) → AreNeeds r who (guessed v key) []
-  guess-whole r who made needs = record {
+  pub guess-whole : (r : Request) (who : Who) → makes_sequence r ≡ true → is_node_key key ≡ true → AreNeeds r who v (want.Key key ∷ []) → AreNeeds r who (guessed v key) []
+  guess-whole r who made node needs = record {
     only = λ w c. absurd (empty-contains [] w refl c);
-    enough = λ none plain w read lacks. none-lacking r who made needs plain w read lacks;
-    all = λ plain w read lacks. absurd (none-lacking r who made needs plain w read lacks);
+    enough = λ none plain w read lacks. none-lacking r who made node needs plain w read lacks;
+    all = λ plain w read lacks. absurd (none-lacking r who made node needs plain w read lacks);
     once = λ i j d less within. absurd (omega (arith, within));
     none = λ t plain. refl;
   }

@@ -15,6 +15,7 @@ use std::alloc::Global;
 use std::collections::VecDeque;
 use zk_model::Request;
 use zk_model::flags::is_sequential;
+use zn_layout::DATA_FRONT;
 use zn_view::{Plan, SeenKey, View, Want, Who};
 use zx_base::{Bytes, Memory};
 
@@ -35,7 +36,7 @@ fn makes_sequence(request: &Request) -> bool
 fn is_node_key(key: &[u8]) -> bool
     ensures { result ≡ is_node_key_of key.now }
 {
-    &key[..key.len().min(FIRST)] == b"zk/d/".as_slice()
+    &key[..key.len().min(FIRST)] == DATA_FRONT.as_slice()
 }
 
 /// Whether the record under this key may be guessed absent, where it is all that is lacking.

@@ -1,6 +1,6 @@
 -- What is asked and decided on a view. A request asks in rounds, all at one revision, for what is still lacking; when nothing
 -- is, it is decided. Where a sequence node's create lacks the record of its node alone, it is planned as if that were absent.
-use Rattle.std.specs.Prelude.{◌≡◌, ◌≢◌, ℕ, ℤ, ◌⊎◌, Bool, true, false, List, [], ◌∷◌, take, Option, Some, None, codes}
+use Rattle.std.specs.Prelude.{◌≡◌, ◌≢◌, ℕ, ℤ, ◌⊎◌, Bool, true, false, List, [], ◌∷◌, take, Option, Some, None}
 use Rattle.ev_types.specs.declared.answer.ActAns.{ActAns}
 use Rattle.zk_model.specs.Codes.{session_expired, session_moved}
 use Rattle.zk_model.specs.Single.{is_sequential}
@@ -14,6 +14,7 @@ use Rattle.zk_service.specs.declared.cause.Cause.{Cause}
 use Rattle.zk_service.specs.declared.cause.Cause.TheVariants as cause
 use Rattle.zx_base.specs.Maps.{Bytes, same}
 use Rattle.zn_reads.specs.SeenPaths.{seen_paths}
+use Rattle.zn_layout.specs.Keys.{data_front}
 use Rattle.zn_view.specs.Adding.{AreRecords, IsFirstDamaged, is_new}
 use Rattle.zn_view.specs.Asks.{reading, transaction}
 use Rattle.zn_view.specs.Deciding.{IfPlanned, IsGood, IsTaken, IsTested}
@@ -113,7 +114,7 @@ PassesOver r who v = IsPoor r who v ⊎ IsNoPlan r who v
 
 -- it is the key of a node's record
 abbrev pub is_node_key : Bytes → Bool
-is_node_key key = same (take 5 key) (codes "zk/d/")
+is_node_key key = same (take 5 key) data_front
 
 -- a create or create2 of a sequence node; a multi is none, whatever its parts are
 abbrev pub makes_sequence : Request → Bool

@@ -12,7 +12,7 @@ use Rattle.zp_core.proofs.guesses.plan_without.Goals as goal
 pub plan_decided-requires-clause-whole : goal.plan_decided-requires-clause-whole
 plan_decided-requires-clause-whole c =
     let t = c.args.task.now in
-    subst (λ (v : View). AreNeeds t.request c.args.who v []) (sym c.in_ok-view.ensures) (guess-whole t.view c.args.key.now t.request c.args.who c.requires.may.sequence c.requires.needs)
+    subst (λ (v : View). AreNeeds t.request c.args.who v []) (sym c.in_ok-view.ensures) (guess-whole t.view c.args.key.now t.request c.args.who c.requires.may.sequence c.requires.may.record_of_node c.requires.needs)
 
 pub returns-in-Some : goal.returns-in-Some
 returns-in-Some c =
