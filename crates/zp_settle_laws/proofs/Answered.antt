@@ -11,7 +11,6 @@ use Rattle.ev_types.specs.declared.answer.Kv.{Kv}
 use Rattle.zk_jute.specs.Requests.{Frame, NoHeader, Unreadable, Unknown, Asks, read_request}
 use Rattle.zk_model.specs.Watches.{no_watches}
 use Rattle.zk_model.specs.declared.request.Request.{Request}
-use Rattle.zk_model.specs.declared.request.Request.TheVariants as req
 use Rattle.zk_service.proofs.PlainReplies.{plain-none}
 use Rattle.zk_service.specs.Answers.{Told, plain_reply, xid_of, is_auth_refusal}
 use Rattle.zk_service.specs.declared.cause.Cause.{Cause}
@@ -42,7 +41,7 @@ use Rattle.zp_step.proofs.Beside.{PlansBeside, first-or-anew, leaves-beside}
 use Rattle.zp_step.specs.Connects.{Connects, connected}
 use Rattle.zp_step.specs.Entries.{entered, then_reply, told_entry}
 use Rattle.zp_step.specs.Keepalives.{Checked, KeptAlive, Looked, StillMine, TakesUp, checks, keeps_alive}
-use Rattle.zp_step.specs.Looking.{IfRecords, IsBacked, Looks, MayGuess, asks_for, change_by, decided, expired, guessed, makes_sequence, max_ranges, moved, pending}
+use Rattle.zp_step.specs.Looking.{IfRecords, IsBacked, Looks, MayGuess, asks_for, change_by, decided, expired, guessed, max_ranges, moved, pending}
 use Rattle.zp_step.specs.Plans.{CommitAnswered, Committed, ReadOn, finishes}
 use Rattle.zp_step.specs.Replies.{Is, closed_by, is_due, replied, stage_after, waits}
 use Rattle.zp_step.specs.Stages.{Core, Pending, Stage, Unconnected, Connecting, Ready, KeepingAlive, Checking, Reading, Committing, Waiting, Shut, is_shut}
@@ -51,8 +50,8 @@ use Rattle.zp_step.specs.Taking.{TakesFrame, TakesReadable, end_of_plain, plainl
 use Rattle.zp_step.specs.declared.action.Action.{Action}
 use Rattle.zp_step.specs.declared.input.Input.TheVariants as input
 use Rattle.zp_settle_laws.proofs.Coming.{AreEnough, AsksAfter, AsksOut, CommitAfter, CommitsOut, ConnectAfter, EndsIf, IsAskedNow, IsNow, IsTruthful, LooksOn, Remains, RemainsAfter, TruthIn, again_for}
-use Rattle.zp_settle_laws.proofs.Places.{IsFewFor, few-for, request-ends, view_on}
-use Rattle.zp_settle_laws.proofs.Guessing.{guess-reads_all}
+use Rattle.zp_settle_laws.proofs.Places.{SawParent, few-for, few-sequence, most_rounds, parent-or-less, request-ends, rounds-looked, view_on}
+use Rattle.zp_settle_laws.proofs.Guessing.{guess-reads_all, guess-reads_more}
 use Rattle.zp_settle_laws.proofs.Truths.{planned-now}
 use Rattle.zp_settle_laws.specs.Looks.{asks_of, asks_of_all, looks, looks_in}
 use Rattle.zx_base.proofs.Booleans.{either}
@@ -66,14 +65,12 @@ fewer-enough : (Now Then : Type 0) (m n : ℕ) (r : Request) (k : ℕ) → (Now 
 fewer-enough Now Then m n r k f le (inl h) = let most = h.1 in inl (f h.0, omega (arith, le, most))
 fewer-enough Now Then m n r k f le (inr most) = inr (omega (arith, le, most))
 
+fewer-spare : (Now Then : Type 0) (m n : ℕ) (r : Request) (v : View) (k : ℕ) → (Now → Then) → m ≤ n → SawParent r v ⊎ AreEnough Now n r k → SawParent r v ⊎ AreEnough Then m r k
+fewer-spare Now Then m n r v k f le (inl saw) = inl saw
+fewer-spare Now Then m n r v k f le (inr most) = inr (fewer-enough Now Then m n r k f le most)
+
 key-some : (key : Bytes) → want.Key key ∷ [] ≡ [] → ⊥
 key-some key h = cc
-
--- a sequence node's create reads by no session's nodes
-few-sequence : (r : Request) (id : ℤ) (v : View) → makes_sequence r ≡ true → IsFewFor r id v
-few-sequence (req.Create p d a f) id v h = tt
-few-sequence (req.Create2 p d a f) id v h = tt
-few-sequence _ id v h = absurd (cc)
 
 again-most : (b : Bool) (r : Request) → again_for b r ≤ looks r + 1
 again-most true r = omega arith
@@ -106,10 +103,14 @@ module _ (s : Store) (n : ℕ) where
   planned-out who v r p k (inl h) asked = let most = h.1 in inl (omega (arith, most, ap (λ b. again_for b r) (planned-now s who v p asked (h.0).agrees)))
   planned-out who v r p k (inr most) asked = inl (omega (arith, most, again-most (succeeds s (plan_txn p)) r))
 
-  -- a plan on a guess may fail: on the present it is followed by one more decision, which nothing is lacking for
-  guessed-out : (who : Who) (v : View) (key : Bytes) (r : Request) (now : ℕ) (p : Plan) (k : ℕ) → AreEnough (IsNow s v) 2 r k → AreNeeds r who v (want.Key key ∷ []) → MayGuess r v key → AreNeeds r who (guessed v key) [] → GuardsReads r who (guessed v key) p → CommitsOut s who r p k
-  guessed-out who v key r now p k (inl h) needs may whole reads = inr (h.1, guess-reads_all s who r v key p (h.0).agrees needs may whole reads)
-  guessed-out who v key r now p k (inr most) needs may whole reads = inl (omega (arith, most, again-most (succeeds s (plan_txn p)) r))
+  -- a plan on a guess may fail: on the present it is followed by one more decision, which nothing is lacking for, or nothing but the
+  -- key of the node
+  guessed-out : (who : Who) (v : View) (key : Bytes) (r : Request) (now : ℕ) (p : Plan) (k : ℕ) → AreEnough (IsNow s v) 2 r k → SawParent r v ⊎ AreEnough (IsNow s v) 3 r k
+      → AreNeeds r who v (want.Key key ∷ []) → MayGuess r v key → AreNeeds r who (guessed v key) [] → GuardsReads r who (guessed v key) p → CommitsOut s who r p k
+  guessed-out who v key r now p k (inl h) (inl saw) needs may whole reads = inr (0, h.1, guess-reads_all s who r v key p (h.0).agrees needs may whole reads saw)
+  guessed-out who v key r now p k (inl h) (inr (inl more)) needs may whole reads = inr (1, more.1, guess-reads_more s who r v key p needs may whole reads)
+  guessed-out who v key r now p k (inl h) (inr (inr most)) needs may whole reads = inl (omega (arith, most, again-most (succeeds s (plan_txn p)) r))
+  guessed-out who v key r now p k (inr most) spare needs may whole reads = inl (omega (arith, most, again-most (succeeds s (plan_txn p)) r))
 
   decided-then : (c : Core) (xid : ℤ) (r : Request) (v : View) (now : ℕ) (d : Decision) (k : ℕ) → AreEnough (IsNow s v) 1 r k → k + asks_of_all c.waiting ≤ n → IsBacked r c.who now v d → Then s n (decided c xid r v now d).0
   decided-then c xid r v now (Answered answer arm) k m w back = waits-then c (pending v xid answer (change_by r v arm) None) (omega (arith, w))
@@ -122,27 +123,30 @@ module _ (s : Store) (n : ℕ) where
     looks-then c xid r v now k l w t (inr (inr y)) =
         let d = keeps c r v in
         is-then (decided d xid r v now y.decision) c' out (decided-then d xid r v now y.decision k (fewer-enough (IsNow s v) (IsNow s v) 1 (l.rounds + 1) r k (λ h. h) (omega arith) l.most) w y.backed) y.is
-    looks-then c xid r v now k l w t (inr (inl y)) = go l.rounds l.ends l.most
+    looks-then c xid r v now k l w t (inr (inl y)) = go l.rounds l.ends l.most l.spare
       where
         d : Core × List Action
         d = decided c xid r (guessed v y.key) now (Planned y.plan)
 
-        go : (m : ℕ) → EndsIf r c.who m v → AreEnough (IsNow s v) (m + 1) r k → Then s n c'
-        go zero ends most = absurd (key-some y.key (ends (few-sequence r c.who.session v (y.may).sequence) (want.Key y.key ∷ []) y.needs))
-        go (suc m) ends most =
-            let out_now = guessed-out c.who v y.key r now y.plan k (fewer-enough (IsNow s v) (IsNow s v) 2 (suc m + 1) r k (λ h. h) (omega arith) most) y.needs y.may y.whole (y.backed.0).reads in
+        go : (m : ℕ) → EndsIf r c.who m v → AreEnough (IsNow s v) (m + 1) r k → SawParent r v ⊎ AreEnough (IsNow s v) (m + 2) r k → Then s n c'
+        go zero ends most spare = absurd (key-some y.key (ends (few-sequence r c.who.session v (y.may).sequence) (want.Key y.key ∷ []) y.needs))
+        go (suc m) ends most spare =
+            let two = fewer-enough (IsNow s v) (IsNow s v) 2 (suc m + 1) r k (λ h. h) (omega arith) most in
+            let three = fewer-spare (IsNow s v) (IsNow s v) 3 (suc m + 2) r v k (λ h. h) (omega arith) spare in
+            let out_now = guessed-out c.who v y.key r now y.plan k two three y.needs y.may y.whole (y.backed.0).reads in
             is-then d c' out (inr (record { asks = k; out = out_now; most = w })) y.is
     looks-then c xid r v now k l w t (inl y) =
-        is-then (asks_for c xid r v (take max_ranges y.lacking)) c' out (go l.rounds l.ends l.most (is-true (asks_for c xid r v (take max_ranges y.lacking)) c' out t y.is)) y.is
+        is-then (asks_for c xid r v (take max_ranges y.lacking)) c' out (go l.rounds l.ends l.most l.spare (is-true (asks_for c xid r v (take max_ranges y.lacking)) c' out t y.is)) y.is
       where
-        go : (m : ℕ) → EndsIf r c.who m v → AreEnough (IsNow s v) (m + 1) r k → AreFewOwned c.who.session v → Then s n (asks_for c xid r v (take max_ranges y.lacking)).0
-        go zero ends most few = absurd (y.some (ends (few-for r c.who.session v few) y.lacking y.needs))
-        go (suc m) ends most few = inr (record {
+        go : (m : ℕ) → EndsIf r c.who m v → AreEnough (IsNow s v) (m + 1) r k → SawParent r v ⊎ AreEnough (IsNow s v) (m + 2) r k → AreFewOwned c.who.session v → Then s n (asks_for c xid r v (take max_ranges y.lacking)).0
+        go zero ends most spare few = absurd (y.some (ends (few-for r c.who.session v few) y.lacking y.needs))
+        go (suc m) ends most spare few = inr (record {
           asks = k;
           out = record {
             rounds = m;
             ends = λ z parts len then_few. ends (few-for r c.who.session v few) y.lacking z parts y.needs y.some len then_few;
             most = fewer-enough (IsNow s v) (IsAskedNow s v) (m + 2) (suc m + 1) r k (λ h. inr h) (omega arith) most;
+            spare = fewer-spare (IsNow s v) (IsAskedNow s v) (m + 3) (suc m + 2) r v k (λ h. inr h) (omega arith) spare;
           };
           most = w;
         })
@@ -170,7 +174,15 @@ module _ (s : Store) (n : ℕ) where
         go (inr (inl y)) =
             is-then (asks_for c xid r empty_view (take max_ranges y.lacking)) c' out (inr (record {
               asks = k;
-              out = record { rounds = looks r; ends = λ z parts len few. request-ends r c.who (view_on empty_view z (take max_ranges y.lacking) parts) few; most = inl (inl (refl, refl, refl), omega (arith, m)) };
+              out = record {
+                rounds = most_rounds r;
+                ends = λ z parts len few. request-ends r c.who (view_on empty_view z (take max_ranges y.lacking) parts) few;
+                most = inl (inl (refl, refl, refl), omega (arith, m, rounds-looked r));
+                spare = elim (parent-or-less r empty_view) [
+                  | inl saw ↦ inl saw
+                  | inr less ↦ inr (inl (inl (refl, refl, refl), omega (arith, m, less)))
+                ];
+              };
               most = w;
             })) y.is
 

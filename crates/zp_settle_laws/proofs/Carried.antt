@@ -46,9 +46,8 @@ use Rattle.zp_laws.proofs.Parts.{found-there, parts-worked, revision-kept}
 use Rattle.zp_step.specs.Stages.{Stage, Unconnected, Connecting, Ready, KeepingAlive, Checking, Reading, Committing, Waiting, Shut, asked_of}
 use Rattle.zp_world_laws.proofs.Asking.{ranges-read}
 use Rattle.zp_world_laws.proofs.Transactions.{txn-answered, txn-reads}
-use Rattle.zp_settle_laws.specs.Looks.{looks}
 use Rattle.zp_settle_laws.proofs.Coming.{AsksAfter, AsksOut, CommitsOut, ConnectAfter, ConnectOut, IsAskedNow, IsNow, LooksOn, ReadsOut, again_for, attach_again}
-use Rattle.zp_settle_laws.proofs.Places.{request-ends, view_on}
+use Rattle.zp_settle_laws.proofs.Places.{parent-on, parent-or-less, request-ends, rounds-looked, most_rounds, view_on}
 use Rattle.zx_base.proofs.Booleans.{either}
 
 -- ---- a look at the present
@@ -134,7 +133,7 @@ reads-some s who r v ws k o = elim o.most [
 
 pub commits-some : (s : Store) (who : Who) (r : Request) (p : Plan) (k : ℕ) → CommitsOut s who r p k → 1 ≤ k
 commits-some s who r p k (inl m) = omega (arith, m)
-commits-some s who r p k (inr m) = let two = m.0 in omega (arith, two)
+commits-some s who r p k (inr m) = let two = m.1 in omega (arith, two)
 
 module _ (s u : Store) (who : Who) (begun : 1 ≤ length s.revisions) where
   read-after : (xid : ℤ) (r : Request) (v : View) (ws : List Want) (a : Answer) (k : ℕ) → carry s (reading v.revision ws) ≡ Some (u, a) → ReadsOut s who r v ws k → Done k (AsksAfter u who (Reading xid r v ws) a)
@@ -148,6 +147,11 @@ module _ (s u : Store) (who : Who) (begun : 1 ≤ length s.revisions) where
         most = elim o.most [
           | inl x ↦ inl (round-now s u v ws d.parts begun x.0 (h ∙ ap (λ y. Some (u, y)) d.is) d.same, (let m = x.1 in omega (arith, m, e)))
           | inr m ↦ inr (omega (arith, m, e))
+        ];
+        spare = elim o.spare [
+          | inl saw ↦ inl (parent-on r v (revision u) ws d.parts saw)
+          | inr (inl x) ↦ inr (inl (round-now s u v ws d.parts begun x.0 (h ∙ ap (λ y. Some (u, y)) d.is) d.same, (let m = x.1 in omega (arith, m, e))))
+          | inr (inr m) ↦ inr (inr (omega (arith, m, e)))
         ];
       })))
 
@@ -164,8 +168,19 @@ module _ (s u : Store) (who : Who) (begun : 1 ≤ length s.revisions) where
           let at : y.revision ≡ revision s = revision-kept (at_revision empty_view (revision u)) p.again d.parts ∙ ap revision d.same in
           subst (λ q. AsksAfter u who (Committing xid r v p time) q j) (sym d.is)
           (subst (λ q. LooksOn q who r (viewed (revision u) p.again d.parts) j) (sym d.same) (elim o [
-            | inl m ↦ record { rounds = looks r; ends = λ few. request-ends r who y few; most = inl (record { same = at; agrees = d.agrees }, omega (arith, m, e, ap (λ c. again_for c r) f)) }
-            | inr m ↦ record { rounds = 0; ends = λ few. m.1 (revision u) d.parts (omega (arith, d.long)) d.agrees; most = inl (record { same = at; agrees = d.agrees }, (let two = m.0 in omega (arith, two, e))) }
+            | inl m ↦ record {
+              rounds = most_rounds r;
+              ends = λ few. request-ends r who y few;
+              most = inl (record { same = at; agrees = d.agrees }, omega (arith, m, e, ap (λ c. again_for c r) f, rounds-looked r));
+              spare = elim (parent-or-less r y) [
+                | inl saw ↦ inl saw
+                | inr less ↦ inr (inl (record { same = at; agrees = d.agrees }, omega (arith, m, e, ap (λ c. again_for c r) f, less)))
+              ];
+            }
+            | inr (n, two, all) ↦ (
+                let found = all (revision u) d.parts (omega (arith, d.long)) d.agrees in
+                record { rounds = n; ends = λ few. found.0; most = inl (record { same = at; agrees = d.agrees }, omega (arith, two, e)); spare = inl found.1 }
+                )
           ]))
 
 -- ---- a connect

@@ -23,7 +23,7 @@ use Rattle.zs_session.specs.declared.connect.Phase.TheVariants.{Attaching, Creat
 use Rattle.zp_step.specs.Stages.{Core, Stage, Unconnected, Connecting, Ready, KeepingAlive, Checking, Reading, Committing, Waiting, Shut}
 use Rattle.zp_laws.specs.Standing.{IsNoView}
 use Rattle.zp_settle_laws.specs.Looks.{asks_of, asks_of_all, looks}
-use Rattle.zp_settle_laws.proofs.Places.{Ends, IsFewFor, view_on}
+use Rattle.zp_settle_laws.proofs.Places.{Ends, IsFewFor, SawParent, view_on}
 use Rattle.std.specs.Prelude.{Some}
 
 -- ---- a request
@@ -49,26 +49,29 @@ EndsIf r who n v = IsFewFor r who.session v → Ends r who n v
 abbrev pub AreEnough : Type 0 → ℕ → Request → ℕ → Type 0
 AreEnough Now n r k = (Now × (n ≤ k)) ⊎ (n + again_for false r ≤ k)
 
--- a round is out: after it come at most n more, and the plan
+-- A round is out: after it come at most n more, and the plan; and there is an ask to spare until the parent of a sequence node was
+-- looked up, since a guess may be of that parent's record.
 pub record ReadsOut (s : Store) (who : Who) (r : Request) (v : View) (ws : List Want) (k : ℕ) : Type 0 where
   pub rounds : ℕ
   pub ends : (z : ℤ) (parts : List ActAns) → length ws ≤ length parts → EndsIf r who rounds (view_on v z ws parts)
   pub most : AreEnough (IsAskedNow s v) (rounds + 2) r k
+  pub spare : SawParent r v ⊎ AreEnough (IsAskedNow s v) (rounds + 3) r k
 
 -- the view is looked at
 pub record LooksOn (s : Store) (who : Who) (r : Request) (v : View) (k : ℕ) : Type 0 where
   pub rounds : ℕ
   pub ends : EndsIf r who rounds v
   pub most : AreEnough (IsNow s v) (rounds + 1) r k
+  pub spare : SawParent r v ⊎ AreEnough (IsNow s v) (rounds + 2) r k
 
--- Where a guard of the plan does not hold now, what is read again is all that the request reads: so it is after a guess, which was
--- wrong then.
-abbrev pub ReadsAll : Store → Who → Request → Plan → Type 0
-ReadsAll s who r p = (z : ℤ) (parts : List ActAns) → length p.again ≤ length parts → Agrees (viewed z p.again parts) (present s) → Ends r who 0 (viewed z p.again parts)
+-- Where a guard of the plan does not hold now, what is read again is all that the request reads, but for so much: so it is after a
+-- guess, which was wrong then.
+abbrev pub ReadsAll : Store → Who → Request → ℕ → Plan → Type 0
+ReadsAll s who r n p = (z : ℤ) (parts : List ActAns) → length p.again ≤ length parts → Agrees (viewed z p.again parts) (present s) → Ends r who n (viewed z p.again parts) × SawParent r (viewed z p.again parts)
 
 -- a plan is out
 abbrev pub CommitsOut : Store → Who → Request → Plan → ℕ → Type 0
-CommitsOut s who r p k = (1 + again_for (succeeds s (plan_txn p)) r ≤ k) ⊎ ((2 ≤ k) × ReadsAll s who r p)
+CommitsOut s who r p k = (1 + again_for (succeeds s (plan_txn p)) r ≤ k) ⊎ ((n : ℕ) × (n + 2 ≤ k) × ReadsAll s who r n p)
 
 -- ---- a connect
 

@@ -1,11 +1,13 @@
 -- A settle comes to its end: each of its lines leaves fewer, and where none is left it has nothing to do.
 use Rattle.std.proofs.Common.{◌≡◌, ℕ, zero, suc, ◌+◌, ◌*◌, ◌≤◌, length, refl, sym, ap, ◌∙◌, subst, arith, Bool, true, false, ℤ, inl, inr}
-use Rattle.std.specs.Prelude.{Option, Some, None, if◌then◌else◌, is_some, option_and_then, nat_abs}
+use Rattle.std.specs.Prelude.{Option, Some, None, ◌⊎◌, if◌then◌else◌, is_some, option_and_then, nat_abs}
 use Rattle.ev_types.specs.Store.{Store, succeeds}
 use Rattle.ev_types.specs.declared.answer.Answer.{Answer}
 use Rattle.ev_types.specs.declared.answer.Answer.TheVariants as answer
+use Rattle.zk_model.specs.declared.request.Request.{Request}
 use Rattle.zn_layout.specs.declared.entry.Entry.{Entry}
 use Rattle.zn_view.specs.Asks.{plan_txn}
+use Rattle.zn_view.specs.Seen.{View}
 use Rattle.zn_view.specs.declared.plan.Who.{Who}
 use Rattle.zs_reap.specs.declared.reap.Reap.{Reap}
 use Rattle.zs_session.specs.Sessions.{attach_txn}
@@ -34,11 +36,11 @@ use Rattle.zp_world_laws.specs.Accounting.{IsAccounted}
 use Rattle.zp_world_laws.specs.Reaping.{IsReapFlight}
 use Rattle.zp_settle_laws.proofs.Bytes.{first-counts, runs-counts}
 use Rattle.zp_settle_laws.proofs.Carried.{connect-most}
-use Rattle.zp_settle_laws.proofs.Coming.{AsksAfter, AsksOut, ConnectOut, again_for, attach_again}
+use Rattle.zp_settle_laws.proofs.Coming.{AreEnough, AsksAfter, AsksOut, ConnectOut, IsAskedNow, IsNow, again_for, attach_again}
 use Rattle.zp_settle_laws.proofs.Enough.{lines-enough}
 use Rattle.zp_settle_laws.proofs.Entered.{after-cursor, taken-left, wanted-served}
 use Rattle.zp_settle_laws.proofs.Lasting.{ConnLeft, CoreLeft, Left, LeftBy, LeftOf, ReapLeft, ReaperLeft, answers_of, asked-is, delivers-left, executes-left, left-at, out-some, reap-some, told-most}
-use Rattle.zp_settle_laws.proofs.Places.{request-ends, view_on}
+use Rattle.zp_settle_laws.proofs.Places.{SawParent, parent-or-less, request-ends, rounds-looked, most_rounds, view_on}
 use Rattle.zp_settle_laws.proofs.Reaps.{any-phase, reap-most}
 use Rattle.zp_settle_laws.specs.Lines.{asks_in, asks_left, lines_left, lines_of}
 use Rattle.zp_settle_laws.specs.Looks.{asks_of_all, looks}
@@ -202,13 +204,25 @@ connect-first s id LookingAgain = omega arith
 connect-first s id (Attaching seen life) = omega (arith, attach-most (succeeds s (attach_txn id seen life)))
 connect-first s id Over = tt
 
+-- there is one ask to spare, until the parent of a sequence node was looked up
+spare-first : (Now : Type 0) (r : Request) (v : View) (n : ℕ) → n ≤ 3 → SawParent r v ⊎ AreEnough Now (most_rounds r + n) r (2 * looks r + 3)
+spare-first Now r v n few = elim (parent-or-less r v) [
+  | inl saw ↦ inl saw
+  | inr less ↦ inr (inr (omega (arith, few, less)))
+]
+
 stage-first : (s : Store) (who : Who) (st : Stage) → AsksOut s who st (asks_in st)
 stage-first s who (Unconnected fresh) = tt
 stage-first s who (Connecting x) = connect-first s x.request.session x.phase
 stage-first s who Ready = tt
 stage-first s who (KeepingAlive f) = omega arith
 stage-first s who (Checking f) = omega arith
-stage-first s who (Reading xid r v ws) = record { rounds = looks r; ends = λ z parts len few. request-ends r who (view_on v z ws parts) few; most = inr (omega arith) }
+stage-first s who (Reading xid r v ws) = record {
+  rounds = most_rounds r;
+  ends = λ z parts len few. request-ends r who (view_on v z ws parts) few;
+  most = inr (omega (arith, rounds-looked r));
+  spare = spare-first (IsAskedNow s v) r v 3 (omega arith);
+}
 stage-first s who (Committing xid r v p m) = inl (omega (arith, again-most (succeeds s (plan_txn p)) r))
 stage-first s who (Waiting p) = tt
 stage-first s who Shut = tt
@@ -217,12 +231,22 @@ after-first : (s : Store) (who : Who) (st : Stage) (a : Answer) → AsksAfter s 
 after-first s who (Connecting x) a = connect-most s x a 4 (omega arith)
 after-first s who (KeepingAlive f) a = omega arith
 after-first s who (Checking f) a = omega arith
-after-first s who (Reading xid r v ws) (answer.Txn z b parts) = record { rounds = looks r; ends = λ few. request-ends r who (view_on v z ws parts) few; most = inr (omega arith) }
+after-first s who (Reading xid r v ws) (answer.Txn z b parts) = record {
+  rounds = most_rounds r;
+  ends = λ few. request-ends r who (view_on v z ws parts) few;
+  most = inr (omega (arith, rounds-looked r));
+  spare = spare-first (IsNow s (view_on v z ws parts)) r (view_on v z ws parts) 2 (omega arith);
+}
 after-first s who (Reading xid r v ws) (answer.Range z found) = tt
 after-first s who (Reading xid r v ws) (answer.Granted z id ttl) = tt
 after-first s who (Reading xid r v ws) (answer.Alive z id ttl) = tt
 after-first s who (Committing xid r v p m) (answer.Txn z true parts) = tt
-after-first s who (Committing xid r v p m) (answer.Txn z false parts) = record { rounds = looks r; ends = λ few. request-ends r who (viewed z p.again parts) few; most = inr (omega arith) }
+after-first s who (Committing xid r v p m) (answer.Txn z false parts) = record {
+  rounds = most_rounds r;
+  ends = λ few. request-ends r who (viewed z p.again parts) few;
+  most = inr (omega (arith, rounds-looked r));
+  spare = spare-first (IsNow s (viewed z p.again parts)) r (viewed z p.again parts) 2 (omega arith);
+}
 after-first s who (Committing xid r v p m) (answer.Range z found) = tt
 after-first s who (Committing xid r v p m) (answer.Granted z id ttl) = tt
 after-first s who (Committing xid r v p m) (answer.Alive z id ttl) = tt

@@ -1,17 +1,18 @@
 -- A plan on a guess that is wrong: what is read again is of the present too, and is all that the request reads. For the number of the
--- node to be made is the parent's creates, and these are what they were.
-use Rattle.std.proofs.Common.{◌≡◌, ℤ, List, [], ◌∷◌, ◌++◌, refl, sym, ap, ◌∙◌, subst, arith, Bool, true, false, inl, inr}
-use Rattle.std.specs.Prelude.{Contains, IsTrue, Option, Some, None, if◌then◌else◌}
+-- node to be made is the parent's creates, and these are what they were. Only where the parent's record itself was guessed, the node's
+-- key may be lacking still.
+use Rattle.std.proofs.Common.{◌≡◌, ◌≤◌, ℕ, ℤ, length, List, [], ◌∷◌, ◌++◌, refl, sym, ap, ◌∙◌, subst, arith, Bool, true, false, inl, inr}
+use Rattle.std.specs.Prelude.{Contains, Option, Some, None, ◌⊎◌, if◌then◌else◌}
 use Rattle.ev_types.specs.Store.{Store, present}
+use Rattle.ev_types.specs.declared.answer.ActAns.{ActAns}
 use Rattle.ev_types.specs.declared.answer.Kv.{Kv}
 use Rattle.zk_model.specs.Paths.{parent, with_one}
 use Rattle.zk_model.specs.Single.{is_sequential, named}
 use Rattle.zk_model.specs.Watches.{no_watches}
-use Rattle.zk_model.specs.declared.request.Acl.{Acl}
 use Rattle.zk_model.specs.declared.request.Request.{Request}
 use Rattle.zk_model.specs.declared.request.Request.TheVariants as req
 use Rattle.zk_service.specs.Answers.{Told, plain_request}
-use Rattle.zn_layout.specs.Keys.{Key, CountsKey, HeadKey, key_bytes}
+use Rattle.zn_layout.specs.Keys.{Key, CountsKey, DataKey, HeadKey, key_bytes}
 use Rattle.zn_view.proofs.AsSeen.{agrees-seen}
 use Rattle.zn_view.proofs.Members.{In, contains_in, in_contains, in_left, in_right}
 use Rattle.zn_view.proofs.Narrowing.{picked-told}
@@ -19,9 +20,9 @@ use Rattle.zn_view.proofs.Placed.{seen_in-placed_other}
 use Rattle.zn_view.proofs.SeenAfter.{wanted-shown}
 use Rattle.zn_view.specs.Adding.{at_revision}
 use Rattle.zn_view.specs.Asks.{again_of, guarded_wants, head_want, picked}
-use Rattle.zn_view.specs.Needs.{AreNeeds, Follows, GuardsReads, IsRead, key_want}
+use Rattle.zn_view.specs.Needs.{AreCreatesSeen, AreNeeds, Follows, GuardsReads, IsCreatesSeen, IsLacking, IsRead, key_want, life_want}
 use Rattle.zn_view.specs.Seen.{View, empty_view, seen, seen_in}
-use Rattle.zn_view.specs.Views.{Agrees, about_parent, own_data, own_nodes, reads}
+use Rattle.zn_view.specs.Views.{Agrees, about_parent, about_path, own_data, own_nodes, reads}
 use Rattle.zn_view.specs.declared.plan.Plan.{Plan}
 use Rattle.zn_view.specs.declared.plan.Who.{Who}
 use Rattle.zn_view.specs.declared.snapshot.SeenKey.{SeenKey}
@@ -34,6 +35,7 @@ use Rattle.zx_base.proofs.Options.{none_some}
 use Rattle.zx_base.specs.Maps.{Bytes, same}
 use Rattle.zp_step.specs.Looking.{MayGuess, guessed, is_node_key, makes_sequence}
 use Rattle.zp_settle_laws.proofs.Coming.{ReadsAll}
+use Rattle.zp_settle_laws.proofs.Places.{SawParent, sequence-ends, sequence_parent}
 
 -- ---- what is read again
 
@@ -77,18 +79,28 @@ key-apart key q node = go (same key (key_bytes (CountsKey q))) refl
     go true e = absurd (true-false (sym node ∙ ap is_node_key (same-true key (key_bytes (CountsKey q)) e) ∙ counts-apart q))
     go false e = refl
 
--- the counts of the parent are read at once
-counts-read : (p d : Bytes) (a : List Acl) (f id : ℤ) (q : Bytes) → IsTrue (is_sequential f) → parent (with_one p) ≡ Some q → In (CountsKey q) (reads (req.Create p d a f) id)
+-- the parent's keys are read at once
+about-parent : (f id : ℤ) (p q : Bytes) (k : Key) → (if is_sequential f then parent (with_one p) else None) ≡ Some q → In k (about_path q) → In k (about_parent (parent (named f p)) ++ own_data f p ++ own_nodes f id)
+about-parent f id p q k up has = by (is_sequential f) refl
+  where
+    by : (b : Bool) → is_sequential f ≡ b → In k (about_parent (parent (named f p)) ++ own_data f p ++ own_nodes f id)
+    by true s =
+        let e : parent (with_one p) ≡ Some q = ap (λ b. if b then parent (with_one p) else None) (sym s) ∙ up in
+        let is : parent (named f p) ≡ Some q = ap (λ b. parent (if b then with_one p else p)) s ∙ e in
+        subst (λ (o : Option Bytes). In k (about_parent o ++ own_data f p ++ own_nodes f id)) (sym is) (in_left k (about_path q ++ own_data f p) (own_nodes f id) (in_left k (about_path q) (own_data f p) has))
+    by false s = absurd (none_some (ap (λ b. if b then parent (with_one p) else None) (sym s) ∙ up))
+
+parent-read : (r : Request) (id : ℤ) (q : Bytes) (k : Key) → sequence_parent r ≡ Some q → In k (about_path q) → Contains (reads r id) k
 unfolding reads
-counts-read p d a f id q s e =
-    let up : parent (named f p) ≡ Some q = ap (λ b. parent (if b then with_one p else p)) s ∙ e in
-    subst (λ (o : Option Bytes). In (CountsKey q) (about_parent o ++ own_data f p ++ own_nodes f id)) (sym up) (in_left (CountsKey q) (about_parent (Some q) ++ own_data f p) (own_nodes f id) (in_left (CountsKey q) (about_parent (Some q)) (own_data f p) (inr (inl refl))))
+parent-read (req.Create p d a f) id q k up has = in_contains k (reads (req.Create p d a f) id) (about-parent f id p q k up has)
+parent-read (req.Create2 p d a f) id q k up has = in_contains k (reads (req.Create2 p d a f) id) (about-parent f id p q k up has)
+parent-read _ id q k up has = absurd (none_some up)
 
 some-of : {A : Type 0} (o : Option A) → (o ≡ None → ⊥) → (x : A) × (o ≡ Some x)
 some-of None h = absurd (h refl)
 some-of (Some x) h = (x, refl)
 
-module _ (s : Store) (who : Who) (r : Request) (v : View) (key : Bytes) (p : Plan) (agrees : Agrees v (present s)) (needs : AreNeeds r who v (want.Key key ∷ [])) (may : MayGuess r v key) (whole : AreNeeds r who (guessed v key) []) (reads_of : GuardsReads r who (guessed v key) p) where
+module _ (s : Store) (who : Who) (r : Request) (v : View) (key : Bytes) (p : Plan) (needs : AreNeeds r who v (want.Key key ∷ [])) (may : MayGuess r v key) (whole : AreNeeds r who (guessed v key) []) (reads_of : GuardsReads r who (guessed v key) p) where
   abbrev guess : View
   guess = guessed v key
 
@@ -111,47 +123,95 @@ module _ (s : Store) (who : Who) (r : Request) (v : View) (key : Bytes) (p : Pla
       let inside = contains_in k reads_of.keys (reads_of.all k read) in
       subst (In (want.Key k)) (sym reads_of.again) (again-in k o.0 (picked guess reads_of.keys) (picked-told guess reads_of.keys k o.0 inside o.1))
 
-  module _ (y : View) (same_keys : Agrees y (present s)) where
-    -- what was found of the parent's counts is found still
-    counts-still : (q : Bytes) (kv : Kv) → IsRead r who guess (key_want (CountsKey q)) → seen y (key_bytes (CountsKey q)) ≡ Some (Some kv) → seen guess (key_bytes (CountsKey q)) ≡ Some (Some kv)
-    counts-still q kv read there =
-        let k : Bytes = key_bytes (CountsKey q) in
+  -- what it reads is shown by an answer to what is read again
+  shown-again : (z : ℤ) (parts : List ActAns) → length p.again ≤ length parts → (k : Bytes) → IsRead r who guess (want.Key k) → seen (viewed z p.again parts) k ≡ None → ⊥
+  shown-again z parts long k read = wanted-shown (at_revision empty_view z) p.again parts (want.Key k) long (in_contains (want.Key k) p.again (read-again k read))
+
+  parent-again : (z : ℤ) (parts : List ActAns) → length p.again ≤ length parts → SawParent r (viewed z p.again parts)
+  parent-again z parts long = λ q up. shown-again z parts long (key_bytes (DataKey q)) (inr (inr (inl (DataKey q, parent-read r who.session q (DataKey q) up (inl refl), refl))))
+
+  -- Whatever was guessed, nothing is lacking then but the key of the node.
+  pub guess-reads_more : ReadsAll s who r 1 p
+  guess-reads_more z parts long same_keys = (sequence-ends r who y may.sequence shown, parent-again z parts long)
+    where
+      y : View
+      y = viewed z p.again parts
+
+      shown : (w : Want) → (w ≡ head_want) ⊎ (w ≡ life_want who.session) ⊎ ((k : Key) × Contains (reads r who.session) k × (w ≡ key_want k)) → IsLacking y w → ⊥
+      shown w (inl e) lacks = wanted-shown (at_revision empty_view z) p.again parts w long (in_contains w p.again (subst (λ x. In x p.again) (sym e) (subst (In head_want) (sym reads_of.again) (head-again (picked guess reads_of.keys))))) lacks
+      shown w (inr (inl e)) lacks = shown-again z parts long _ (inr (inl refl)) (subst (IsLacking y) e lacks)
+      shown w (inr (inr (k, has, e))) lacks = shown-again z parts long (key_bytes k) (inr (inr (inl (k, has, refl)))) (subst (IsLacking y) e lacks)
+
+  module _ (agrees : Agrees v (present s)) (parent_seen : SawParent r v) (y : View) (same_keys : Agrees y (present s)) where
+    -- what was found is found still, but for what was guessed
+    still : (k : Bytes) (f : Option Kv) → same key k ≡ false → IsRead r who guess (want.Key k) → seen y k ≡ Some f → seen guess k ≡ Some f
+    still k f apart read there =
         let o = saw k read in
-        let before : seen v k ≡ Some o.0 = sym (seen_in-placed_other (record { key = key; found = None }) v.keys k (key-apart key q may.record_of_node)) ∙ o.1 in
-        let found : o.0 ≡ Some kv = sym (agrees-seen v (present s) k o.0 agrees before) ∙ agrees-seen y (present s) k (Some kv) same_keys there in
+        let before : seen v k ≡ Some o.0 = sym (seen_in-placed_other (record { key = key; found = None }) v.keys k apart) ∙ o.1 in
+        let found : o.0 ≡ f = sym (agrees-seen v (present s) k o.0 agrees before) ∙ agrees-seen y (present s) k f same_keys there in
         o.1 ∙ ap Some found
 
-    create-follows : (path d : Bytes) (a : List Acl) (f : ℤ) (w : Want) → ((k : Key) → Contains (reads (req.Create path d a f) who.session) k → IsRead r who guess (key_want k))
-        → Follows (req.Create path d a f) who.session y w → Follows (req.Create path d a f) who.session guess w
-    create-follows path d a f w static (is, q, up, c, (within, (kv, there, value)), e) =
-        let inside = in_contains (CountsKey q) (reads (req.Create path d a f) who.session) (counts-read path d a f who.session q is up) in
-        (is, q, up, c, (within, (kv, counts-still q kv (static (CountsKey q) inside) there, value)), e)
+    -- the parent's record was seen, so that it was not guessed
+    parent-apart : (q : Bytes) → sequence_parent r ≡ Some q → same key (key_bytes (DataKey q)) ≡ false
+    parent-apart q up = go (same key (key_bytes (DataKey q))) refl
+      where
+        go : (b : Bool) → same key (key_bytes (DataKey q)) ≡ b → b ≡ false
+        go true e = absurd (parent_seen q up (ap (seen v) (sym (same-true key (key_bytes (DataKey q)) e)) ∙ (needs.only (want.Key key) (0, omega arith, refl)).1))
+        go false e = refl
+
+    -- the creates that were seen below the parent are seen still
+    creates-still : (q : Bytes) (n : ℕ) → sequence_parent r ≡ Some q → IsCreatesSeen y q (Some n) → IsCreatesSeen guess q (Some n)
+    creates-still q n up h = go (seen y d) (seen y c) refl refl h
+      where
+        d : Bytes
+        d = key_bytes (DataKey q)
+
+        c : Bytes
+        c = key_bytes (CountsKey q)
+
+        data-still : (f : Option Kv) → seen y d ≡ Some f → seen guess d ≡ Some f
+        data-still f there = still d f (parent-apart q up) (inr (inr (inl (DataKey q, parent-read r who.session q (DataKey q) up (inl refl), refl)))) there
+
+        counts-still : (f : Option Kv) → seen y c ≡ Some f → seen guess c ≡ Some f
+        counts-still f there = still c f (key-apart key q may.record_of_node) (inr (inr (inl (CountsKey q, parent-read r who.session q (CountsKey q) up (inr (inl refl)), refl)))) there
+
+        go : (a b : Option (Option Kv)) → seen y d ≡ a → seen y c ≡ b → AreCreatesSeen a b (Some n) → IsCreatesSeen guess q (Some n)
+        go a None ea eb is = absurd (none_some (sym is))
+        go a (Some (Some kv)) ea eb is = subst (λ (o : Option (Option Kv)). AreCreatesSeen (seen guess d) o (Some n)) (sym (counts-still (Some kv) eb)) is
+        go None (Some None) ea eb is = absurd (none_some (sym is))
+        go (Some None) (Some None) ea eb is = absurd (none_some (sym is))
+        go (Some (Some kv)) (Some None) ea eb is =
+            subst (λ (o : Option (Option Kv) × Option (Option Kv)). AreCreatesSeen o.0 o.1 (Some n)) (λ i. (sym (data-still (Some kv) ea) i, sym (counts-still None eb) i)) is
 
 -- what the request reads as a view of the present shows it, it reads as the guess shows it
 module _ (s : Store) (who : Who) (v : View) (key : Bytes) (p : Plan) (y : View) (agrees : Agrees v (present s)) (same_keys : Agrees y (present s)) where
-  follows-still : (r : Request) → AreNeeds r who v (want.Key key ∷ []) → MayGuess r v key → AreNeeds r who (guessed v key) [] → GuardsReads r who (guessed v key) p → makes_sequence r ≡ true → (w : Want) → Follows r who.session y w → Follows r who.session (guessed v key) w
-  unfolding reads
-  follows-still (req.Create path d a f) needs may whole reads_of makes w h = create-follows s who (req.Create path d a f) v key p agrees needs may whole reads_of y same_keys path d a f w (λ k has. inr (inr (inl (k, has, refl)))) h
-  follows-still (req.Create2 path d a f) needs may whole reads_of makes w h = create-follows s who (req.Create2 path d a f) v key p agrees needs may whole reads_of y same_keys path d a f w (λ k has. inr (inr (inl (k, has, refl)))) h
-  follows-still _ needs may whole reads_of makes w h = absurd (true-false (sym makes))
+  follows-still : (r : Request) → AreNeeds r who v (want.Key key ∷ []) → MayGuess r v key → AreNeeds r who (guessed v key) [] → GuardsReads r who (guessed v key) p → SawParent r v → makes_sequence r ≡ true → (w : Want) → Follows r who.session y w
+      → Follows r who.session (guessed v key) w
+  follows-still (req.Create path d a f) needs may whole reads_of saw makes w (is, q, up, n, creates, e) =
+      (is, q, up, n, creates-still s who (req.Create path d a f) v key p needs may whole reads_of agrees saw y same_keys q n (ap (λ b. if b then parent (with_one path) else None) is ∙ up) creates, e)
+  follows-still (req.Create2 path d a f) needs may whole reads_of saw makes w (is, q, up, n, creates, e) =
+      (is, q, up, n, creates-still s who (req.Create2 path d a f) v key p needs may whole reads_of agrees saw y same_keys q n (ap (λ b. if b then parent (with_one path) else None) is ∙ up) creates, e)
+  follows-still _ needs may whole reads_of saw makes w h = absurd (true-false (sym makes))
 
 follows-key : (r : Request) (id : ℤ) (v : View) (w : Want) → makes_sequence r ≡ true → Follows r id v w → (k : Bytes) × (w ≡ want.Key k)
 follows-key (req.Create p d a f) id v w makes (is, q, up, c, saw, e) = (_, e)
 follows-key (req.Create2 p d a f) id v w makes (is, q, up, c, saw, e) = (_, e)
 follows-key _ id v w makes h = absurd (true-false (sym makes))
 
-module _ (s : Store) (who : Who) (r : Request) (v : View) (key : Bytes) (p : Plan) (agrees : Agrees v (present s)) (needs : AreNeeds r who v (want.Key key ∷ [])) (may : MayGuess r v key) (whole : AreNeeds r who (guessed v key) []) (reads_of : GuardsReads r who (guessed v key) p) where
+module _ (s : Store) (who : Who) (r : Request) (v : View) (key : Bytes) (p : Plan) (agrees : Agrees v (present s)) (needs : AreNeeds r who v (want.Key key ∷ [])) (may : MayGuess r v key) (whole : AreNeeds r who (guessed v key) []) (reads_of : GuardsReads r who (guessed v key) p)
+    (parent_seen : SawParent r v) where
   want-again : (y : View) → Agrees y (present s) → (w : Want) → IsRead r who y w → In w p.again
   want-again y same_keys w (inl e) = subst (λ x. In x p.again) (sym e) (subst (In head_want) (sym reads_of.again) (head-again (picked (guessed v key) reads_of.keys)))
-  want-again y same_keys w (inr (inl e)) = subst (λ x. In x p.again) (sym e) (read-again s who r v key p agrees needs may whole reads_of _ (inr (inl refl)))
-  want-again y same_keys w (inr (inr (inl (k, has, e)))) = subst (λ x. In x p.again) (sym e) (read-again s who r v key p agrees needs may whole reads_of (key_bytes k) (inr (inr (inl (k, has, refl)))))
+  want-again y same_keys w (inr (inl e)) = subst (λ x. In x p.again) (sym e) (read-again s who r v key p needs may whole reads_of _ (inr (inl refl)))
+  want-again y same_keys w (inr (inr (inl (k, has, e)))) = subst (λ x. In x p.again) (sym e) (read-again s who r v key p needs may whole reads_of (key_bytes k) (inr (inr (inl (k, has, refl)))))
   want-again y same_keys w (inr (inr (inr h))) =
       let k = follows-key r who.session y w may.sequence h in
-      let still = follows-still s who v key p y agrees same_keys r needs may whole reads_of may.sequence w h in
-      subst (λ x. In x p.again) (sym k.1) (read-again s who r v key p agrees needs may whole reads_of k.0 (inr (inr (inr (subst (Follows r who.session (guessed v key)) k.1 still)))))
+      let still = follows-still s who v key p y agrees same_keys r needs may whole reads_of parent_seen may.sequence w h in
+      subst (λ x. In x p.again) (sym k.1) (read-again s who r v key p needs may whole reads_of k.0 (inr (inr (inr (subst (Follows r who.session (guessed v key)) k.1 still)))))
 
-  pub guess-reads_all : ReadsAll s who r p
-  guess-reads_all z parts long same_keys = λ ws left. go ws left
+  -- Where the parent's record was seen before the guess, nothing is lacking then.
+  pub guess-reads_all : ReadsAll s who r 0 p
+  guess-reads_all z parts long same_keys = (λ ws left. go ws left, parent-again s who r v key p needs may whole reads_of z parts long)
     where
       y : View
       y = viewed z p.again parts

@@ -1,12 +1,12 @@
 -- What a request reads has so many places, of which each takes one key or one listing. A view that asks for something that is
 -- lacking fills one more of them, whatever the answers show: so a request asks only so often before nothing is lacking.
 use Rattle.std.proofs.Common.{◌≡◌, ℕ, zero, suc, ◌+◌, ◌*◌, ◌<◌, ◌≤◌, List, [], ◌∷◌, ◌++◌, length, refl, sym, ap, ◌∙◌, subst, arith, Bool, true, false, ℤ, inl, inr}
-use Rattle.std.specs.Prelude.{Option, Some, None, ◌⊎◌, ◌≢◌, if◌then◌else◌, is_some, map, nat_abs, slice_get, take}
+use Rattle.std.specs.Prelude.{Contains, Option, Some, None, ◌⊎◌, ◌≢◌, if◌then◌else◌, is_some, map, nat_abs, slice_get, take}
 use Rattle.std.specs.List.{flat_map}
 use Rattle.std.proofs.lemmas.List.{length-append, length-map}
 use Rattle.ev_types.specs.declared.answer.ActAns.{ActAns}
 use Rattle.ev_types.specs.declared.answer.Kv.{Kv}
-use Rattle.zk_model.specs.Paths.{is_path, parent, sequence_path}
+use Rattle.zk_model.specs.Paths.{is_path, parent, sequence_path, with_one}
 use Rattle.zk_model.specs.Single.{form_refusal, is_ephemeral, is_sequential, named}
 use Rattle.zk_model.specs.declared.request.Part.{Part}
 use Rattle.zk_model.specs.declared.request.Part.TheVariants as part
@@ -36,7 +36,7 @@ use Rattle.zn_view.specs.declared.plan.Who.{Who}
 use Rattle.zn_view.specs.declared.want.Want.{Want}
 use Rattle.zn_view.specs.declared.want.Want.TheVariants as want
 use Rattle.zs_reap.specs.Steps.{AreFewOwned}
-use Rattle.zp_step.specs.Looking.{max_ranges}
+use Rattle.zp_step.specs.Looking.{makes_sequence, max_ranges}
 use Rattle.zp_settle_laws.specs.Looks.{looks}
 use Rattle.zx_base.proofs.Lists.{filter-length}
 
@@ -82,12 +82,33 @@ lacks-before v u (want.Children p) x h = go (listed v p) refl
     go None e = e
     go (Some f) e = absurd (none_some (sym h ∙ x.lists p f e))
 
+-- ---- the parent of a sequence node
+
+-- the parent below which a sequence node is made
+abbrev pub sequence_parent : Request → Option Bytes
+sequence_parent (req.Create p d a f) = if is_sequential f then parent (with_one p) else None
+sequence_parent (req.Create2 p d a f) = if is_sequential f then parent (with_one p) else None
+sequence_parent _ = None
+
+-- that parent's record was looked up, if there is such a parent
+abbrev pub SawParent : Request → View → Type 0
+SawParent r v = (q : Bytes) → sequence_parent r ≡ Some q → IsLacking v (key_want (DataKey q)) → ⊥
+
+pub parent-on : (r : Request) (v : View) (z : ℤ) (ws : List Want) (parts : List ActAns) → SawParent r v → SawParent r (view_on v z ws parts)
+parent-on r v z ws parts saw = λ q up lacks. saw q up (lacks-before v (view_on v z ws parts) (key_want (DataKey q)) (extends-on v z ws parts) lacks)
+
 -- ---- the nodes of a session
 
 -- they are few, where the request reads by them: a closeSession alone does
 abbrev pub IsFewFor : Request → ℤ → View → Type 0
 IsFewFor req.Close id v = AreFewOwned id v
 IsFewFor _ id v = Unit {0}
+
+-- a sequence node's create reads by no session's nodes
+pub few-sequence : (r : Request) (id : ℤ) (v : View) → makes_sequence r ≡ true → IsFewFor r id v
+few-sequence (req.Create p d a f) id v h = tt
+few-sequence (req.Create2 p d a f) id v h = tt
+few-sequence _ id v h = absurd (cc)
 
 pub few-for : (r : Request) (id : ℤ) (v : View) → AreFewOwned id v → IsFewFor r id v
 few-for req.Close id v few = few
@@ -347,7 +368,49 @@ open-ends r who (suc n) v free le o few = λ ws z parts needs some answered few_
         let shown = wanted-shown (at_revision v z) (take max_ranges (w ∷ ws)) parts w answered (0, omega arith, refl) in
         later u (without at.place free at.among) (omega (arith, le, without-length at.place free at.among)) (open-on r who free v u w at x shown o) few_then
 
+-- Where a create of a sequence node lacks nothing but the key of the node, it asks once more at most.
+pub sequence-ends : (r : Request) (who : Who) (v : View) → makes_sequence r ≡ true
+    → ((w : Want) → (w ≡ head_want) ⊎ (w ≡ life_want who.session) ⊎ ((k : Key) × Contains (reads r who.session) k × (w ≡ key_want k)) → IsLacking v w → ⊥) → Ends r who 1 v
+sequence-ends r who v makes shown =
+    open-ends r who 1 v (After 0 ∷ []) (omega arith) (record { free_for = λ u w x few read lacks. free-for u w (lacks-before v u w x lacks) read }) (few-sequence r who.session v makes)
+  where
+    after : (r : Request) (id : ℤ) (u : View) (w : Want) → makes_sequence r ≡ true → Follows r id u w → FollowsAt r id u 0 w
+    after (req.Create p d a f) id u w h follows = follows
+    after (req.Create2 p d a f) id u w h follows = follows
+    after _ id u w h follows = absurd (cc)
+
+    free-for : (u : View) (w : Want) → IsLacking v w → IsRead r who u w → HasPlace r who.session u (After 0 ∷ []) w
+    free-for u w lacks (inl e) = absurd (shown w (inl e) lacks)
+    free-for u w lacks (inr (inl e)) = absurd (shown w (inr (inl e)) lacks)
+    free-for u w lacks (inr (inr (inl k))) = absurd (shown w (inr (inr k)) lacks)
+    free-for u w lacks (inr (inr (inr h))) = record { place = After 0; among = inl refl; takes = after r who.session u w makes h }
+
 -- ---- how many places there are
+
+-- So many rounds are the most. A create looks up its own path or, where it makes a sequence node, the path with the next number.
+abbrev pub most_rounds : Request → ℕ
+most_rounds (req.Create p d a f) = if is_sequential f then 6 else 7
+most_rounds (req.Create2 p d a f) = if is_sequential f then 6 else 7
+most_rounds r = looks r
+
+create-rounds : (b : Bool) → (if b then 6 else 7) ≤ 7
+create-rounds true = omega arith
+create-rounds false = omega arith
+
+pub rounds-looked : (r : Request) → most_rounds r ≤ looks r
+rounds-looked (req.Create p d a f) = create-rounds (is_sequential f)
+rounds-looked (req.Create2 p d a f) = create-rounds (is_sequential f)
+rounds-looked _ = omega arith
+
+-- a request that makes no sequence node has no such parent, and one that makes one takes a round less
+create-parent : (b : Bool) (o : Option Bytes) (v : View) → ((q : Bytes) → (if b then o else None) ≡ Some q → IsLacking v (key_want (DataKey q)) → ⊥) ⊎ ((if b then 6 else 7) + 1 ≤ 7)
+create-parent true o v = inr (omega arith)
+create-parent false o v = inl (λ q up lacks. absurd (none_some up))
+
+pub parent-or-less : (r : Request) (v : View) → SawParent r v ⊎ (most_rounds r + 1 ≤ looks r)
+parent-or-less (req.Create p d a f) v = create-parent (is_sequential f) (parent (with_one p)) v
+parent-or-less (req.Create2 p d a f) v = create-parent (is_sequential f) (parent (with_one p)) v
+parent-or-less _ v = inl (λ q up lacks. absurd (none_some up))
 
 if-length : {A : Type 0} (b : Bool) (xs : List A) → length (if b then [] else xs) ≤ length xs
 if-length true xs = omega arith
@@ -360,10 +423,10 @@ nodes-length flags id = go (is_ephemeral flags)
     go true = omega arith
     go false = omega arith
 
-data-length : (flags : ℤ) (p : Bytes) → length (own_data flags p) ≤ 1
+data-length : (flags : ℤ) (p : Bytes) → length (own_data flags p) + 6 ≤ (if is_sequential flags then 6 else 7)
 data-length flags p = go (is_sequential flags)
   where
-    go : (b : Bool) → length (if b then [] else DataKey p ∷ []) ≤ 1
+    go : (b : Bool) → length (if b then [] else DataKey p ∷ []) + 6 ≤ (if b then 6 else 7)
     go true = omega arith
     go false = omega arith
 
@@ -379,11 +442,11 @@ paths-length : (ps : List Bytes) → length (flat_map about_path ps) ≡ 2 * len
 paths-length [] = refl
 paths-length (p ∷ ps) = omega (arith, length-append (about_path p) (flat_map about_path ps), paths-length ps)
 
-create-length : (o : Option Bytes) (f id : ℤ) (p : Bytes) → length (about_parent o ++ own_data f p ++ own_nodes f id) ≤ 4
+create-length : (o : Option Bytes) (f id : ℤ) (p : Bytes) → length (about_parent o ++ own_data f p ++ own_nodes f id) + 3 ≤ (if is_sequential f then 6 else 7)
 create-length o f id p = omega (arith, length-append (about_parent o ++ own_data f p) (own_nodes f id), length-append (about_parent o) (own_data f p), parent-length o, data-length f p, nodes-length f id)
 
 part-length : (id : ℤ) (p : Part) → length (part_keys id p) ≤ 4
-part-length id (part.Create p d a f) = create-length (parent (named f p)) f id p
+part-length id (part.Create p d a f) = omega (arith, create-length (parent (named f p)) f id p, create-rounds (is_sequential f))
 part-length id (part.Delete p n) = omega (arith, count-length (parent p))
 part-length id (part.SetData p d n) = omega arith
 part-length id (part.Check p n) = omega arith
@@ -395,7 +458,7 @@ parts-length : (id : ℤ) (parts : List Part) → length (flat_map (part_reads i
 parts-length id [] = omega arith
 parts-length id (p ∷ parts) = omega (arith, length-append (part_reads id p) (flat_map (part_reads id) parts), part-reads-length id p, parts-length id parts)
 
-reads-length : (r : Request) (id : ℤ) → 2 + length (reads r id) + length (listings r) + follows_most r ≤ looks r
+reads-length : (r : Request) (id : ℤ) → 2 + length (reads r id) + length (listings r) + follows_most r ≤ most_rounds r
 unfolding reads
 reads-length (req.Create p d a f) id = omega (arith, create-length (parent (named f p)) f id p)
 reads-length (req.Delete p n) id = omega (arith, count-length (parent p))
@@ -424,11 +487,11 @@ after-length : (n : ℕ) → length (after_places n) ≡ n
 after-length zero = refl
 after-length (suc n) = omega (arith, after-length n)
 
-places-length : (r : Request) (id : ℤ) → length (places r id) ≤ looks r
+places-length : (r : Request) (id : ℤ) → length (places r id) ≤ most_rounds r
 places-length r id =
     omega (arith, length-append (map Fixed (fixed_wants r id)) (after_places (follows_most r)), length-map (fixed_wants r id) Fixed, length-append (map key_want (reads r id)) (listings r), length-map (reads r id) key_want, after-length (follows_most r), reads-length r id)
 
 -- ---- so it ends
 
-pub request-ends : (r : Request) (who : Who) (v : View) → IsFewFor r who.session v → Ends r who (looks r) v
-request-ends r who v few = open-ends r who (looks r) v (places r who.session) (places-length r who.session) (record { free_for = λ u w x f reads lacks. read-place r who u w f reads }) few
+pub request-ends : (r : Request) (who : Who) (v : View) → IsFewFor r who.session v → Ends r who (most_rounds r) v
+request-ends r who v few = open-ends r who (most_rounds r) v (places r who.session) (places-length r who.session) (record { free_for = λ u w x f reads lacks. read-place r who u w f reads }) few

@@ -206,7 +206,7 @@ module _ (s u : Store) (r : Reap) (a : Answer) where
     real = real;
     now = revision-kept (at_revision empty_view z) (reaper_wants r.session) parts ∙ now;
     own = λ w has. Contains-append_left (reaper_wants r.session) ws w has;
-    counts = λ kv r p q there within value has e. by-seen kv r p q there within value has e (seen v (key_bytes (CountsKey q))) refl;
+    counts = λ kv listed p q there within value has e. by-seen kv listed p q there within value has e (seen v (key_bytes (CountsKey q))) refl;
   }
     where
       v : View
@@ -219,12 +219,12 @@ module _ (s u : Store) (r : Reap) (a : Answer) where
       looked None e kv there = absurd (wanted-shown (at_revision empty_view z) (reaper_wants r.session) parts (key_want (SessionKey (nat_abs r.session))) (omega (arith, long)) (in-first r.session (key_want (SessionKey (nat_abs r.session))) real (2, omega arith, refl)) e)
       looked (Some f) e kv there = e ∙ ap Some (sym (agrees-seen v (present s) nodes f agrees e) ∙ there)
 
-      by-seen : (kv : Kv) (r : SessionRec) (p q : Bytes) → get (present s) nodes ≡ Some kv → IsSessionRec r → kv.value ≡ session_value r → Contains r.paths p → parent p ≡ Some q → (o : Option (Option Kv)) → seen v (key_bytes (CountsKey q)) ≡ o
+      by-seen : (kv : Kv) (listed : SessionRec) (p q : Bytes) → get (present s) nodes ≡ Some kv → IsSessionRec listed → kv.value ≡ session_value listed → Contains listed.paths p → parent p ≡ Some q → (o : Option (Option Kv)) → seen v (key_bytes (CountsKey q)) ≡ o
           → Contains (reaper_wants r.session ++ ws) (key_want (CountsKey q))
-      by-seen kv r p q there within value has e None f =
+      by-seen kv listed p q there within value has e None f =
           Contains-append_right (reaper_wants r.session) ws (key_want (CountsKey q))
-          (needs.all refl (key_want (CountsKey q)) (inr (inr (inr (r, p, q, (within, (kv, looked (seen v nodes) refl kv there, value)), has, e, refl)))) f)
-      by-seen kv r p q there within value has e (Some o) f = elim (seen-wanted (at_revision empty_view z) (reaper_wants r.session) parts (key_bytes (CountsKey q)) o f) [
+          (needs.all refl (key_want (CountsKey q)) (inr (inr (inr (listed, p, q, (within, (kv, looked (seen v nodes) refl kv there, value)), has, e, refl)))) f)
+      by-seen kv listed p q there within value has e (Some o) f = elim (seen-wanted (at_revision empty_view z) (reaper_wants r.session) parts (key_bytes (CountsKey q)) o f) [
         | inl none ↦ absurd (none_some none)
         | inr m ↦ Contains-append_left (reaper_wants r.session) ws (key_want (CountsKey q)) (in_contains (key_want (CountsKey q)) (reaper_wants r.session) m)
       ]

@@ -37,10 +37,10 @@ use Rattle.zp_settle_laws.proofs.Coming.{IsTruthful, TruthIn}
 -- ---- a session's nodes
 
 pub few-of : (v : View) (id : ℤ) (m : Keys) (s : State) → pos 1 ≤ℤ id → IsSound s → StandsFor m s → Agrees v m → AreFewOwned id v
-few-of v id m s real sound stands agrees = λ kv ps saw nodes. nodes-few v id real m s stands ps (agrees-for v id ps m agrees) kv saw nodes sound
+few-of v id m s real sound stands agrees = λ kv r saw nodes. nodes-few v id real m s stands r.paths (agrees-for v id r.paths m agrees) r refl kv saw nodes sound
 
 unseen-few : (v : View) (id : ℤ) → IsNoView v → AreFewOwned id v
-unseen-few v id none = λ kv ps saw nodes. absurd (none_some (sym (ap (seen_in (key_bytes (SessionKey (nat_abs id)))) none.1) ∙ saw))
+unseen-few v id none = λ kv r saw nodes. absurd (none_some (sym (ap (seen_in (key_bytes (SessionKey (nat_abs id)))) none.1) ∙ saw))
 
 -- ---- guards
 

@@ -233,7 +233,7 @@ module _ (store : Store) (lines : List TranscriptLine) (begun : IsOfScript store
 -- what was read is records, and of few nodes
 fault-free : (id : ℤ) (ws : List Want) (z : ℤ) (parts : List ActAns) (key value : Bytes) → AreRecords ws parts → AreFewOwned id (viewed z ws parts) → IsReadFault id ws z parts (faults.Damaged key value) → ⊥
 fault-free id ws z parts key value all few (inl f) = records-sound ws parts key value all f
-fault-free id ws z parts key value all few (inr (same, many)) = (let le = few many.kv many.paths many.saw many.nodes in let lt = many.many in omega (arith, le, lt))
+fault-free id ws z parts key value all few (inr (same, many)) = (let le = few many.kv many.listed many.saw many.nodes in let lt = many.many in omega (arith, le, lt))
 
 module _ (store : Store) (lines : List TranscriptLine) (begun : IsOfScript store) (serves : StoreServes store lines) (r : Reap) (a : Answer) (k : IsReapAnswer store r a) (key value : Bytes) where
   abbrev Finding : ReapPhase → Answer → Type 0
