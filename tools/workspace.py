@@ -1,6 +1,6 @@
 """What the programs of tools/ share: the crates of this repository, what each is made from, and the Rattle kit.
 
-The gate neither runs nor checks anything in tools/.
+`rt ci` neither runs nor checks anything in tools/. After it `.ci/run` has `tools/audit` check itself.
 """
 import hashlib
 import importlib.machinery

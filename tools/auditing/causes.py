@@ -7,19 +7,22 @@ nobody's yet, and it is looked for what may have caused it:
   fit: the first that was read off the tree is not older than the attachment, and the first that needed none repeats its zxid;
 - the close of a session: a closeSession of the connection that the session was attached to;
 - any other: a request without an answer, of a connection whose session is open then, that came before the update, and would do on the
-  state before it just what etcd shows: the same triggers, in the same order, the same data, versions and owners. If several may, they
-  are matched so that each update has one if possible, each request is carried out once at most, and those of a connection in order.
+  state before it just what etcd shows: the same triggers, in the same order, the same data, versions and owners. (One whose answer names
+  a zxid that is no update's counts as one without.) If several may, they are matched so that each update has one if possible, each
+  request is carried out once at most, and those of a connection in order.
 
-If no request without an answer fits, but one that was answered already, then that one: a second update for one request is what the
-judge calls out of order. If none fits at all, then nobody who was recorded asked for it. It is written as what a connection that was not
-recorded asked for, with the same effect. Updates that are older than the record are all written so.
+If none of these fits, but a request that was answered already, then that one: a second update for one request is what the judge calls
+out of order, and an update for one that was refused makes the refusal wrong. (Neither is looked for if there are clients that do not go
+through the relays; then the update may as well be theirs.) If none fits at all, then nobody who was recorded asked for it. It is written as
+what a connection that was not recorded asked for, with the same effect. Updates that are older than the record are all written so.
 """
 from collections import namedtuple
 
 from packets import CLOSE, UPDATES
 from keys import did
 
-Cause = namedtuple("Cause", "number index is_recorded")
+Cause = namedtuple("Cause", "number index")
+MOST_ANSWERED = 50  # the last requests of a connection that were answered, and may have been carried out once more
 
 
 def granted(timeout):
@@ -30,10 +33,10 @@ class Causes:
     """`found` has the cause of each update by its revision, `sessions` the connections of each session by the revisions that attached it,
     and `unasked` the revisions that nobody recorded asked for."""
 
-    def __init__(self, streams, revisions, service):
-        self.streams, self.revisions, self.service = streams, revisions, service
+    def __init__(self, streams, revisions, service, has_others):
+        self.streams, self.revisions, self.service, self.has_others = streams, revisions, service, has_others
         self.found, self.unasked, self.attached, self.sessions, self.notes = {}, [], {}, {}, []
-        self.claims = self.claimed()
+        self.claims, self.numbers = self.claimed(), {it.number for it in revisions if it.kind() == "asked"}
         self.welcomes = self.session_welcomes()
         self.attachments = self.matched_attachments()
         self.open = []
@@ -102,15 +105,16 @@ class Causes:
             who = who or (kind == "session" and self.starter(revision)) or None
             self.attached[session] = who
             self.sessions.setdefault(session, {})[number] = who
-            self.tell(revision, who and Cause(who, 0, True))
+            self.tell(revision, who and Cause(who, 0))
         elif kind == "closed":
             self.tell(revision, self.closer(revision))
         else:
             claims = self.claims.get(number, [])
             if len(claims) > 1:
-                self.notes.append(f"update {number} is claimed by the replies to {' and to '.join(f'frame {i} of connection {c}' for c, i in claims)}")
+                who = " and to ".join(f"frame {index} of connection {it}" for it, index in claims)
+                self.notes.append(f"update {number} is claimed by the replies to {who}")
             if claims:
-                self.tell(revision, Cause(*claims[0], True))
+                self.tell(revision, Cause(*claims[0]))
             else:
                 self.open.append((revision, self.candidates(revision)))
 
@@ -132,25 +136,28 @@ class Causes:
         it = self.streams.connections.get(self.attached.get(revision.session()))
         if it is None:
             return None
-        closes = [index for index, request in enumerate(it.requests) if request and request.kind == CLOSE and it.times[index] <= revision.time]
+        closes = [at for at, request in enumerate(it.requests) if request and request.kind == CLOSE and it.times[at] <= revision.time]
         claimed = [index for number, index in self.claims.get(revision.number, []) if number == it.number]
-        return Cause(it.number, (claimed or closes)[0], True) if claimed or closes else None
+        return Cause(it.number, (claimed or closes)[0]) if claimed or closes else None
 
     def candidates(self, revision):
-        """The requests that may have caused this update: those without an answer, and those that have one."""
-        fresh, again = [], []
+        """The requests that may have caused this update: those without an answer, those that were carried out before, those refused."""
+        found = ([], [], [])
         for session, number in self.attached.items():
             it = self.streams.connections.get(number)
             if it is None or session not in self.service.lives:
                 continue
-            for index, request in enumerate(it.requests):
+            for index in range(max(1, len(it.answers) - MOST_ANSWERED), len(it.requests)):
+                request, answer = it.requests[index], it.answer_of(index)
                 if request and request.kind in UPDATES and it.times[index] <= revision.time:
-                    answer = it.answer_of(index)
-                    if answer is not None and not (answer.reply.updates and answer.reply.zxid <= revision.number):
-                        continue
                     if did(revision, self.service.effect(session, request.parts)):
-                        (again if answer else fresh).append((number, index))
-        return fresh, again
+                        found[self.rank(answer)].append((number, index))
+        return found
+
+    def rank(self, answer):
+        if answer is None or answer.reply.updates and answer.reply.zxid not in self.numbers:
+            return 0
+        return 1 if answer.reply.updates else 2
 
     def match(self):
         """Gives each open update one of its candidates (a matching by augmenting paths)."""
@@ -173,8 +180,10 @@ class Causes:
             for at, index in zip(mine, sorted(chosen[at][1] for at in mine)):
                 if (number, index) in self.open[at][1][0]:
                     chosen[at] = (number, index)
-        for at, (revision, (_, again)) in enumerate(self.open):
-            found = chosen.get(at) or (again[-1] if again else None)
-            if at not in chosen and again:
-                self.notes.append(f"update {revision.number} does again what frame {found[1]} of connection {found[0]} asked for")
-            self.tell(revision, found and Cause(*found, True))
+        for at, (revision, (_, again, refused)) in enumerate(self.open):
+            found = chosen.get(at)
+            if found is None and (again or refused) and not self.has_others:
+                found = (again or refused)[-1]
+                does = "again what" if again else "what was refused:"
+                self.notes.append(f"update {revision.number} does {does} frame {found[1]} of connection {found[0]} asked for")
+            self.tell(revision, found and Cause(*found))

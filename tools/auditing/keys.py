@@ -189,7 +189,8 @@ class Revisions:
         for place, revision in enumerate(self.all):
             head = revision.changes.get(HEAD)
             if head and head.version != number + 1:
-                self.notes.append(f"the update at revision {revision.number} has number {head.version}, and {number + 1} comes next: nothing from there is judged")
+                self.notes.append(f"the update at revision {revision.number} has number {head.version}, and {number + 1} comes next: nothing from"
+                                  " there is judged")
                 del self.all[place:]
                 return
             number = head.version if head else number

@@ -75,7 +75,8 @@ def bounds(streams, revisions, causes, is_whole):
     for revision in revisions:
         number, kind, stale = revision.number, revision.kind(), []
         told = bisect.bisect_right(times, revision.time)
-        cap = min([it for it in (firsts[number], frames[told] if told < len(frames) else None) if it is not None], default=len(streams.items))
+        caps = (firsts[number], frames[told] if told < len(frames) else None)
+        cap = min((it for it in caps if it is not None), default=len(streams.items))
         if kind == "lapse":
             last = max([last] + [it for it in own_frames(streams, causes, revision) if it < cap])
         elif kind:

@@ -17,7 +17,8 @@ def in_words(lines):
     """These lines of a transcript, each in words; as they are where the program is not built."""
     from verdict import NoProgram, program_of
     try:
-        made = subprocess.run([program_of("story", "STORY"), "words"], input="".join(f"{it}\n" for it in lines).encode(), capture_output=True, check=False)
+        text = "".join(f"{it}\n" for it in lines).encode()
+        made = subprocess.run([program_of("story", "STORY"), "words"], input=text, capture_output=True, check=False)
     except NoProgram:
         return lines
     found = made.stdout.decode(errors="backslashreplace").splitlines()
@@ -33,6 +34,10 @@ def seconds(time):
     return f"{time / 1e6:.6f} s"
 
 
+def text_of(path):
+    return path.decode(errors="backslashreplace")
+
+
 class Updates:
     """The updates of a transcript, in words."""
 
@@ -40,6 +45,10 @@ class Updates:
         self.it = verdict.it
         self.by_number = {it.number: it for it in self.it.all if it.kind() != "lapse"}
         self.numbers = sorted(self.by_number)
+
+    def paths(self, number):
+        """The paths that an update touches."""
+        return {path for _, path in self.by_number[number].triggers()}
 
     def line(self, number):
         """What an update did, who asked for it, when it was known, and which packet showed it first."""
@@ -50,19 +59,21 @@ class Updates:
             places = streams.connections[cause.number].places
             lines = [self.it.lines[self.it.places[it]][0] for it in dict.fromkeys([places[0], places[cause.index]])]
             words = in_words([f"open {cause.number} 0 {1:016x} {'0' * 32}", *lines])[-1].split(" ", 4)
-            found += f", by frame {cause.index} of connection {cause.number} at {seconds(streams.items[places[cause.index]].time)}: {words[4][:200]}"
-        changes = [f"{EVENTS[what]} {path.decode(errors='backslashreplace')}" for what, path in revision.triggers()]
+            time = seconds(streams.items[places[cause.index]].time)
+            found += f", by frame {cause.index} of connection {cause.number} at {time}: {words[4][:200]}"
+        changes = [f"{EVENTS[what]} {text_of(path)}" for what, path in revision.triggers()]
         found += f"; watches see {', '.join(changes[:6]) or 'nothing'}{' ..' if len(changes) > 6 else ''}"
         found += f"; etcd told of it at {seconds(revision.time)}"
         if bound.shown is not None:
-            found += f", and connection {streams.items[bound.shown].number} was the first that was shown it, at {seconds(streams.items[bound.shown].time)}"
+            first = streams.items[bound.shown]
+            found += f", and connection {first.number} was the first that was shown it, at {seconds(first.time)}"
         return found
 
     def around(self, zxid, head, paths):
         """The last updates up to a zxid and up to the head, and those between that touch these paths."""
         before, between = [it for it in self.numbers if it <= zxid], [it for it in self.numbers if zxid < it <= max(head, zxid)]
         after = [it for it in self.numbers if it > max(head, zxid)]
-        touching = [it for it in before + between if any(path in paths for _, path in self.by_number[it].triggers())]
+        touching = [it for it in before + between if self.paths(it) & paths]
         return sorted({*before[-2:], *between[:AROUND], *between[-2:], *touching[-AROUND:], *after[:1]})
 
 
@@ -84,8 +95,9 @@ class Story:
     def words(self):
         it = self.connection
         named = f"connection {self.number} (from {it.address}, at proxy {it.proxy})"
-        own = [at for at in range(self.end) if self.verdict.lines[at][0].split(" ", 2)[1:2] == [str(self.number)] and not self.verdict.lines[at][0].startswith("update")]
-        words = dict(zip(own, in_words([self.verdict.lines[at][0] for at in own])))
+        lines = self.verdict.lines
+        own = [at for at in range(self.end) if lines[at][0].split(" ", 2)[1:2] == [str(self.number)] and not lines[at][0].startswith("update")]
+        words = dict(zip(own, in_words([lines[at][0] for at in own])))
         found, paths = [], set()
         if self.index is None:
             found.append(f"{named}: a notification after its last reply is wrong")
@@ -94,9 +106,10 @@ class Story:
         else:
             found.append(f"{named}: the reply to frame {self.index} is wrong")
         if self.index is not None and self.index < len(it.places):
-            at = self.verdict.lines.index((self.line_of(self.index), self.verdict.it.streams.items[it.places[self.index]]))
+            at = lines.index((self.line_of(self.index), self.verdict.it.streams.items[it.places[self.index]]))
             self.head = int(self.line_of(self.index).split(" ")[3])
-            found.append(f"  frame  {self.index}, at {seconds(it.times[self.index])}, when update {self.head} was the last: {words[at].split(' ', 4)[4]}")
+            asked = words[at].split(" ", 4)[4]
+            found.append(f"  frame  {self.index}, at {seconds(it.times[self.index])}, when update {self.head} was the last: {asked}")
             paths = paths_in(it.frames[self.index])
         for at in self.sent:
             item = self.verdict.lines[at][1]
@@ -126,7 +139,8 @@ class Story:
             if self.zxid < self.before:
                 found.append(f"its zxid {self.zxid} is below {self.before}, which this connection was shown before")
             if self.connection.answers[self.index - 1].has_moment and self.zxid < self.head:
-                found.append(f"it is as of update {self.zxid}, which is older than its request: update {self.head} was known when the frame came")
+                found.append(f"it is as of update {self.zxid}, which is older than its request: update {self.head} was known when the frame"
+                             " came")
             if self.zxid not in self.updates.by_number:
                 found.append(f"there is no update with its zxid {self.zxid}")
             elif self.connection.answers[self.index - 1].place in self.verdict.it.early:
@@ -137,9 +151,9 @@ class Story:
         """What is left to say where nothing else is."""
         paths = sorted(paths_in(self.connection.frames[self.index])) if self.index else []
         for path in paths:
-            last = max((it for it in self.updates.numbers if it <= self.zxid and any(path == its for _, its in self.updates.by_number[it].triggers())), default=None)
+            last = max((it for it in self.updates.numbers if it <= self.zxid and path in self.updates.paths(it)), default=None)
             if last:
-                return f"it is not what the service gives as of update {self.zxid}; the last update of {path.decode(errors='backslashreplace')} up to that is {last}"
+                return f"it is not what the service gives as of update {self.zxid}; the last update of {text_of(path)} up to that is {last}"
         return "it is not what the service gives at any moment between its frame and itself"
 
     def trials(self):
@@ -149,7 +163,8 @@ class Story:
         for at in notices:
             without = [it for it in lines if it is not self.verdict.lines[at]]
             if not self.verdict.is_wrong(self.number, without):
-                return [f"without the notification {self.notice(self.verdict.lines[at][1].data)} it would be lawful: that was sent and should not have been"]
+                told = self.notice(self.verdict.lines[at][1].data)
+                return [f"without the notification {told} it would be lawful: that was sent and should not have been"]
         begin = self.before or (self.connection.connect.last_zxid if self.connection.connect else 0)
         places = [lines.index(self.verdict.lines[at]) for at in self.sent]
         for trial, (event, path) in enumerate(self.candidates(begin)):
@@ -158,7 +173,7 @@ class Story:
             line = (f"send {self.number} {notice_packet(event, path).hex()}", None)
             for place in places:
                 if not self.verdict.is_wrong(self.number, lines[:place] + [line] + lines[place:]):
-                    return [f"with a notification {EVENTS[event]} {path.decode(errors='backslashreplace')} before it, it would be lawful: that is missing"]
+                    return [f"with a notification {EVENTS[event]} {text_of(path)} before it, it would be lawful: that is missing"]
         return []
 
     def candidates(self, begin):
@@ -174,7 +189,7 @@ class Story:
     def notice(packet):
         it = Reader(packet, 16)
         event, _ = it.take("ii")
-        return f"{EVENTS.get(event, event)} {it.buffer().decode(errors='backslashreplace')}"
+        return f"{EVENTS.get(event, event)} {text_of(it.buffer())}"
 
 
 def paths_in(frame):
@@ -191,8 +206,9 @@ def line_words(verdict, what, at):
     """The words of a verdict that names a line of the history, or of the order of a connection's requests."""
     text, revision = verdict.lines[at]
     number = getattr(revision, "number", None)
-    found = [{"history": "this could not happen there", "order": "a request is carried out a second time, or after a later one of its connection"}.get(what, what)
-             + f", in line {at + 1} of the transcript: {text if len(text) < 200 else text[:200] + ' ..'}"]
+    what = {"history": "this could not happen there",
+            "order": "a request is carried out a second time, or after a later one of its connection"}.get(what, what)
+    found = [f"{what}, in line {at + 1} of the transcript: {text if len(text) < 200 else text[:200] + ' ..'}"]
     updates = Updates(verdict)
     if number in updates.by_number and hasattr(revision, "kind"):
         cause = verdict.it.causes.found.get(number)
@@ -200,7 +216,7 @@ def line_words(verdict, what, at):
             it = verdict.it.streams.connections[cause.number]
             found[0] = f"connection {cause.number} (from {it.address}, at proxy {it.proxy}): " + found[0]
         same = [other for other, its in verdict.it.causes.found.items() if its == cause] if cause else []
-        paths = {path for _, path in revision.triggers()}
+        paths = updates.paths(number)
         found.append("  around it:")
         found += [f"    {updates.line(it)}" for it in sorted({*same, *updates.around(number, number, paths)})]
     return "\n".join(found)

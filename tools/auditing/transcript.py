@@ -19,17 +19,17 @@ NO_SESSION = f"{1:016x} {'0' * 32}"
 
 
 class Transcript:
-    def __init__(self, folder):
+    def __init__(self, folder, has_others=False):
         self.streams, self.revisions = Streams(folder), Revisions(folder)
         self.all = [it for it in self.revisions.all if it.kind()]
         self.notes = self.revisions.notes + self.streams.notes
         self.lines, self.zxid, self.now, self.places = [], 0, 0, {}
         self.others = Unrecorded(max(self.streams.connections, default=0) + 1, lambda text: self.lines.append((text, None)))
         self.begin()
-        self.causes = Causes(self.streams, self.all, self.service)
+        self.causes = Causes(self.streams, self.all, self.service, has_others)
         self.bounds, self.early = bounds(self.streams, self.all, self.causes, not self.revisions.notes)
         self.offers = self.offered()
-        self.unasked = [it for it in self.causes.unasked if it >= self.revisions.first]
+        self.unasked = [] if has_others else [it for it in self.causes.unasked if it >= self.revisions.first]
         self.merge()
 
     def begin(self):
@@ -52,8 +52,9 @@ class Transcript:
     def merge(self):
         at, ends = 0, self.known_ends()
         for place in range(-1, len(self.streams.items)):
-            if place >= 0 and not (self.streams.items[place].what == "send" and place >= ends.get(self.streams.items[place].number, place + 1)):
-                self.item(self.streams.items[place], place)
+            item = self.streams.items[place] if place >= 0 else None
+            if item and (item.what != "send" or place < ends.get(item.number, place + 1)):
+                self.item(item, place)
             while at < len(self.all) and self.bounds[self.all[at].number].place <= place:
                 self.update(self.all[at])
                 at += 1

@@ -92,7 +92,8 @@ class Unrecorded:
 
     def asked(self, zxid, revision):
         """Who asked for this update, and by which frame; None where no such connection may have."""
-        owners = [node.owner for node in (node_of(put.value, revision.number) for _, put in revision.of(b"zk/d/") if put) if node.czxid == revision.number]
-        owner = next((it for it in owners if it), self.order[-1] if self.order else None)
+        nodes = [node_of(put.value, revision.number) for _, put in revision.of(b"zk/d/") if put]
+        last = self.order[-1] if self.order else None
+        owner = next((it.owner for it in nodes if it.owner and it.czxid == revision.number), last)
         number = self.of.get(owner)
         return number and (number, self.asks(number, zxid, multi_frame(parts_of(revision))))

@@ -1,9 +1,9 @@
 """The verdict on a record, in words that a stranger can look up in it.
 
 The verdict is that of `zetcd judge`, which is proved, on the transcript. It names a line of the history, or the least connection whose
-packets are not what the service gives it. This module finds which reply that is: the first for which the connection's packets up to it are
-not lawful, by a search with some ten runs of the judge. What was sent to such a connection after that reply is then left out, and the rest is
-judged again, so that each connection at fault is told, in the order of time.
+packets are not what the service gives it. This module finds which reply that is: the first for which the connection's packets up to it
+are not lawful, by a search with some ten runs of the judge. What was sent to such a connection from that reply on is then left out, and the
+rest is judged again, so that each connection at fault is told, in the order of time.
 
 Then it says, of the reply: its frame, what was sent between the reply before and it, how old it is, and the updates around it. Two
 experiments help to say what is wrong: one of the notifications is left out, or one that an update of that time may have given is put in. If
@@ -84,7 +84,8 @@ class Verdict:
             dropped.append(sends.pop())
             if not self.is_wrong(number, self.alone(number, dropped[-1])):
                 self.lines = [it for at, it in enumerate(self.lines) if at not in dropped]
-                self.dropped.append(f"the last {len(dropped)} notifications of connection {number} are left out: the stream ended among those of one update")
+                self.dropped.append(f"the last {len(dropped)} notifications of connection {number} are left out: its stream ended among those"
+                                    " of one update")
                 return True
         return False
 
@@ -118,22 +119,21 @@ class Verdict:
         replies = sum(len(each.answers) for each in streams.connections.values())
         notices = sum(1 for item in streams.items if item.what == "send" and is_notice(item.data))
         updates = sum(1 for each in it.all if each.kind() != "lapse")
-        found = [f"{'lawful' if self.is_lawful() else 'unlawful'}: {len(streams.connections)} connections, {replies} replies, {notices} notifications, "
-                 f"{updates} updates, {streams.time / 1e6:.1f} s"]
+        found = [f"{'lawful' if self.is_lawful() else 'unlawful'}: {len(streams.connections)} connections, {replies} replies, "
+                 f"{notices} notifications, {updates} updates, {streams.time / 1e6:.1f} s"]
         found += [f"\n{text}" for _, text in self.faults]
         if it.unasked:
-            found.append(f"\nnobody who was recorded asked for {len(it.unasked)} updates: {', '.join(map(str, it.unasked[:10]))}"
-                         f"{' ..' if len(it.unasked) > 10 else ''}. (If other clients do not go through the relays, judge with --others.)")
+            some = ", ".join(map(str, sorted(it.unasked)[:10])) + (" .." if len(it.unasked) > 10 else "")
+            found.append(f"\nnobody who was recorded asked for {len(it.unasked)} updates: {some}. (If other clients do not go through the"
+                         " relays, judge with --others.)")
         found += [f"note: {note}" for note in it.notes + it.causes.notes + self.dropped]
         return "\n".join(found)
 
 
-def verdict(folder, takes_others):
+def verdict(folder, has_others):
     """Prints the verdict on a record, and gives the status."""
     from transcript import Transcript
-    it = Transcript(folder)
-    if takes_others:
-        it.unasked = []
+    it = Transcript(folder, has_others)
     try:
         found = Verdict(it)
     except NoProgram as wrong:
