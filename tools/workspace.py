@@ -6,8 +6,12 @@ import hashlib
 import importlib.machinery
 import importlib.util
 import os
+import signal
 import subprocess
 import sys
+
+if sys.version_info < (3, 9):
+    sys.exit(f"{os.path.basename(sys.argv[0])}: this needs Python 3.9 or later, and {sys.executable} is {sys.version.split()[0]}")
 
 ROOT = os.path.dirname(os.path.dirname(os.path.realpath(__file__)))
 NO_KIT = "there is no `rt` on the path: zetcd is built by the Rattle kit (compiler, prover and libraries); put the kit's bin/ on the path"
@@ -44,12 +48,34 @@ def sources(name):
     return sorted(found)
 
 
+def name_of_program():
+    return os.path.basename(sys.argv[0])
+
+
+def ends_as(main):
+    """Runs a program and ends with its status. A signal ends it as it would end any other, but lets it end first what it started; and what
+    goes wrong with a disk or a file is said in a sentence."""
+    for it in (signal.SIGHUP, signal.SIGINT, signal.SIGTERM):
+        signal.signal(it, lambda number, _: sys.exit(128 + number))
+    try:
+        sys.exit(main(sys.argv[1:]))
+    except OSError as wrong:
+        sys.exit(f"{name_of_program()}: {sentence_of(wrong)}")
+
+
+def sentence_of(wrong):
+    """What went wrong, by the system's own words: `/tmp: No space left on device`."""
+    return ": ".join(str(it) for it in (wrong.filename, wrong.strerror or wrong) if it)
+
+
 def rt_says(word):
-    """What `rt` prints at this word, as bytes. Where there is no `rt`, the program says so and ends with status 1."""
+    """What `rt` prints at this word, as bytes. Where there is no `rt`, or it fails, the program says so and ends with status 1."""
     try:
         return subprocess.run(["rt", word], stdout=subprocess.PIPE, check=True).stdout
     except FileNotFoundError:
-        sys.exit(f"{os.path.basename(sys.argv[0])}: {NO_KIT}")
+        sys.exit(f"{name_of_program()}: {NO_KIT}")
+    except subprocess.CalledProcessError as wrong:
+        sys.exit(f"{name_of_program()}: `rt {word}` ended with status {wrong.returncode}: is the Rattle kit whole? `rt selftest` tries it")
 
 
 def stamp(names):
