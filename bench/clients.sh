@@ -1,9 +1,10 @@
 #!/usr/bin/env bash
 # Tries `zetcd serve` with real clients on a real etcd: kazoo, ZooKeeper's Java and C clients, zkCli and Apache Curator, over two
 # proxies on the loopback. Proxies are killed, etcd is restarted, compacted and filled, and clients are stopped until their sessions have
-# lapsed. Members of an etcd of three are killed and cut off from the others, and a backup of etcd is restored. Prints a line for each
-# check, and ends with status 0 where all hold. Ends what it started. Takes about twelve minutes; with words, only the parts that they name
-# (basics faults ends history members restore).
+# lapsed. Members of an etcd of three are killed and cut off from the others, and a backup of etcd is restored. Clients under all these
+# faults are recorded by `tools/audit`, and what it recorded is judged. Prints a line for each check, and ends with status 0 where all
+# hold. Ends what it started. Takes about fifteen minutes; with words, only the parts that they name (basics faults ends history members
+# restore, and recorded for what of `faults` is recorded). AUDIT_SECONDS and AUDIT_SEED are for the record, see clients/recorded.py.
 #
 #     bench/clients.sh [--install] [PART..]          ZETCD=PROGRAM: another program than the one that `./run` builds
 set -eu
@@ -11,7 +12,7 @@ here=$(cd "$(dirname "$0")/.." && pwd)
 packages="etcd-server:etcd etcd-client:etcdctl python3-kazoo iproute2:ss"
 # The parts in which Java's and C's clients run.
 case " ${*:-basics} " in
-  *" basics "* | *" faults "* | " --install ")
+  *" basics "* | *" faults "* | *" recorded "* | " --install ")
     packages="$packages zookeeper libzookeeper-java libzookeeper-mt-dev gcc:gcc libc6-dev default-jdk-headless:javac libcurator-client-java"
     packages="$packages libcurator-framework-java libcurator-recipes-java libguava-java libjackson2-databind-java"
     is_compiled=yes

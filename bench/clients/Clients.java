@@ -193,8 +193,42 @@ public class Clients {
     a.close();
   }
 
+  // Makes, reads, watches, changes and removes nodes for so many seconds, whatever becomes of its connections and its session.
+  static void roam(String hosts, String seconds) throws Exception {
+    long end = System.currentTimeMillis() + Math.round(1000 * Double.parseDouble(seconds));
+    java.util.Random dice = new java.util.Random(1);
+    int done = 0;
+    ZooKeeper zk = null;
+    while (System.currentTimeMillis() < end) {
+      try {
+        if (zk == null || !zk.getState().isAlive()) zk = new ZooKeeper(hosts, 4000 + dice.nextInt(8000), new Events());
+        String path = "/java" + dice.nextInt(3);
+        int kind = dice.nextInt(8);
+        if (kind == 0) zk.create(path, bytes("x" + done), Ids.OPEN_ACL_UNSAFE, CreateMode.PERSISTENT);
+        if (kind == 1) zk.create(path + "/n-", bytes(""), Ids.OPEN_ACL_UNSAFE, CreateMode.EPHEMERAL_SEQUENTIAL);
+        if (kind == 2) zk.setData(path, bytes("y" + done), -1);
+        if (kind == 3) zk.getData(path, dice.nextBoolean(), new Stat());
+        if (kind == 4) zk.exists(path, dice.nextBoolean());
+        if (kind == 5) {
+          List<String> names = zk.getChildren(path, dice.nextBoolean());
+          if (names.size() > 5) zk.delete(path + "/" + names.get(dice.nextInt(names.size())), -1);
+        }
+        if (kind == 6) zk.multi(Arrays.asList(Op.check(path, -1), Op.setData(path, bytes("z" + done), -1),
+            Op.create(path + "/m-", bytes(""), Ids.OPEN_ACL_UNSAFE, CreateMode.EPHEMERAL_SEQUENTIAL)));
+        if (kind == 7) Thread.sleep(dice.nextInt(30));
+        done++;
+      } catch (KeeperException wrong) {
+        if (wrong.code() == KeeperException.Code.CONNECTIONLOSS) Thread.sleep(20);
+        if (wrong.code() == KeeperException.Code.SESSIONEXPIRED) zk = null;
+      }
+    }
+    if (zk != null) zk.close();
+    System.out.println(done + " requests");
+  }
+
   public static void main(String[] words) throws Exception {
     switch (words[0]) {
+      case "roam": roam(words[1], words[2]); break;
       case "unwatch": unwatch(words[1], words[2]); break;
       case "basics": basics(words[1], words[2]); break;
       case "lock": lock(words[1], words[2]); break;

@@ -1,7 +1,8 @@
-/* ZooKeeper's C client, for bench/clients.sh: clients ONE OTHER, or clients failover HOSTS. Prints `ok`, or says what was wrong and ends with status 1. */
+/* ZooKeeper's C client, for bench/clients.sh: clients ONE OTHER, clients failover HOSTS, or clients roam HOSTS SECONDS. Prints `ok`, or says what was wrong and ends with status 1. */
 #include <stdio.h>
 #include <stdlib.h>
 #include <string.h>
+#include <time.h>
 #include <unistd.h>
 #include <zookeeper/zookeeper.h>
 
@@ -145,8 +146,58 @@ static void unwatch(zhandle_t *a, zhandle_t *b) {
   check("nothing is told", heard[0] == 0 && heard[1] == 1);
 }
 
+static void ignored(zhandle_t *zh, int type, int state, const char *path, void *context) {}
+
+/* Makes, reads, watches, changes and removes nodes for so many seconds, whatever becomes of its connections and its session. */
+static void roam(const char *hosts, double seconds) {
+  struct timespec now;
+  clock_gettime(CLOCK_MONOTONIC, &now);
+  double end = now.tv_sec + now.tv_nsec / 1e9 + seconds;
+  zhandle_t *zh = NULL;
+  int done = 0;
+  srand(1);
+  for (;; done++) {
+    clock_gettime(CLOCK_MONOTONIC, &now);
+    if (now.tv_sec + now.tv_nsec / 1e9 > end) break;
+    if (zh != NULL && zoo_state(zh) == ZOO_EXPIRED_SESSION_STATE) {
+      zookeeper_close(zh);
+      zh = NULL;
+    }
+    if (zh == NULL) zh = zookeeper_init(hosts, ignored, 4000 + rand() % 8000, 0, 0, 0);
+    char path[64], child[128], made[128], room[256];
+    int length = sizeof room, watch = rand() % 2, status = ZOK;
+    struct Stat stat;
+    struct String_vector names = {0, NULL};
+    snprintf(path, sizeof path, "/c%d", rand() % 3);
+    snprintf(child, sizeof child, "%s/n-", path);
+    switch (rand() % 7) {
+      case 0: status = zoo_create(zh, path, "x", 1, &ZOO_OPEN_ACL_UNSAFE, 0, made, sizeof made); break;
+      case 1: status = zoo_create(zh, child, "", 0, &ZOO_OPEN_ACL_UNSAFE, ZOO_EPHEMERAL | ZOO_SEQUENCE, made, sizeof made); break;
+      case 2: status = zoo_set(zh, path, "y", 1, -1); break;
+      case 3: status = zoo_wget(zh, path, watch ? ignored : NULL, NULL, room, &length, &stat); break;
+      case 4: status = zoo_wexists(zh, path, watch ? ignored : NULL, NULL, &stat); break;
+      case 5:
+        status = zoo_wget_children(zh, path, watch ? ignored : NULL, NULL, &names);
+        if (status == ZOK && names.count > 5) {
+          snprintf(child, sizeof child, "%s/%s", path, names.data[rand() % names.count]);
+          status = zoo_delete(zh, child, -1);
+        }
+        deallocate_String_vector(&names);
+        break;
+      default: usleep(rand() % 30000);
+    }
+    if (status == ZCONNECTIONLOSS || status == ZINVALIDSTATE) usleep(20000);
+  }
+  if (zh != NULL) zookeeper_close(zh);
+  printf("%d requests\n", done);
+}
+
 int main(int count, char **words) {
   zoo_set_debug_level(ZOO_LOG_LEVEL_ERROR);
+  if (!strcmp(words[1], "roam")) {
+    roam(words[2], atof(words[3]));
+    return 0;
+  }
   if (!strcmp(words[1], "failover")) {
     failover(words[2]);
     printf("ok\n");

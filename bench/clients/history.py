@@ -286,7 +286,8 @@ class History:
         assert it.take("b") == 1
         czxid, version, ctime, mtime, owner = it.take("qiqqq")
         content = raw[it.at:]
-        parent_revision, raw = counts[path]
+        # A node of a session of layout 2 has no counts: no child of it ever came.
+        parent_revision, raw = counts.get(path) or (czxid or revision, bytes(9))
         creates, children = struct.unpack(">xii", raw)
         stat = dict(czxid=czxid or revision, mzxid=revision, ctime=ctime, mtime=mtime, version=version, cversion=2 * creates - children,
                     aversion=0, owner=owner, length=len(content), children=children, pzxid=parent_revision)

@@ -10,17 +10,18 @@ import ends
 import faults
 import history
 import members
+import recorded
 import restore
 
-PARTS = {"basics": basics.checks, "faults": faults.checks, "ends": ends.checks, "history": history.checks, "members": members.checks,
-         "restore": restore.checks}
+PARTS = {"basics": basics.checks, "faults": faults.checks + recorded.checks, "ends": ends.checks, "history": history.checks,
+         "members": members.checks, "restore": restore.checks, "recorded": recorded.checks}
 
 
 def main():
     logging.disable(logging.CRITICAL)
     for it in (signal.SIGTERM, signal.SIGHUP):
         signal.signal(it, lambda *_: sys.exit(130))
-    program, work, parts = sys.argv[1], sys.argv[2], sys.argv[3:] or list(PARTS)
+    program, work, parts = sys.argv[1], sys.argv[2], sys.argv[3:] or [it for it in PARTS if it != "recorded"]
     passed, failed = 0, 0
     for part in parts:
         for check in PARTS[part]:

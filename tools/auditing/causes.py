@@ -3,8 +3,9 @@
 A reply that says that its own update was made names it: its zxid is the revision. A welcome names its session. Beyond that an update is
 nobody's yet, and it is looked for what may have caused it:
 
-- the attachment of a session: a connect that named the session, which came before the update. Of several, the one whose later replies
-  fit: the first that was read off the tree is not older than the attachment, and the first that needed none repeats its zxid;
+- the attachment of a session: a connect that named the session, which came before the update. Of several, one whose replies fit: what
+  was read off the tree was read after that attachment and before the next, unless it says that the session has moved, and a first reply
+  that needs no tree repeats its zxid;
 - the close of a session: a closeSession of the connection that the session was attached to;
 - any other: a request without an answer, of a connection whose session is open then, that came before the update, and would do on the
   state before it just what etcd shows: the same triggers, in the same order, the same data, versions and owners. (One whose answer names
@@ -16,9 +17,10 @@ out of order, and an update for one that was refused makes the refusal wrong. (N
 through the relays; then the update may as well be theirs.) If none fits at all, then nobody who was recorded asked for it. It is written as
 what a connection that was not recorded asked for, with the same effect. Updates that are older than the record are all written so.
 """
+import bisect
 from collections import namedtuple
 
-from packets import CLOSE, UPDATES
+from packets import CLOSE, SESSION_EXPIRED, SESSION_MOVED, UPDATES
 from keys import did
 
 Cause = namedtuple("Cause", "number index")
@@ -27,6 +29,24 @@ MOST_ANSWERED = 50  # the last requests of a connection that were answered, and 
 
 def granted(timeout):
     return max(4000, min(40000, timeout))
+
+
+def matching(candidates):
+    """Gives each of these one of its candidates, and none to two, for as many as possible (by augmenting paths)."""
+    owner = {}
+
+    def place(who, seen):
+        for it in candidates[who]:
+            if it not in seen:
+                seen.add(it)
+                if it not in owner or place(owner[it], seen):
+                    owner[it] = who
+                    return True
+        return False
+
+    for who in candidates:
+        place(who, set())
+    return {who: it for it, who in owner.items()}
 
 
 class Causes:
@@ -68,31 +88,32 @@ class Causes:
                 by_session.setdefault(it.session(), []).append(it)
         for session, made in by_session.items():
             mine = [it for it in self.each() if it.connect and it.connect.session == session]
-            left = {it.number: it for it in made}
-            welcomed = sorted((it for it in mine if it.welcome and it.welcome[0]), key=lambda it: it.welcomed_at)
-            for it in reversed(welcomed):
-                revision = self.attachment_of(it, left)
-                if revision:
-                    found[revision] = it.number
-                    del left[revision]
+            numbers = [it.number for it in made]
+            welcomed = {it.number: self.attachments_of(it, made, numbers) for it in mine if it.welcome and it.welcome[0]}
+            matched = matching(welcomed)
+            found.update({revision: number for number, revision in matched.items()})
             waiting = sorted((it for it in mine if not it.welcome), key=lambda it: it.places[0])
-            for revision in sorted(left):
-                first = next((it for it in waiting if it.times[0] <= left[revision].time and it.connect.last_zxid < revision), None)
-                if first:
-                    found[revision] = first.number
+            for revision in made:
+                first = next((it for it in waiting if it.times[0] <= revision.time and it.connect.last_zxid < revision.number), None)
+                if revision.number not in found and first:
+                    found[revision.number] = first.number
                     waiting.remove(first)
         return found
 
-    def attachment_of(self, it, left):
-        """Which of these attachments a connection that was welcomed made."""
-        may = [number for number, made in left.items() if made.time >= it.times[0] and number > it.connect.last_zxid]
-        if it.answers:
-            first = it.answers[0]
-            if not first.has_moment and first.reply.zxid in may:
-                return first.reply.zxid
-            may = [number for number in may if number <= first.reply.zxid] or may
-            return max(may, default=None)
-        return min(may, default=None)
+    def attachments_of(self, it, made, numbers):
+        """Which of a session's attachments a connection that was welcomed may have made, the likeliest first."""
+        may = [one for one in made if one.time >= it.times[0] and one.number > it.connect.last_zxid]
+        welcomed = self.streams.items[it.welcomed_at].time
+        may = [one.number for one in sorted(may, key=lambda one: abs(one.time - welcomed))]
+        if it.answers and not it.answers[0].has_moment and it.answers[0].reply.zxid in may:
+            return [it.answers[0].reply.zxid]
+        for answer in it.answers:
+            last = max((number for number in numbers if number <= answer.reply.zxid), default=None)
+            if answer.has_moment and answer.reply.error == SESSION_MOVED:
+                may = [number for number in may if last and number < last] or may
+            elif answer.has_moment and answer.reply.error != SESSION_EXPIRED and last in may:
+                return [last]
+        return may
 
     def look(self, revision):
         kind = revision.kind()
@@ -147,11 +168,11 @@ class Causes:
             it = self.streams.connections.get(number)
             if it is None or session not in self.service.lives:
                 continue
-            for index in range(max(1, len(it.answers) - MOST_ANSWERED), len(it.requests)):
+            shown = bisect.bisect_left(it.answers, revision.number, key=lambda answer: answer.reply.zxid)
+            for index in range(max(1, shown - MOST_ANSWERED), bisect.bisect_right(it.times, revision.time)):
                 request, answer = it.requests[index], it.answer_of(index)
-                if request and request.kind in UPDATES and it.times[index] <= revision.time:
-                    if did(revision, self.service.effect(session, request.parts)):
-                        found[self.rank(answer)].append((number, index))
+                if request and request.kind in UPDATES and did(revision, self.service.effect(session, request.parts)):
+                    found[self.rank(answer)].append((number, index))
         return found
 
     def rank(self, answer):
@@ -160,22 +181,9 @@ class Causes:
         return 1 if answer.reply.updates else 2
 
     def match(self):
-        """Gives each open update one of its candidates (a matching by augmenting paths)."""
-        owner = {}
-
-        def place(at, seen):
-            for it in self.open[at][1][0]:
-                if it not in seen:
-                    seen.add(it)
-                    if it not in owner or place(owner[it], seen):
-                        owner[it] = at
-                        return True
-            return False
-
-        for at in range(len(self.open)):
-            place(at, set())
-        chosen = {at: it for it, at in owner.items()}
-        for number in {it[0] for it in owner}:
+        """Gives each open update one of its candidates, those of one connection in order."""
+        chosen = matching({at: it[1][0] for at, it in enumerate(self.open)})
+        for number in {it[0] for it in chosen.values()}:
             mine = sorted(at for at, it in chosen.items() if it[0] == number)
             for at, index in zip(mine, sorted(chosen[at][1] for at in mine)):
                 if (number, index) in self.open[at][1][0]:
