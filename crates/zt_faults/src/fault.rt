@@ -1,12 +1,16 @@
 //! Why a line cannot be read.
 
+ghost use Rattle.std.specs.Prelude.{IfOk};
+ghost use Rattle.zt_text.specs.Scripts.{happening_read};
+ghost use Rattle.zt_faults.specs.Faults.{IsFound};
+
 use crate::expected::Expected;
 use crate::forms::{Form, Forms, beginning, form_of};
 use crate::words::{fits, fitting};
 use std::alloc::Global;
 use std::fmt;
 use std::fmt::{Display, Formatter, Write};
-use zt_text::{MAX_LINE, Words, first_word};
+use zt_text::{MAX_LINE, Words, first_word, read_line};
 use zx_base::Memory;
 
 /// Why a line cannot be read.
@@ -25,6 +29,13 @@ pub const TOO_LONG: LineFault = LineFault {
     byte: MAX_LINE + 1,
     is_early: false,
     expected: Expected::LongestEnd,
+};
+
+/// A line of which no more is known.
+const UNKNOWN: LineFault = LineFault {
+    byte: 1,
+    is_early: false,
+    expected: Expected::ScriptLine,
 };
 
 /// A line after the last one of a transcript.
@@ -65,8 +76,14 @@ impl<'a> From<Memory> for Stop<'a> {
 }
 
 /// Why a line of a script, without its line feed, cannot be read; `None` if it can.
-pub fn fault_in_script(alloc: Global, line: &[u8]) -> Result<Option<LineFault>, Memory> {
-    fault_in(alloc, Forms::Script, line)
+pub fn fault_in_script(alloc: Global, line: &[u8]) -> Result<Option<LineFault>, Memory>
+    ensures { IfOk result (λ fault. IsFound fault (happening_read line.now)) }
+{
+    if read_line(alloc, line)?.is_some() {
+        return Ok(None);
+    }
+    let fault = fault_in(alloc, Forms::Script, line)?;
+    Ok(Some(fault.unwrap_or(UNKNOWN)))
 }
 
 /// Why line `number` of a transcript's text, counted from 1, is the first that cannot be read; `None` if it can, or is too far into the

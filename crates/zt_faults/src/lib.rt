@@ -3,8 +3,8 @@
 //! [`fault_in_script`] and [`fault_at_line`] are for a line that `zt_text` or `zt_lines` gave no meaning. They go through its words
 //! by the same functions, and stop at the first that is not what the line's form has there. `docs/FORMATS.md` has the forms.
 //!
-//! What they say is meant for a person at a terminal. It is proved to be safe; that it is right is shown by rows (`text_rows`) and
-//! examples.
+//! What they say is meant for a person at a terminal. Of a line of a script a fault is found exactly if it cannot be read (`specs/Faults`);
+//! that the place and the words are right is shown by rows (`text_rows`) and examples.
 //!
 //! # Cost
 //!
