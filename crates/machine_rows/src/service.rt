@@ -8,8 +8,8 @@ use std::mem;
 use zk_answers::{Told, Watches, plain_request, tree_reply};
 use zk_history::{Commit, Past, Session, State, change, commit};
 use zk_machine::{Fault, Turn, begin};
-use zk_model::{ConnectRequest, Request, Trigger};
-use zk_service::{UpdateKind, UpdateRec};
+use zk_model::{ConnectRequest, Layout, Request, Trigger};
+use zk_service::{Fresh, UpdateKind, UpdateRec};
 use zk_transcript::TranscriptLine;
 use zx_base::{Bytes, Memory, Seq};
 
