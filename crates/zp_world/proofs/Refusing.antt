@@ -5,6 +5,7 @@ use Rattle.ev_types.specs.Store.{Puts}
 use Rattle.ev_types.specs.Lapses.{leased_keys, removals}
 use Rattle.ev_types.specs.Denials.{has_lease}
 use Rattle.zk_model.specs.Limits.{max_frame, max_time}
+use Rattle.zk_service.specs.declared.fresh.Fresh.{Fresh}
 use Rattle.zt_text.specs.declared.script.Happening.{Happening}
 use Rattle.zt_text.specs.declared.script.Happening.TheVariants as line
 use Rattle.zt_text.specs.declared.script.Why.{Why}
@@ -24,9 +25,9 @@ refuses-same w w' h cause r f e same = rw e (f, same)
 
 -- ---- the tests of each line
 
-pub open-line : (w : World) (c p : ℕ) (id : ℤ) (pw : List ℕ) → fault w (line.Open c p id pw layout) ≡ new_fault c w None
+pub open-line : (w : World) (c p : ℕ) (f : Fresh) → fault w (line.Open c p f.id f.passwd f.layout) ≡ new_fault c w None
 unfolding fault
-open-line w c p id pw = refl
+open-line w c p f = refl
 
 pub frame-line : (w : World) (c : ℕ) (bytes : List ℕ) → fault w (line.Frame c bytes) ≡ connection_fault c w (if_fails (has_part (conn_at c w)) why.FrameOpen (if_fails (nat_lt max_frame (length bytes)) why.TooLong None))
 unfolding fault

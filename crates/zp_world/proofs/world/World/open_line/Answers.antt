@@ -6,10 +6,10 @@ use Rattle.zp_world.proofs.Refusing.{refuses, open-line}
 use Rattle.zp_world.proofs.world.World.open_line.Goals as goal
 
 pub returns-in-Some : goal.returns-in-Some
-returns-in-Some c = refuses _ _ c.in-Some.why c.refused.result (open-line c.args.self.now c.args.connection c.args.proxy c.args.id c.args.passwd ∙ sym c.new_why.ensures ∙ c.in-Some.is) c.refused.ensures
+returns-in-Some c = refuses _ _ c.in-Some.why c.refused.result (open-line c.args.self.now c.args.connection c.args.proxy c.args.fresh ∙ sym c.new_why.ensures ∙ c.in-Some.is) c.refused.ensures
 
 pub returns-in_ok-open-in-None : goal.returns-in_ok-open-in-None
 returns-in_ok-open-in-None c = record {
-  possible = open-line c.args.self.now c.args.connection c.args.proxy c.args.id c.args.passwd ∙ sym c.new_why.ensures ∙ c.in-None.is;
-  effect = c.in_ok-open-in-None.ensures ∙ ap (λ (id : ℤ). opened c.args.self.now c.args.connection c.args.proxy id c.args.passwd) (to_z-of_z w64 c.args.id c.ranges.id);
+  possible = open-line c.args.self.now c.args.connection c.args.proxy c.args.fresh ∙ sym c.new_why.ensures ∙ c.in-None.is;
+  effect = c.in_ok-open-in-None.ensures;
 }
