@@ -23,7 +23,7 @@ IsBegun told = (a : Answer) × (told ≡ record { ask = begin_ask 0; result = Ok
 -- Over the store as Begin left it, whichever number and proxy it opened at, the connection has its world.
 abbrev pub IsLawful : (fresh : Fresh) (old new : Told) (why : Cause) → Serves fresh old new why → Type 0
 IsLawful fresh old new why h = (s : Store) (a : Answer) (c p : ℕ) → carry new_store (begin_ask 0) ≡ Some (s, a) → IsOffer fresh → IsInTime s h.steps → length (frames_of h.steps) < max_count
-    → ∥ IsAlone (opened (world_over s) c p fresh.id fresh.passwd) c h.steps ∥₁
+    → ∥ IsAlone (opened (world_over s) c p fresh) c h.steps ∥₁
 
 pub record ServesAlone (fresh : Fresh) (old new : Told) (why : Cause) : Type 0 where
   pub serves : Serves fresh old new why

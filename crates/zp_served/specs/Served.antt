@@ -27,7 +27,7 @@ ServedAreAlone = (w : World) (c p : ℕ) (fresh : Fresh) (old new : Told) (why :
 abbrev pub ServedFromTheFirst : Type 0
 ServedFromTheFirst = (s : Store) (a : Answer) (c p : ℕ) (fresh : Fresh) (old new : Told) (why : Cause) (h : Serves fresh old new why)
     → carry new_store (begin_ask 0) ≡ Some (s, a) → IsServedOver s fresh old new h.steps
-    → IsAlone (opened (world_over s) c p fresh.id fresh.passwd) c h.steps
+    → IsAlone (opened (world_over s) c p fresh) c h.steps
 
 -- a list without entries of updates to come is in time
 abbrev pub EarlierAreInTime : Type 0
