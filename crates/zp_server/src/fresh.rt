@@ -1,6 +1,7 @@
 //! Numbers and passwords of new sessions.
 
-ghost use Rattle.std.specs.Prelude.{pos, ◌≤ℤ◌};
+ghost use Rattle.std.specs.Prelude.{◌≡◌, pos, ◌≤ℤ◌};
+ghost use Rattle.zk_model.specs.declared.layout.Layout.TheVariants.{Two};
 
 use zk_model::Layout;
 use zp_core::Fresh;
@@ -18,9 +19,10 @@ fn id_of(word: u64) -> i64
 }
 
 /// The session that a client is given who asks for a new one: its number is the low 63 bits of a word, or 1 where these are 0, and
-/// its password the two next words.
+/// its password the two next words. It may own up to sixty ephemeral nodes.
 pub fn fresh<R: Random>(random: &mut R) -> Fresh
-    ensures { pos 1 ≤ℤ result.id }
+    ensures least { pos 1 ≤ℤ result.id }
+    ensures layout { result.layout ≡ Two }
 {
     let id = id_of(random.word());
     let mut passwd = [0u8; 16];
