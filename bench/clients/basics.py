@@ -11,6 +11,10 @@ from kazoo.recipe.watchers import ChildrenWatch
 from cluster import Etcd, MemoryEtcd, Proxy, until
 
 
+class Skipped(Exception):
+    """Why a check is not tried."""
+
+
 @contextmanager
 def two_proxies(program, work, *flags, etcd=None):
     etcd = etcd or Etcd(work, *flags)

@@ -8,6 +8,8 @@ import time
 
 from kazoo.client import KazooClient, KazooState
 from kazoo.exceptions import BadVersionError, ConnectionLoss, KazooException, OperationTimeoutError, SessionExpiredError
+from kazoo.recipe.cache import TreeCache, TreeEvent
+from kazoo.recipe.watchers import ChildrenWatch
 from kazoo.retry import KazooRetry
 
 from basics import kazoos, two_proxies
@@ -220,6 +222,48 @@ def a_stopped_client_loses_its_session(program, work):
         client.join()
 
 
+def registrar(hosts, told):
+    """A client in a process of its own, whose session owns sixty members of a party."""
+    client = KazooClient(hosts=hosts, timeout=8.0)
+    client.start(10)
+    for n in range(60):
+        client.Party("/services", f"service-{n:02}").join()
+    told.put(client.client_id[0])
+    client.add_listener(told.put)
+    time.sleep(120)
+
+
+def a_registry_of_sixty_members_is_kept_and_lapses(program, work):
+    with two_proxies(program, work) as (etcd, proxies), kazoos(proxies[1].address) as (b,):
+        told, counts = multiprocessing.Queue(), []
+        client = multiprocessing.Process(target=registrar, args=(proxies[0].address, told), daemon=True)
+        client.start()
+        session, services = told.get(timeout=30), b.Party("/services")
+        ChildrenWatch(b, "/services", lambda names: counts.append(len(names)))
+        # It reads and watches each member, and its children too.
+        cache, kinds = TreeCache(b, "/services"), []
+        cache.listen(lambda event: kinds.append(event.event_type))
+        cache.start()
+        assert until(lambda: kinds.count(TreeEvent.NODE_ADDED) == 61), kinds
+        proxies[0].end()
+        proxies[0] = Proxy(program, etcd.address, work, port=proxies[0].port)
+        assert [told.get(timeout=20) for _ in range(2)] == [KazooState.SUSPENDED, KazooState.CONNECTED]
+        assert sorted(services) == [f"service-{n:02}" for n in range(60)]
+        assert {b.exists(f"/services/{it}").ephemeralOwner for it in b.get_children("/services")} == {session}
+        os.kill(client.pid, signal.SIGSTOP)
+        since = time.time()
+        assert until(lambda: counts[-1] == 0, 40), "its members stay"
+        waited = time.time() - since
+        assert counts == [60, 0], "its members do not go at once"
+        assert until(lambda: kinds.count(TreeEvent.NODE_REMOVED) == 60) and list(services) == [], kinds
+        os.kill(client.pid, signal.SIGCONT)
+        while told.get(timeout=20) != KazooState.LOST:
+            pass
+        client.terminate()
+        client.join()
+        return f"sixty members were gone {waited:.1f} s after their client was stopped, of which 8 are the timeout"
+
+
 def compaction_is_not_felt(program, work):
     with two_proxies(program, work) as (etcd, proxies):
         def harm():
@@ -297,6 +341,7 @@ def a_full_etcd_refuses_updates_and_comes_back(program, work):
 
 checks = [a_killed_proxy_loses_nothing, a_killed_proxy_keeps_sessions_and_locks, the_java_client_keeps_its_watches,
           the_c_client_keeps_its_watches, etcd_restarts_within_2_seconds,
-          etcd_restarts_within_20_seconds, a_stopped_client_loses_its_session, compaction_is_not_felt,
+          etcd_restarts_within_20_seconds, a_stopped_client_loses_its_session,
+          a_registry_of_sixty_members_is_kept_and_lapses, compaction_is_not_felt,
           a_proxy_that_missed_updates_ends, a_proxy_begins_where_others_wrote_and_compacted,
           a_full_etcd_refuses_updates_and_comes_back]

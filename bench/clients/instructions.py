@@ -6,7 +6,7 @@ import subprocess
 import sys
 
 from cluster import Etcd, free_port, until
-from history import SEQUENCE, Wire, request, text
+from history import EPHEMERAL, SEQUENCE, Wire, request, text
 
 CONTENT = b"x" * 100
 WATCHED, PLAIN = 1, 0
@@ -45,12 +45,16 @@ def a_set(session, port, path):
     session.ask("set", path=path, content=CONTENT, version=-1)
 
 
-def a_create_or_delete(session, port, path):
+def a_create_or_delete(session, port, path, flags=0):
     session.is_there = not getattr(session, "is_there", False)
     if session.is_there:
-        session.create(path + "/x")
+        session.create(path + "/x", flags)
     else:
         session.ask("delete", path=path + "/x", version=-1)
+
+
+def an_ephemeral(session, port, path):
+    a_create_or_delete(session, port, path, EPHEMERAL)
 
 
 def a_sequence(session, port, path):
@@ -79,10 +83,11 @@ def a_round(session, port, path):
     session.wire.receive()
 
 
-WHAT = {"get": a_get, "set": a_set, "create": a_create_or_delete, "sequence": a_sequence, "multi": a_multi, "connect": a_connect, "ping": a_ping,
-        "notice": a_round}
-TOLD = {"get": "getData", "set": "setData", "create": "create and delete, each", "sequence": "sequence create", "multi": "multi of three",
-        "connect": "connect with close", "ping": "ping", "notice": "notice, with its getData and setData"}
+WHAT = {"get": a_get, "set": a_set, "create": a_create_or_delete, "ephemeral": an_ephemeral, "sequence": a_sequence, "multi": a_multi,
+        "connect": a_connect, "ping": a_ping, "notice": a_round}
+TOLD = {"get": "getData", "set": "setData", "create": "create and delete, each", "ephemeral": "the same of an ephemeral node",
+        "sequence": "sequence create", "multi": "multi of three", "connect": "connect with close", "ping": "ping",
+        "notice": "notice, with its getData and setData"}
 
 
 def instructions(program, work, etcd, what, count):

@@ -12,9 +12,10 @@ import history
 import members
 import recorded
 import restore
+import upgrade
 
 PARTS = {"basics": basics.checks, "faults": faults.checks + recorded.checks, "ends": ends.checks, "history": history.checks,
-         "members": members.checks, "restore": restore.checks, "recorded": recorded.checks}
+         "members": members.checks, "restore": restore.checks, "upgrade": upgrade.checks, "recorded": recorded.checks}
 
 
 def main():
@@ -30,6 +31,8 @@ def main():
                 said = check(program, work)
                 passed += 1
                 print(f"ok     {name} ({time.time() - since:.1f} s)" + (f": {said}" if said else ""), flush=True)
+            except basics.Skipped as reason:
+                print(f"skip   {name}: {reason}", flush=True)
             except Exception as wrong:  # each check by itself
                 failed += 1
                 print(f"FAILED {name} ({time.time() - since:.1f} s): {type(wrong).__name__} {wrong}", flush=True)
