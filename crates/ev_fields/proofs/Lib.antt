@@ -7,3 +7,4 @@ pub mod Backs
 pub mod Placed
 pub mod Fits
 pub mod Numbers
+pub mod Spelled

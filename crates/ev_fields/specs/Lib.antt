@@ -8,3 +8,4 @@ pub mod Printed
 pub mod Places
 pub mod Fitting
 pub mod Unparsed
+pub mod Straight

@@ -14,6 +14,9 @@
 //! Its clauses speak of the value in the words of `serde_json`, by `data_at` of `specs/Places`. Each function of [`members`] looks
 //! up one member, by its snake case name and otherwise by its camel case name, and gives its value or the [`fault::JsonFault`] that
 //! names it. `specs/Kinds` defines each kind and its range.
+//!
+//! A text that is spelled as expected, without blanks and escapes, is read from its front by the functions of [`straight`], which
+//! take no memory but for what they decode. `specs/Straight` says what each took.
 #![tactic(auto)]
 
 pub mod fault;
@@ -23,4 +26,5 @@ mod number;
 pub mod parsed;
 pub mod place;
 mod printer;
+pub mod straight;
 pub mod text;

@@ -110,7 +110,7 @@ fn are_digits(text: &[u8]) -> bool
 
 /// The number that a text of digits gives; `None` for any other text, and for a number of 2^64 or above.
 #[tactic(auto, using(crate::proofs::Digits::read_digits))]
-fn digits_of(text: &str) -> Option<u64>
+pub(crate) fn digits_of(text: &str) -> Option<u64>
     ensures { result ≡ digits64 text.now }
 {
     if text.is_empty() {
@@ -142,9 +142,9 @@ fn number_of(top: u64, value: &Place<'_, '_>) -> Option<i64>
 }
 
 /// Revisions, versions, counts and seconds are below 2^62.
-const MAX_COUNTS: u64 = 0x4000_0000_0000_0000;
+pub(crate) const MAX_COUNTS: u64 = 0x4000_0000_0000_0000;
 /// The numbers of leases are below 2^63.
-const MAX_LEASES: u64 = 0x8000_0000_0000_0000;
+pub(crate) const MAX_LEASES: u64 = 0x8000_0000_0000_0000;
 
 #[tactic(auto, unfolding(crate::specs::Kinds::count_of))]
 fn count_of(value: &Place<'_, '_>) -> Option<i64>
