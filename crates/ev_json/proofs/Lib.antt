@@ -10,3 +10,4 @@ pub mod Returns
 pub mod Broken
 pub mod Decoded
 pub mod Fitting
+pub mod Spellings

@@ -15,7 +15,7 @@ use Rattle.ev_json.proofs.Loop.{with_front, regroup}
 abbrev pub rest_of : List Act → ℕ → Items → Result (List ActAns) Field
 rest_of acts i ds = parts_in (drop i acts) ds
 
-cut : (acts : List Act) (i : ℕ) (a : Act) → i < length acts → a ≡ get_or acts i a → drop i acts ≡ a ∷ drop (i + 1) acts
+pub cut : (acts : List Act) (i : ℕ) (a : Act) → i < length acts → a ≡ get_or acts i a → drop i acts ≡ a ∷ drop (i + 1) acts
 cut acts i a lt is = drop_more acts i a lt ∙ ap (λ (y : Act). y ∷ drop (i + 1) acts) (sym is)
 
 pub part_goes_on : (front : List ActAns) (acts : List Act) (i : ℕ) (a : Act) (ds rest : Items) (d : Data) (y : ActAns) (total : Result (List ActAns) Field)

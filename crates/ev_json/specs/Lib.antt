@@ -4,3 +4,4 @@ pub mod Answers
 pub mod Bodies
 pub mod Breaks
 pub mod Ranges
+pub mod Spelled

@@ -136,7 +136,7 @@ fn parts(alloc: Global, acts: &[Act], mut values: Places<'_, '_>) -> Result<Vec<
 
 /// Whether the guards held, of which an answer says this. Where there are none, they cannot have failed.
 #[tactic(auto, unfolding(crate::specs::Answers::held))]
-fn held(guards: &[Guard], succeeded: bool) -> Result<bool, JsonFault>
+pub fn held(guards: &[Guard], succeeded: bool) -> Result<bool, JsonFault>
     ensures { Gives result (held guards.now succeeded) }
 {
     if guards.is_empty() && !succeeded {

@@ -25,10 +25,11 @@
 //! # Cost
 //!
 //! Writing allocates the text once, with room estimated from the lengths of keys and values, and writes each member straight
-//! into it: a name as one literal, a key or a value in base64, 1,024 bytes at a time. Reading parses the body into a list of its
-//! tokens, in time in proportion to its bytes, builds no value of JSON, and decodes each key and value once from the body. A
-//! member is looked up by passing over the members of its object. The list takes most of the memory: some 6 times an honest
-//! answer's bytes, and up to 22 times those of a hostile one with many empty objects.
+//! into it: a name as one literal, a key or a value in base64, 1,024 bytes at a time. The answer to a transaction is
+//! read in one pass over the body where it is spelled as etcd spells it: no list of tokens, and each key and value decoded once.
+//! Any other body is parsed into a list of its tokens, in time in proportion to its bytes, builds no value of JSON, and gives its
+//! keys and values by one decoding each. A member is looked up by passing over the members of its object. The list takes most of
+//! the memory: some 6 times an honest answer's bytes, and up to 22 times those of a hostile one with many empty objects.
 #![tactic(auto)]
 
 mod answer_text;
@@ -43,6 +44,7 @@ mod list;
 mod message;
 mod reading;
 mod room;
+mod straight;
 mod writing;
 
 pub use ev_fields::fault::JsonFault;

@@ -1,6 +1,6 @@
 //! Reads messages from bodies. A body is parsed once into a list of tokens, and each key and value is decoded once from there.
 
-ghost use Rattle.std.specs.Prelude.{◌≡◌, ◌≢◌, IfOk, IfErr};
+ghost use Rattle.std.specs.Prelude.{◌≡◌, ◌≢◌, IfOk, IfErr, IfSome};
 ghost use Rattle.ev_types.specs.declared.route.Route.TheVariants as routes;
 ghost use Rattle.ev_json.specs.Answers.{answer_in, line_in};
 ghost use Rattle.ev_json.specs.Asks.{ask_in, watch_in};
@@ -10,8 +10,10 @@ use crate::answer_value::answer;
 use crate::ask_value::{ask, watch};
 use crate::line::Line;
 use crate::line_value::line;
+use crate::straight::txn_answer;
 use ev_fields::fault::JsonFault;
 use ev_fields::parsed::Parsed;
+use ev_fields::straight::is_utf8;
 use ev_types::{Answer, Ask, Route};
 use json::Scratch;
 use std::alloc::Global;
@@ -63,12 +65,30 @@ fn message_body<'a>(ask: &Ask, body: &'a [u8]) -> &'a [u8]
     }
 }
 
+/// The answer to a transaction, where its text is spelled as etcd spells it.
+#[tactic(auto, using(crate::proofs::Spellings::straight))]
+fn straight_answer(alloc: Global, ask: &Ask, body: &[u8]) -> Option<Answer>
+    ensures { IfSome result (λ a. reads ask.now body.now a) }
+{
+    let Ask::Txn(txn) = ask else {
+        return None;
+    };
+    let answer = txn_answer(alloc, txn, body)?;
+    if !is_utf8(body) {
+        return None;
+    }
+    Some(answer)
+}
+
 /// Reads the answer to an ask from the body of a response. The response to a keepalive is a stream: its first line is read.
 #[tactic(auto, using(crate::proofs::Faults::unparsed), unfolding(crate::specs::Bodies::ReadsAs, crate::specs::Bodies::FaultOf))]
 pub fn read_answer(alloc: Global, ask: &Ask, body: &[u8]) -> Result<Answer, JsonFault>
     ensures read { IfOk result (λ a. reads ask.now body.now a) }
     ensures fault { IfErr result (λ e. FaultOf (answer_in ask.now) (message_body ask.now body.now) e) }
 {
+    if let Some(answer) = straight_answer(alloc, ask, body) {
+        return Ok(answer);
+    }
     let body = message_body(ask, body);
     let mut scratch = Scratch::new(alloc);
     let parsed = Parsed::parse(alloc, body, &mut scratch)?;
