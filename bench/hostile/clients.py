@@ -6,7 +6,7 @@ import threading
 import time
 
 from cluster import until
-from stage import numbers, staged
+from stage import THREADS, numbers, staged
 from wire import (CHILDREN, CREATE, DELETE, EXISTS, GET, MOST, MULTI, PING, SET, Client, Closed, Refused, connect, create, delete, dial,
                   integer, is_cut, multi, packet, put, read, request)
 
@@ -176,7 +176,7 @@ def frames_of_1_MB_on_all_connections(program, work):
         for client in clients:
             if isinstance(client, Client):
                 client.end()
-        assert until(lambda: numbers(it.proxy.process.pid)[2] <= 6, 60), "threads stay"
+        assert until(lambda: numbers(it.proxy.process.pid)[2] <= THREADS + 1, 60), "threads stay"
         kinds = {cause.split()[0] for number, cause in it.closed().items() if 2 <= number <= 256}
         assert kinds <= {"client", "read", "link", "expired"}, kinds
         it.bounds(255 * 12)
@@ -209,7 +209,7 @@ def frames_of_1_MB_that_spell_nothing(program, work):
         held = it.meter.now()
         for client in clients:
             client.end()
-        assert until(lambda: numbers(it.proxy.process.pid)[2] <= 6, 60), "threads stay"
+        assert until(lambda: numbers(it.proxy.process.pid)[2] <= THREADS + 1, 60), "threads stay"
         kinds = {cause.split()[0] for number, cause in it.closed().items() if 2 <= number <= count + 1}
         assert kinds <= {"client", "read", "link", "expired"}, kinds
         it.bounds(20 + count * 4)

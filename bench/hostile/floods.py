@@ -9,7 +9,7 @@ import urllib.request
 
 from cluster import Etcd, Proxy, until
 from clients import crowd
-from stage import Meter, numbers, staged
+from stage import THREADS, Meter, numbers, staged
 from wire import (CREATE, EXISTS, GET, PING, SET, Client, Closed, connect, create, dial, is_cut, put, read, request)
 
 
@@ -44,7 +44,7 @@ def dials_that_close(program, work):
         late = Client(it.port)
         took = time.time() - since
         late.does(EXISTS, read(b"/"))
-        assert until(lambda: threads_of(it) <= 6, 20), threads_of(it)
+        assert until(lambda: threads_of(it) <= THREADS + 2, 20), threads_of(it)
         kinds = {cause and cause.split()[0] for cause in it.causes(range(2, 6002))}
         assert kinds <= {"client", "read", "write"}, kinds
         late.end()
@@ -78,7 +78,7 @@ def dials_that_are_silent(program, work):
         late = Client(it.port, seconds=150)
         again = time.time() - since
         threads = max(turn[3] for turn in it.meter.turns)
-        assert threads <= 256 + 4, threads
+        assert threads <= 256 + THREADS, threads
         assert waited < 25 and again < 30, (waited, again)
         it.bounds(60, 60)
         return it.told(f"a new client waited {waited:.0f} s after 300, and {again:.1f} s after 2,000 had left", f"{threads} threads")

@@ -14,6 +14,8 @@ cluster.PORTS = iter(random.sample(range(24_500, 32_000), 7_500))
 
 # A server that takes more than this is ended by its meter, so that the machine goes on.
 MOST_MEGABYTES = 6_000
+# Of a proxy without clients: that which listens, that which follows the updates, and four reapers.
+THREADS = 6
 # How long another client may wait for a create, a getData and a delete, in seconds. A machine that is busy with other work makes all of
 # them wait; the median is what shows whether it is served.
 WORST, MEDIAN = 25.0, 5.0
