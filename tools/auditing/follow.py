@@ -143,6 +143,9 @@ class Follower:
         time.sleep(0.3)  # a lapse is no update: nothing counts it
         with self.lock:
             if revision is not None:
+                # An update may have come since etcd was asked, as one that removes a lapsed session.
+                if self.version > version:
+                    revision, version = self.last, self.version
                 self.log.line(f"over {revision} {version}")
             self.log.flush()
         if revision is None:
