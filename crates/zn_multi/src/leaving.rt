@@ -1,10 +1,10 @@
 //! What the parts of a multi leave, as far as later parts look at it. It tells, before all is looked up, whether the parts are
 //! carried out and which number a sequence node gets.
 
-ghost use Rattle.std.specs.Prelude.{◌≡◌, ◌&&◌, not, if◌then◌else◌, ◌≤◌, ◌<◌, ◌+◌, ◌^◌, ◌≤ℤ◌, pos, nat_abs, length, option_map, ◌<ℤ◌, Option, Some, None, is_some, IfOk, IfSome, IsTrue};
+ghost use Rattle.std.specs.Prelude.{◌≡◌, ◌&&◌, not, if◌then◌else◌, ◌≤◌, ◌<◌, ◌+◌, ◌^◌, ◌≤ℤ◌, pos, nat_abs, length, option_map, ◌<ℤ◌, Option, Some, None, IfOk, IfSome, IsTrue};
 ghost use Rattle.std.specs.Ordering.{int_eq};
 ghost use Rattle.zk_model.specs.Limits.{max_parts, max_path, max_version};
-ghost use Rattle.zk_model.specs.Paths.{is_path, parent as parent_of};
+ghost use Rattle.zk_model.specs.Paths.{is_path};
 ghost use Rattle.zn_layout.specs.Counts.{one_less, one_more as one_more_of};
 ghost use Rattle.zn_layout.specs.Keys.{DataKey, CountsKey, SessionKey, key_bytes};
 ghost use Rattle.zk_model.specs.Single.{matches as matches_version};
@@ -12,12 +12,12 @@ ghost use Rattle.zn_layout.specs.Records.{IsCountRec};
 ghost use Rattle.zn_view.specs.declared.leaving.NodeNow.{NodeNow as AnyNode};
 ghost use Rattle.zn_view.specs.declared.leaving.TreeChange.TheVariants as changed;
 ghost use Rattle.zn_multi.specs.Reading.{AreSmall, IfLeft};
-ghost use Rattle.zn_view.specs.Leaving.{counted as counted_as, set_once as set_once_more, node_with as node_with_change, counts_with as counts_with_change, room_with as room_with_change, node_after as node_after_all, counts_after as counts_after_all, room_after as room_after_all, with_change as with_one_change, create_change as change_of_create, delete_change as change_of_delete, set_change as change_of_set, is_checked as is_checked_in, is_owner_seen as is_owner_seen_in, are_seen as are_seen_in, IsNodeShown, AreCountsShown, IsRoomShown, IsNodeNow, AreCountsNow, IsRoomNow, IsRoomFor, NodeLeaves, DeleteLeaves, SetLeaves, CheckLeaves};
+ghost use Rattle.zn_view.specs.Leaving.{counted as counted_as, set_once as set_once_more, node_with as node_with_change, counts_with as counts_with_change, room_with as room_with_change, node_after as node_after_all, counts_after as counts_after_all, room_after as room_after_all, with_change as with_one_change, create_change as change_of_create, delete_change as change_of_delete, set_change as change_of_set, is_checked as is_checked_in, IsNodeShown, AreCountsShown, IsRoomShown, IsNodeNow, AreCountsNow, IsRoomNow, IsRoomFor, NodeLeaves, DeleteLeaves, SetLeaves, CheckLeaves};
 ghost use Rattle.zn_view.specs.Lookups.{HasSeen, sees};
 ghost use Rattle.zn_view.specs.Seen.{seen};
-ghost use Rattle.zn_view.specs.Views.{counts_of_parent};
 
 use crate::creator::{Creator, creator_id};
+use crate::looked::{are_counts_seen, is_owner_seen, is_parent_seen};
 use std::alloc::Global;
 use zk_model::Path;
 use zk_model::limit::{MAX_CREATES, MAX_VERSION};
@@ -417,31 +417,6 @@ fn matches(asked: i32, version: i64) -> bool
     asked == -1 || i64::from(asked) == version
 }
 
-/// Whether the counts of a node's parent were looked up, if it has one.
-fn is_parent_seen(alloc: Global, view: &View, path: &Path) -> Result<bool, Memory>
-    requires { length path.now ≤ max_path }
-    ensures { IfOk result (λ seen. seen ≡ are_seen_in view.now (counts_of_parent (parent_of path.now))) }
-{
-    match path.parent(alloc)? {
-        Some(parent) => {
-            let key = counts_key(alloc, parent.bytes())?;
-            Ok(view.found(key.as_slice()).is_some())
-        }
-        None => Ok(true),
-    }
-}
-
-/// Whether the list of the nodes of a node's owner was looked up, if it has an owner.
-fn is_owner_seen(alloc: Global, view: &View, node: NodeNow) -> Result<bool, Memory>
-    ensures { IfOk result (λ seen. seen ≡ is_owner_seen_in view.now node.owner) }
-{
-    if node.owner < 1 {
-        return Ok(true);
-    }
-    let key = session_key(alloc, node.owner)?;
-    Ok(view.found(key.as_slice()).is_some())
-}
-
 /// Whether a node is in the version that a delete asks for and has no children.
 fn is_deletable(version: i32, node: NodeNow, counts: CountRec) -> bool
     ensures { result ≡ (matches_version version node.version && int_eq counts.children (pos 0)) }
@@ -511,15 +486,6 @@ fn is_settable(version: i32, node: NodeNow) -> bool
     ensures { result ≡ (matches_version version node.version && not (int_eq node.version max_version)) }
 {
     matches(version, node.version) && node.version != i64::from(MAX_VERSION)
-}
-
-/// Whether a node's counts were looked up.
-fn are_counts_seen(alloc: Global, view: &View, path: &Path) -> Result<bool, Memory>
-    requires { length path.now ≤ max_path }
-    ensures { IfOk result (λ looked. looked ≡ is_some (seen view.now (key_bytes (CountsKey path.now)))) }
-{
-    let key = counts_key(alloc, path.bytes())?;
-    Ok(view.found(key.as_slice()).is_some())
 }
 
 /// The change of a setData that passes, once what it writes besides was looked up.

@@ -19,6 +19,7 @@ mod laws;
 mod laying;
 mod leaving;
 mod load;
+mod looked;
 mod reading;
 mod wanting;
 

@@ -1,5 +1,5 @@
 -- Each test decides one of the cases.
-use Rattle.std.proofs.Common.{Bool, true, false, w32, subst, sym, ap, ◌∙◌, cond}
+use Rattle.std.proofs.Common.{Bool, false, w32, subst, sym, ap, ◌∙◌, cond}
 use Rattle.std.specs.Prelude.{Option}
 use Rattle.std.proofs.lemmas.Int.{to_z-of_z}
 use Rattle.zx_base.specs.Maps.{Bytes}
