@@ -3,6 +3,7 @@ use Rattle.std.proofs.Common.{◌≡◌, ◌≢◌, ℤ, Bool, true, false, cond
 use Rattle.std.specs.declared.cmp.Ordering.TheVariants.{Less, Equal, Greater}
 use Rattle.std.specs.Cmp.Lexicographic.{nat_list_cmp_total}
 use Rattle.std.specs.List.{filter}
+use Rattle.std.specs.Prelude.{option_map}
 use Rattle.std.specs.Ordering.{int_cmp, int_eq}
 use Rattle.std.specs.BTreeMap as btree
 use Rattle.std.specs.BTreeMap.{is_at}
@@ -19,10 +20,11 @@ use Rattle.zk_model.specs.Znodes.{Tree, below, children, num_children, owned, ow
 use Rattle.zk_model.proofs.Paths.{is_child-yes, is_child-no}
 use Rattle.zk_service.proofs.Owned.{get-owned, get-owned_as, owned_by-gone}
 use Rattle.zk_machine.specs.Entries.{order, Entries, map_of}
+use Rattle.zk_machine.specs.Writes.{owner_at}
 use Rattle.zk_machine.specs.Groups.{Group, Families, Owners, family, group_of, owned_group, HasFamilies, HasOwners, HasFamily, HasOwner}
 use Rattle.zk_machine.proofs.EntryLaws.{entries-empty, entries-map, others, remove-map, sorted-where}
 use Rattle.zx_base.proofs.Booleans.{true-from_T}
-use Rattle.zx_base.proofs.Options.{cond-none}
+use Rattle.zx_base.proofs.Options.{cond-none, none_some}
 
 -- ---- keys after a change
 
@@ -69,6 +71,16 @@ module _ {X : Type 0} where
 
   pub keys-remove : (m : Map X) (k : Bytes) → keys (remove m k) ≡ other_keys k (keys m)
   keys-remove m k = ap (λ (es : Entries X). map (λ (e : Bytes × X). e.0) es) (entries-remove m k) ∙ keys-others k (entries m)
+
+  -- a key that is put again
+  put_again : (m : Map X) (k : Bytes) (old : X) → get m k ≡ Some old → insert m k old ≡ m
+  put_again m k old there = ext _ _ (λ q. ⊎_elim
+      (λ (e : q ≡ k). ap (get (insert m k old)) e ∙ get-insert_same m k old ∙ sym (ap (get m) e ∙ there))
+      (λ (a : q ≢ k). get-insert_other m k q old a)
+      (either q k))
+
+  keys-same : (m : Map X) (k : Bytes) (old v : X) → get m k ≡ Some old → keys (insert m k v) ≡ keys m
+  keys-same m k old v there = keys-insert m k v ∙ sym (keys-insert m k old) ∙ ap (λ (n : Map X). keys n) (put_again m k old there)
 
   pub len-keys : (m : Map X) → len m ≡ length (keys m)
   len-keys m = len-entries m ∙ sym (length-map (entries m) (λ (e : Bytes × X). e.0))
@@ -163,6 +175,42 @@ owners-gone t m u q n there changes has = λ id. by_owner id (int_eq n.owner id)
         ∙ ap (other_keys q) (has n.owner ∙ ap (owned t) ((Decides-int_eq n.owner id).0 e))
         ∙ sym (keys-remove (owned_by t id) q) ∙ ap (λ (x : Tree). keys x) (sym (owned_by-gone t q id))
     by_owner id false e = ap (λ (g : Group). keys g) (changes id ∙ kept _ e _ _) ∙ has id ∙ ap (λ (x : Tree). keys x) (sym (owned_by-gone_other t q n id there e))
+
+-- ---- a node in the place of another one of the same owner
+
+children-put_there : (t : Tree) (p q : Bytes) (old n : Node) → get t q ≡ Some old → children (insert t q n) p ≡ children t p
+children-put_there t p q old n there = at (is_child p q) refl
+  where
+    at : (b : Bool) → is_child p q ≡ b → children (insert t q n) p ≡ children t p
+    at false e = children-put_other t p q n e
+    at true e =
+        ap (λ (x : Tree). keys x) (retain-insert_in t (is_child p) q n e)
+        ∙ keys-same (below t p) q old n (get-retain t (is_child p) q ∙ (λ i. cond (e i) (there i) None))
+
+pub families-put_there : (t u : Tree) (m : Families) (q : Bytes) (old n : Node) → u ≡ insert t q n → get t q ≡ Some old → HasFamilies t m → HasFamilies u m
+families-put_there t u m q old n puts there has = λ p. has p ∙ sym (ap (λ (x : Tree). children x p) puts ∙ children-put_there t p q old n there)
+
+pub owners-put_there : (t u : Tree) (m : Owners) (q : Bytes) (old n : Node) → u ≡ insert t q n → get t q ≡ Some old → old.owner ≡ n.owner → HasOwners t m → HasOwners u m
+owners-put_there t u m q old n puts there same has = λ id. has id ∙ sym (ap (λ (x : Tree). owned x id) puts ∙ at id (int_eq n.owner id) refl)
+  where
+    old_at : (id : ℤ) (b : Bool) → int_eq n.owner id ≡ b → get (owned_by t id) q ≡ cond b (Some old) None
+    old_at id b e = get-owned_as t id q (Some old) there ∙ ap (λ x. cond x (Some old) None) (ap (λ (o : ℤ). int_eq o id) same ∙ e)
+
+    at : (id : ℤ) (b : Bool) → int_eq n.owner id ≡ b → owned (insert t q n) id ≡ owned t id
+    at id true e = ap (λ (x : Tree). keys x) (owned_by-put t q n id e) ∙ keys-same (owned_by t id) q old n (old_at id true e)
+    at id false e = ap (λ (x : Tree). keys x) (owned_by-put_out t q n id e ∙ remove-absent (owned_by t id) q (old_at id false e))
+
+pub groups-put_there : (t u : Tree) (fs : Families) (os : Owners) (q : Bytes) (n : Node) → u ≡ insert t q n → owner_at t q ≡ Some n.owner → HasFamilies t fs × HasOwners t os → HasFamilies u fs × HasOwners u os
+groups-put_there t u fs os q n puts owner has = at (get t q) refl
+  where
+    some_same : (a b : ℤ) → Some a ≡ Some b → a ≡ b
+    some_same a b e = cc
+
+    at : (o : Option Node) → get t q ≡ o → HasFamilies u fs × HasOwners u os
+    at None there = absurd (none_some (sym (ap (option_map (λ (x : Node). x.owner)) there) ∙ owner))
+    at (Some old) there =
+        let same : old.owner ≡ n.owner = some_same old.owner n.owner (sym (ap (option_map (λ (x : Node). x.owner)) there) ∙ owner) in
+        (families-put_there t u fs q old n puts there has.0, owners-put_there t u os q old n puts there same has.1)
 
 -- ---- a group that is put back, or is not kept any more
 

@@ -1,9 +1,8 @@
 //! Changes of a tree, which are planned on it and then carried out in place.
 
 ghost use Rattle.std.specs.Prelude.{◌≡◌, OnOk};
-ghost use Rattle.std.specs.FinMap.{get};
 ghost use Rattle.zk_model.specs.Single.{removed};
-ghost use Rattle.zk_machine.specs.Edits.{edited, edited_if, counted_create};
+ghost use Rattle.zk_machine.specs.Edits.{edited, edited_if};
 
 use crate::tree::Tree;
 use std::alloc::Global;
@@ -34,24 +33,6 @@ pub enum Edit {
 }
 
 impl Tree {
-    fn count_create(
-        &mut self,
-        alloc: Global,
-        path: Path,
-        creates: i32,
-        zxid: i64,
-    ) -> Result<(), Memory>
-        ensures { OnOk result (self.new ≡ counted_create self.old path creates zxid (get self.old path)) }
-    {
-        let Some(up) = self.take(alloc, &path)? else {
-            return Ok(());
-        };
-        let mut counted = up;
-        counted.creates = creates;
-        counted.pzxid = zxid;
-        self.put(alloc, path, counted)
-    }
-
     /// Removes a node that has no children, and sets its parent's pzxid. Without memory the tree may lack both: throw it away.
     pub fn remove(&mut self, alloc: Global, path: &Path, zxid: i64) -> Result<(), Memory>
         ensures { OnOk result (self.new ≡ removed self.old path.now zxid) }

@@ -1,9 +1,10 @@
 //! The tree of znodes, changed in place.
 
-ghost use Rattle.std.specs.Prelude.{◌≡◌, ◌<◌, ◌^◌, None, length, option_map, IfOk, OnOk};
+ghost use Rattle.std.specs.Prelude.{◌≡◌, ◌<◌, ◌^◌, None, Some, length, option_map, IfOk, OnOk};
 ghost use Rattle.std.specs.FinMap.{empty, get, insert, remove};
 ghost use Rattle.zk_model.specs.Znodes.{num_children, child_names, owned};
-ghost use Rattle.zk_machine.specs.Writes.{written, written_all};
+ghost use Rattle.zk_machine.specs.Edits.{counted_create};
+ghost use Rattle.zk_machine.specs.Writes.{owner_at, written, written_all};
 
 use crate::groups::{Families, Owners, with_child, with_owned, without_child, without_owned};
 use crate::paths::PathMap;
@@ -101,14 +102,100 @@ impl Tree {
         }
     }
 
+    /// Who owns the node at a path.
+    fn owner_at(&self, path: &[u8]) -> Option<i64>
+        ensures { result ≡ owner_at self.now path.now }
+    {
+        match self.nodes.get(path) {
+            Some(node) => Some(node.owner),
+            None => None,
+        }
+    }
+
+    /// The tree with a node at the path of another one of the same owner: no family changes, and nothing that a session owns.
+    fn with_changed(self, alloc: Global, path: Path, node: Node) -> Result<Tree, Memory>
+        requires { owner_at self path ≡ Some node.owner }
+        ensures { IfOk result (λ t. t ≡ insert self path node) }
+    {
+        let mut nodes = self.nodes;
+        nodes.put(alloc, path, node)?;
+        Ok(Tree {
+            nodes,
+            families: self.families,
+            owners: self.owners,
+        })
+    }
+
+    /// The tree with a node at the path of another one.
+    fn with_other(self, alloc: Global, path: Path, node: Node) -> Result<Tree, Memory>
+        ensures { IfOk result (λ t. t ≡ insert self path node) }
+    {
+        let (rest, _) = self.without(alloc, &path)?;
+        rest.with(alloc, path, node)
+    }
+
+    /// The tree with a node at the path, in place of the one that was there.
+    fn with_put(self, alloc: Global, path: Path, node: Node) -> Result<Tree, Memory>
+        ensures { IfOk result (λ t. t ≡ insert self path node) }
+    {
+        match self.owner_at(path.bytes()) {
+            None => self.with(alloc, path, node),
+            Some(owner) => {
+                if owner == node.owner {
+                    self.with_changed(alloc, path, node)
+                } else {
+                    self.with_other(alloc, path, node)
+                }
+            }
+        }
+    }
+
+    /// The tree with this count of creates and this pzxid at a path, if there is a node.
+    fn with_counted(
+        self,
+        alloc: Global,
+        path: Path,
+        creates: i32,
+        zxid: i64,
+    ) -> Result<Tree, Memory>
+        ensures { IfOk result (λ t. t ≡ counted_create self path creates zxid (get self path)) }
+    {
+        let mut nodes = self.nodes;
+        if let Some(up) = nodes.take(path.bytes()) {
+            let mut counted = up;
+            counted.creates = creates;
+            counted.pzxid = zxid;
+            nodes.put(alloc, path, counted)?;
+        }
+        Ok(Tree {
+            nodes,
+            families: self.families,
+            owners: self.owners,
+        })
+    }
+
     /// Puts a node at the path, in place of the one that was there. Without memory the tree may be left empty: throw it away.
     pub fn put(&mut self, alloc: Global, path: Path, node: Node) -> Result<(), Memory>
         ensures { OnOk result (self.new ≡ insert self.old path node) }
     {
         let tree = mem::replace(self, Tree::new(alloc));
-        let split = tree.without(alloc, &path)?;
-        let (rest, _) = split;
-        *self = rest.with(alloc, path, node)?;
+        *self = tree.with_put(alloc, path, node)?;
+        Ok(())
+    }
+
+    /// Sets the count of creates and the pzxid of the node at a path, if there is one. Without memory the tree may be left empty:
+    /// throw it away.
+    pub(crate) fn count_create(
+        &mut self,
+        alloc: Global,
+        path: Path,
+        creates: i32,
+        zxid: i64,
+    ) -> Result<(), Memory>
+        ensures { OnOk result (self.new ≡ counted_create self.old path creates zxid (get self.old path)) }
+    {
+        let tree = mem::replace(self, Tree::new(alloc));
+        *self = tree.with_counted(alloc, path, creates, zxid)?;
         Ok(())
     }
 
