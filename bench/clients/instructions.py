@@ -45,16 +45,16 @@ def a_set(session, port, path):
     session.ask("set", path=path, content=CONTENT, version=-1)
 
 
-def a_create_or_delete(session, port, path, flags=0):
+def a_create_or_delete(session, port, path):
     session.is_there = not getattr(session, "is_there", False)
     if session.is_there:
-        session.create(path + "/x", flags)
+        session.create(path + "/x")
     else:
         session.ask("delete", path=path + "/x", version=-1)
 
 
 def an_ephemeral(session, port, path):
-    a_create_or_delete(session, port, path, EPHEMERAL)
+    session.create(f"{path}/{session.xid}", EPHEMERAL)
 
 
 def a_sequence(session, port, path):
@@ -85,7 +85,7 @@ def a_round(session, port, path):
 
 WHAT = {"get": a_get, "set": a_set, "create": a_create_or_delete, "ephemeral": an_ephemeral, "sequence": a_sequence, "multi": a_multi,
         "connect": a_connect, "ping": a_ping, "notice": a_round}
-TOLD = {"get": "getData", "set": "setData", "create": "create and delete, each", "ephemeral": "the same of an ephemeral node",
+TOLD = {"get": "getData", "set": "setData", "create": "create and delete, each", "ephemeral": "create of an ephemeral node",
         "sequence": "sequence create", "multi": "multi of three", "connect": "connect with close", "ping": "ping",
         "notice": "notice, with its getData and setData"}
 
@@ -120,8 +120,10 @@ def main():
     etcd = Etcd(work)
     try:
         for what in sys.argv[4:] or WHAT:
-            few, many = (instructions(program, work, etcd, what, it) for it in (count, 5 * count))
-            print(f"{TOLD[what]:36s} {(many - few) / (4 * count):12,.0f}", flush=True)
+            # A session of an older program owns 40 ephemeral nodes at most.
+            least = min(count, 8) if what == "ephemeral" else count
+            few, many = (instructions(program, work, etcd, what, it) for it in (least, 5 * least))
+            print(f"{TOLD[what]:36s} {(many - few) / (4 * least):12,.0f}", flush=True)
     finally:
         etcd.end()
 
