@@ -3,8 +3,8 @@
 //! The examples are files of `data/examples`, so a new one needs no proof:
 //!
 //! - `replay/NAME.script` with `NAME.transcript`, `show/NAME.stream` with `NAME.lines`, and `judge/NAME.transcript` with
-//!   `NAME.verdict`: an input and its whole output, with `NAME.status` if the status is not 0. The input is handed over whole, and
-//!   in pieces of several sizes.
+//!   `NAME.verdict`: an input and its whole output, with `NAME.status` if the status is not 0, and `NAME.told` with what a person is
+//!   told of a line that cannot be read. The input is handed over whole, and in pieces of several sizes.
 //! - `stories/NAME.script` with `NAME.transcript`, as in `replay`, and both in words ([`zt_story`]): `NAME.transcript.words`, and
 //!   `NAME.script.words`, which has to make the same script. Lines that begin with `#` are for the reader.
 //! - `runs/NAME.run`: any other run, with other words, faults, idle turns, or an input that is too long for a file and is made by a
@@ -22,11 +22,13 @@ mod files;
 mod made;
 mod run;
 mod stories;
+mod unread;
 
 use crate::compare::first_difference;
-use crate::files::{bytes_beside, bytes_of, exists, names_in, number_of};
+use crate::files::{bytes_beside, bytes_of, exists, names_in, number_of, text_of};
 use crate::run::{Failing, Run};
 use crate::stories::{script_problem, words_problem};
+use crate::unread::Told;
 use anyhow::{Result, bail};
 use ev_shared::StoreLink;
 use ev_store::Store;
@@ -136,15 +138,31 @@ fn problem_of<R: Files + AllocGlobal>(
     to: &str,
 ) -> Result<Option<String>> {
     let input = bytes_beside(rt, path, from)?;
-    let wanted = bytes_beside(rt, path, to)?;
-    let status = status_beside(rt, path)?;
-    problem_with(
-        rt.alloc(),
-        word,
-        input.as_slice(),
-        wanted.as_slice(),
-        status,
-    )
+    let wanted = Wanted {
+        output: bytes_beside(rt, path, to)?,
+        status: status_beside(rt, path)?,
+        told: told_beside(rt, path)?,
+    };
+    problem_with(rt.alloc(), word, input.as_slice(), &wanted)
+}
+
+/// What has to come of an input.
+#[derive(Drop)]
+struct Wanted {
+    output: Vec<u8>,
+    status: u64,
+    /// What a person is told of a line that cannot be read; empty if each can be.
+    told: String,
+}
+
+/// What a person is told: nothing where no file says it.
+fn told_beside<R: Files + AllocGlobal>(rt: &R, path: &str) -> Result<String> {
+    let file = format!(in rt.alloc(); "{path}.told")?;
+    if exists(rt, file.as_str())? {
+        text_of(rt, file.as_str())
+    } else {
+        Ok(String::new(rt.alloc()))
+    }
 }
 
 /// The status that is wanted: 0 where no file says it.
@@ -162,11 +180,10 @@ fn problem_with(
     alloc: Global,
     word: &str,
     input: &[u8],
-    wanted: &[u8],
-    wanted_status: u64,
+    wanted: &Wanted,
 ) -> Result<Option<String>> {
     for size in SIZES {
-        let problem = problem_in_pieces(alloc, word, input, size, wanted, wanted_status)?;
+        let problem = problem_in_pieces(alloc, word, input, size, wanted)?;
         if problem.is_some() {
             return Ok(problem);
         }
@@ -180,20 +197,29 @@ fn problem_in_pieces(
     word: &str,
     input: &[u8],
     size: u32,
-    wanted: &[u8],
-    wanted_status: u64,
+    wanted: &Wanted,
 ) -> Result<Option<String>> {
     let mut source = source_of(alloc, input, size)?;
     let mut out = MemSink::new(alloc, Vec::new(alloc));
-    let status = plain_status(alloc, word, &mut source, &mut out)?;
-    if let Some(at) = first_difference(out.bytes(), wanted) {
+    let mut told = Told::nothing();
+    let status = plain_status(alloc, word, &mut source, &mut out, &mut told)?;
+    if let Some(at) = first_difference(out.bytes(), wanted.output.as_slice()) {
         return other_bytes(alloc, at, size);
     }
-    if u64::from(status) == wanted_status {
-        Ok(None)
-    } else {
-        other_status(alloc, u64::from(status), wanted_status)
+    if u64::from(status) != wanted.status {
+        return other_status(alloc, u64::from(status), wanted.status);
     }
+    told_otherwise(alloc, &told, wanted.told.trim_end(), size)
+}
+
+/// Says that a person is told something else, if so.
+fn told_otherwise(alloc: Global, told: &Told, wanted: &str, size: u32) -> Result<Option<String>> {
+    let text = told.text(alloc)?;
+    if text.as_str() == wanted {
+        return Ok(None);
+    }
+    let problem = format!(in alloc; "in what is told, in pieces of {size}: {text}")?;
+    Ok(Some(problem))
 }
 
 /// The number of the status of a command that does not listen.
@@ -202,8 +228,9 @@ fn plain_status(
     word: &str,
     source: &mut MemSource,
     out: &mut MemSink,
+    told: &mut Told,
 ) -> Result<u8> {
-    match plain(alloc, &[word], source, out) {
+    match plain(alloc, &[word], source, out, told) {
         Some(status) => Ok(status.number()),
         None => bail!("{word} listens"),
     }
@@ -283,7 +310,8 @@ fn verdict_in<R: Files + AllocGlobal>(rt: &R, path: &str) -> Result<Option<Strin
 fn verdict_on(alloc: Global, text: Vec<u8>) -> Result<Option<String>> {
     let mut source = MemSource::new(text, Vec::new(alloc), Vec::new(alloc));
     let mut out = MemSink::new(alloc, Vec::new(alloc));
-    let status = plain_status(alloc, "judge", &mut source, &mut out)?;
+    let mut told = Told::nothing();
+    let status = plain_status(alloc, "judge", &mut source, &mut out, &mut told)?;
     verdict_of(alloc, status, out.bytes())
 }
 

@@ -15,6 +15,7 @@ use crate::show::show;
 use crate::status::Status;
 use crate::streams::write_all;
 use crate::stress::stress;
+use crate::tells::Tells;
 use crate::words::{etcd_words, serve_words, stress_words};
 use std::alloc::Global;
 use zx_outside::{Sink, Source};
@@ -52,14 +53,15 @@ fn stress_or_refuse<O: Sink>(alloc: Global, words: &[&str], out: &mut O) -> Stat
 }
 
 /// Runs the command that `words`, the command line without the program's name, are, if it is one that neither waits nor listens:
-/// `replay`, `show`, `judge` or `stress`. It reads `input` and writes `out`. For words that are no command it writes the usage line.
-/// `None` for the words of a command that listens: nothing was read or written.
+/// `replay`, `show`, `judge` or `stress`. It reads `input` and writes `out`, and `tells` is told why a line cannot be read. For words
+/// that are no command it writes the usage line. `None` for the words of a command that listens: nothing was read or written.
 #[tactic(auto, using(crate::proofs::Servings::one_word, crate::proofs::Proxyings::one_word, crate::proofs::Stressings::one_word, crate::proofs::Stressings::not_etcd, crate::proofs::Stressings::not_serve))]
-pub fn plain<I: Source, O: Sink>(
+pub fn plain<I: Source, O: Sink, T: Tells>(
     alloc: Global,
     words: &[&str],
     input: &mut I,
     out: &mut O,
+    tells: &mut T,
 ) -> Option<Status>
     // Of `replay`, by the status: the transcript of a run to which exactly the lines that were read were applied. The run is one
     // run of the service, each conversation in it is lawful and fresh, and the verdict on its lines is lawful. Within the limits of a
@@ -97,9 +99,9 @@ pub fn plain<I: Source, O: Sink>(
     ensures unless_write_fault { IfSome result (λ s. s ≢ Status.WriteFault → O.counts out.new ≡ O.counts out.old) }
 {
     match command_of(words) {
-        Some(Command::Replay) => Some(replay(alloc, input, out)),
+        Some(Command::Replay) => Some(replay(alloc, input, out, tells)),
         Some(Command::Show) => Some(show(alloc, input, out)),
-        Some(Command::Judge) => Some(judge(alloc, input, out)),
+        Some(Command::Judge) => Some(judge(alloc, input, out, tells)),
         None => {
             if etcd_words(words).is_some() {
                 return None;

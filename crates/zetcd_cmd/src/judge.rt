@@ -12,9 +12,11 @@ ghost use Rattle.zetcd_cmd.specs.Judging.{IsReadWhole, TellsVerdict};
 use crate::replay::ROOM;
 use crate::status::Status;
 use crate::streams::{Piece, next_piece, write_all};
+use crate::tells::Tells;
 use std::alloc::Global;
 use zk_judge::{Verdict, judge as verdict_on};
 use zk_transcript::TranscriptLine;
+use zt_faults::fault_at_line;
 use zt_lines::{TranscriptFault, read_transcript};
 use zt_text::{MAX_SCRIPT, Unread, push_number, push_unread};
 use zx_base::Memory;
@@ -33,10 +35,15 @@ pub enum Reading {
     Memory,
 }
 
-/// Reads a transcript and writes the verdict on it, or the number of its first line that cannot be read.
+/// Reads a transcript and writes the verdict on it, or the number of its first line that cannot be read; then `tells` is told why.
 ///
 /// It takes the time of [`zk_judge::judge`]; all lines of the transcript are kept, but not its text.
-pub fn judge<I: Source, O: Sink>(alloc: Global, input: &mut I, out: &mut O) -> Status
+pub fn judge<I: Source, O: Sink, T: Tells>(
+    alloc: Global,
+    input: &mut I,
+    out: &mut O,
+    tells: &mut T,
+) -> Status
     ensures told { DidBetween I.ended I.given I.left O.taken (Judges result) input.old input.new out.old out.new }
     ensures read { result ≡ Status.ReadFault → Failed (I.counts input.old) (I.counts input.new) }
     ensures unless_read_fault { result ≢ Status.ReadFault → IsUnharmed (I.counts input.old) (I.counts input.new) }
@@ -45,7 +52,7 @@ pub fn judge<I: Source, O: Sink>(alloc: Global, input: &mut I, out: &mut O) -> S
 {
     let mut text = Vec::new(alloc);
     match read_text(alloc, input, &mut text) {
-        Reading::Whole | Reading::TooLong => judge_text(alloc, text, out),
+        Reading::Whole | Reading::TooLong => judge_text(alloc, text, out, tells),
         Reading::Fault => Status::ReadFault,
         Reading::Memory => Status::Memory,
     }
@@ -77,12 +84,12 @@ fn read_text<I: Source>(alloc: Global, input: &mut I, text: &mut Vec<u8>) -> Rea
 }
 
 /// Writes what is found of a text.
-fn judge_text<O: Sink>(alloc: Global, text: Vec<u8>, out: &mut O) -> Status
+fn judge_text<O: Sink, T: Tells>(alloc: Global, text: Vec<u8>, out: &mut O, tells: &mut T) -> Status
     ensures told { TellsVerdict result text.items (O.taken out.old) (O.taken out.new) }
     ensures write { result ≡ Status.WriteFault → O.counts out.new ≡ counts_after_write TookFailed (O.counts out.old) }
     ensures unless_write_fault { result ≢ Status.WriteFault → O.counts out.new ≡ O.counts out.old }
 {
-    let Ok(Finding { status, text }) = find(alloc, text) else {
+    let Ok(Finding { status, text }) = find(alloc, text, tells) else {
         return Status::Memory;
     };
     if write_all(out, text.as_slice()) {
@@ -100,17 +107,37 @@ pub struct Finding {
 }
 
 /// The lines of a transcript. The text is given back before they are judged.
-fn lines_of(alloc: Global, text: Vec<u8>) -> Result<Vec<TranscriptLine>, TranscriptFault>
+fn lines_of<T: Tells>(
+    alloc: Global,
+    text: Vec<u8>,
+    tells: &mut T,
+) -> Result<Vec<TranscriptLine>, TranscriptFault>
     ensures ok { IfOk result (λ v. transcript text.items ≡ (v.items, None)) }
     ensures err { IfErr result (IsFaultOf (transcript text.items)) }
 {
-    read_transcript(alloc, &text)
+    let lines = read_transcript(alloc, &text);
+    tell_fault(alloc, text.as_slice(), &lines, tells);
+    lines
 }
 
-fn find(alloc: Global, text: Vec<u8>) -> Result<Finding, Memory>
+/// Tells why a line of this text cannot be read, if that is what its reading came to.
+fn tell_fault<T: Tells>(
+    alloc: Global,
+    text: &[u8],
+    lines: &Result<Vec<TranscriptLine>, TranscriptFault>,
+    tells: &mut T,
+) {
+    if let Err(TranscriptFault::Unreadable { line }) = lines
+        && let Ok(Some(fault)) = fault_at_line(alloc, text, *line)
+    {
+        tells.unread(*line, fault);
+    }
+}
+
+fn find<T: Tells>(alloc: Global, text: Vec<u8>, tells: &mut T) -> Result<Finding, Memory>
     ensures { IfOk result (λ f. Finds f.status text.items f.text.items) }
 {
-    match lines_of(alloc, text) {
+    match lines_of(alloc, text, tells) {
         Ok(lines) => {
             let verdict = verdict_on(alloc, &lines)?;
             Ok(Finding {

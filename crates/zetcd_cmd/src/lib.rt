@@ -2,8 +2,8 @@
 //! `etcd` and `serve` need besides (a net, an etcd to ask, threads, a clock, random words), and returns a [`Status`]. [`plain`] is the
 //! part for the commands that need no net.
 //!
-//! The program `zetcd` hands it the process's own, and ends with the status's number. Only `serve` and `etcd` write to standard error:
-//! faults, and the session of each connection.
+//! The program `zetcd` hands it the process's own, and ends with the status's number. On standard error `serve` and `etcd` write faults,
+//! and `serve` the session of each connection; `replay` and `judge` write why a line cannot be read, which no clause speaks of.
 //!
 //! `specs/Outcomes.antt` says what each status means; for `replay` it cites `Replayed` and `Claims`, for `judge` `Judged`.
 //! `specs/Serving.antt` says the same for `etcd`, `specs/Proxying.antt` for `serve`. The other files of `specs/` are contracts between
@@ -19,9 +19,11 @@ mod show;
 mod status;
 mod streams;
 mod stress;
+mod tells;
 mod top;
 mod words;
 
 pub use command::plain;
 pub use status::Status;
+pub use tells::Tells;
 pub use top::zetcd;

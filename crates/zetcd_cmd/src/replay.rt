@@ -14,19 +14,27 @@ use crate::report::{End, Unwritten, report, status_of, write_whole};
 use crate::script::{Script, Stop};
 use crate::status::Status;
 use crate::streams::{Piece, next_piece};
+use crate::tells::Tells;
 use std::alloc::Global;
 use zp_verdict_laws::lines_are_typed;
+use zt_text::Unread;
 use zx_outside::{Sink, Source};
 
 /// The most bytes that one read takes.
 pub const ROOM: usize = 65_536;
 
 /// Runs a script to its end, or to the first line that cannot be read or is not possible, and writes the transcript. Before each
-/// read all lines of the transcript so far are written, so that whoever writes the script can go by them.
+/// read all lines of the transcript so far are written, so that whoever writes the script can go by them. If a line cannot be read,
+/// `tells` is told why.
 ///
 /// Reading and writing take time linear in the script and the transcript, and each ask time linear in the changes that the store
 /// keeps. One unfinished line, the world and its transcript are held in memory.
-pub fn replay<I: Source, O: Sink>(alloc: Global, input: &mut I, out: &mut O) -> Status
+pub fn replay<I: Source, O: Sink, T: Tells>(
+    alloc: Global,
+    input: &mut I,
+    out: &mut O,
+    tells: &mut T,
+) -> Status
     ensures told { DidBetween I.ended I.given I.left O.taken (Replays result) input.old input.new out.old out.new }
     ensures read { result ≡ Status.ReadFault → Failed (I.counts input.old) (I.counts input.new) }
     ensures unless_fault { result ≢ Status.ReadFault → result ≢ Status.WriteFault → result ≢ Status.Memory → IsUnharmed (I.counts input.old) (I.counts input.new) }
@@ -47,11 +55,21 @@ pub fn replay<I: Source, O: Sink>(alloc: Global, input: &mut I, out: &mut O) -> 
     if wants_memory(end) {
         return Status::Memory;
     }
+    tell_stop(&script, end, tells);
     let line = script.line();
     match report(alloc, &script.transcript()[written..], end, line, out) {
         Ok(()) => status_of(end, line),
         Err(Unwritten::Sink) => Status::WriteFault,
         Err(Unwritten::Memory) => Status::Memory,
+    }
+}
+
+/// Tells why the line that ended the reading cannot be read, if it was that.
+fn tell_stop<T: Tells>(script: &Script, end: End, tells: &mut T) {
+    if let End::Stopped(Stop::Unread(Unread::Unreadable)) = end
+        && let Some(fault) = script.fault()
+    {
+        tells.unread(script.line(), fault);
     }
 }
 

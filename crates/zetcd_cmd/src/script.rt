@@ -11,6 +11,7 @@ use std::alloc::Global;
 use zk_transcript::TranscriptLine;
 use zp_verdict_laws::lines_are_typed;
 use zp_world::{ApplyFault, World};
+use zt_faults::{LineFault, TOO_LONG, fault_in_script};
 use zt_text::{MAX_LINE, MAX_SCRIPT, Unread, Why, read_line};
 use zx_base::Memory;
 
@@ -39,6 +40,8 @@ pub struct Script {
     line: u64,
     /// How many more bytes a script may have.
     room: usize,
+    /// Why that line cannot be read, if it cannot: it is too long to be kept, or what was found of it.
+    fault: Option<LineFault>,
 }
 
 impl Script {
@@ -53,6 +56,7 @@ impl Script {
             pending: Vec::new(alloc),
             line: 1,
             room: MAX_SCRIPT,
+            fault: Some(TOO_LONG),
         })
     }
 
@@ -82,6 +86,11 @@ impl Script {
         ensures place { result ≤ max_place }
     {
         self.line
+    }
+
+    /// Why the next line cannot be read, once it was found so; `None` if memory was refused meanwhile.
+    pub fn fault(&self) -> Option<LineFault> {
+        self.fault
     }
 
     /// Takes the next bytes, and applies each line that ends in them. If they make the script longer than [`MAX_SCRIPT`], only
@@ -144,7 +153,7 @@ impl Script {
         ensures room { self.new.room ≡ self.old.room }
     {
         if self.pending.is_empty() {
-            return apply_line(self.alloc, bytes, &mut self.world);
+            return apply_line(self.alloc, bytes, &mut self.world, &mut self.fault);
         }
         keep(&mut self.pending, bytes)?;
         self.apply_pending()
@@ -158,7 +167,12 @@ impl Script {
         ensures line { self.new.line ≡ self.old.line }
         ensures room { self.new.room ≡ self.old.room }
     {
-        apply_line(self.alloc, self.pending.as_slice(), &mut self.world)?;
+        apply_line(
+            self.alloc,
+            self.pending.as_slice(),
+            &mut self.world,
+            &mut self.fault,
+        )?;
         self.pending.clear();
         Ok(())
     }
@@ -173,7 +187,12 @@ impl Script {
         if self.pending.is_empty() {
             return Ok(());
         }
-        apply_line(self.alloc, self.pending.as_slice(), &mut self.world)
+        apply_line(
+            self.alloc,
+            self.pending.as_slice(),
+            &mut self.world,
+            &mut self.fault,
+        )
     }
 }
 
@@ -203,8 +222,13 @@ fn keep(pending: &mut Vec<u8>, bytes: &[u8]) -> Result<(), Stop>
     }
 }
 
-/// Reads a line, and applies what it says.
-fn apply_line(alloc: Global, line: &[u8], world: &mut World) -> Result<(), Stop>
+/// Reads a line, and applies what it says. If the line cannot be read, `fault` gets why.
+fn apply_line(
+    alloc: Global,
+    line: &[u8],
+    world: &mut World,
+    fault: &mut Option<LineFault>,
+) -> Result<(), Stop>
     ensures ok { OnOk result (Plays line.now world.old world.new) }
     ensures err { IfErr result (λ stop. ScriptHalts line.now world.old stop world.new) }
 {
@@ -214,7 +238,10 @@ fn apply_line(alloc: Global, line: &[u8], world: &mut World) -> Result<(), Stop>
             Err(ApplyFault::NotPossible { why }) => Err(Stop::Refused(why)),
             Err(ApplyFault::Memory) => Err(Stop::Memory),
         },
-        Ok(None) => Err(Stop::Unread(Unread::Unreadable)),
+        Ok(None) => {
+            *fault = fault_in_script(alloc, line).unwrap_or(None);
+            Err(Stop::Unread(Unread::Unreadable))
+        }
         Err(Memory) => Err(Stop::Memory),
     }
 }

@@ -12,6 +12,7 @@ ghost use Rattle.zetcd_cmd.specs.Stressing.{IsStress, NamesStress, Stresses};
 
 use crate::command::plain;
 use crate::status::Status;
+use crate::tells::Terminal;
 use crate::words::{etcd_words, serve_words};
 use ev_call::Cluster;
 use ev_faults::{Fault, tell};
@@ -53,8 +54,9 @@ fn status_of_serve(end: ServeEnd) -> Status
 /// that are no command it writes the usage line. `etcd` and `serve` listen by `net`, have each connection served by a job that
 /// `spawner` starts, and take the time from `clock`. `serve` asks the etcd first by `cluster` and then by links that `net` dials, and
 /// gives a new session a number and a password of `random`'s words. No other command uses these. On standard error `serve` says each
-/// fault of the etcd, and both say why they could not start. The net has accepted no connection before, since it names connections by how many it has accepted, and the
-/// lines of `serve` count them from 1. Addresses of other bytes than visible ASCII are in no row of the usage line.
+/// fault of the etcd, both say why they could not start, and `replay` and `judge` why a line cannot be read. The net has accepted no
+/// connection before, since it names connections by how many it has accepted, and the lines of `serve` count them from 1. Addresses of
+/// other bytes than visible ASCII are in no row of the usage line.
 #[tactic(auto, using(crate::proofs::Servings::one_word, crate::proofs::Proxyings::one_word, crate::proofs::Proxyings::not_both, crate::proofs::Proxyings::only_serve))]
 pub fn zetcd<
     W: Wait + SystemClock + Eprint + Copy + Send + Drop + 'static,
@@ -128,7 +130,8 @@ where
     // With any other status the output had no fault.
     ensures unless_write_fault { result ≢ Status.WriteFault → O.counts out.new ≡ O.counts out.old }
 {
-    match plain(alloc, words, input, out) {
+    let mut terminal = Terminal::new(rt);
+    match plain(alloc, words, input, out, &mut terminal) {
         Some(status) => status,
         None => match etcd_words(words) {
             Some(_) => run_etcd(rt, alloc, words, out, net, spawner, clock),
