@@ -5,6 +5,10 @@ packets are not what the service gives it. This module finds which reply that is
 are not lawful, by a search with some ten runs of the judge. What was sent to such a connection from that reply on is then left out, and the
 rest is judged again, so that each connection at fault is told, in the order of time.
 
+The judge reads 100,000,000 bytes. Whether a connection's packets are lawful depends on the history and on its own lines alone. So a longer
+transcript is judged in several parts, each of which has the whole history and some of the connections: of any other, the packets are left
+out, and a frame that caused no update becomes a ping.
+
 Then it says, of the reply: its frame, what was sent between the reply before and it, how old it is, and the updates around it. Two
 experiments help to say what is wrong: one of the notifications is left out, or one that an update of that time may have given is put in. If
 the judge then finds the reply lawful, that notification was one too many, or is missing.
@@ -16,7 +20,8 @@ import sys
 from packets import is_notice
 
 ROOT = os.path.dirname(os.path.dirname(os.path.dirname(os.path.realpath(__file__))))
-MOST_FAULTS = 10
+MOST_FAULTS, MOST_BYTES = 10, 95_000_000
+PING = "000000000000000b"
 
 
 class NoProgram(Exception):
@@ -42,11 +47,10 @@ def judge(text):
 
 class Verdict:
     def __init__(self, transcript):
-        self.it, self.lines, self.faults, self.said = transcript, list(transcript.lines), [], None
-        self.dropped = []
+        self.it, self.lines, self.faults, self.dropped = transcript, list(transcript.lines), [], []
+        self.causes = {(it.number, it.index) for it in transcript.causes.found.values()}
         while len(self.faults) < MOST_FAULTS:
-            words = judge(self.it.text(self.lines))
-            self.said = self.said or words
+            words = self.judged()
             if words[0] != "unlawful" or words[1] != "connection":
                 if words[0] != "lawful":
                     self.faults.append((0, self.of_line(words)))
@@ -59,13 +63,57 @@ class Verdict:
     def is_lawful(self):
         return not self.faults and not self.it.unasked
 
-    # ---- the lines of one connection
+    # ---- parts of a transcript
 
-    def alone(self, number, end=None, lines=None):
-        """The lines of the transcript without the packets of other connections, and of this one only those before a line."""
-        some = self.lines if lines is None else lines
-        return [it for at, it in enumerate(some) if not it[0].startswith("send ")
-                or it[0].startswith(f"send {number} ") and (end is None or at < end)]
+    def judged(self):
+        """The first verdict on a part that is not lawful; or that all of them are."""
+        words = ["lawful"]
+        for group in self.groups():
+            words = judge(self.it.text(self.part(group) if group else self.lines))
+            if words != ["lawful"]:
+                break
+        return words
+
+    def groups(self):
+        """The connections by the parts in which they are judged; one None for all of them, if they fit."""
+        total = sum(len(text) + 1 for text, _ in self.lines)
+        if total <= MOST_BYTES:
+            return [None]
+        sizes = {}
+        for text, _ in self.lines:
+            what, _, rest = text.partition(" ")
+            if what in ("send", "frame"):
+                number = rest[:rest.index(" ")]
+                sizes[int(number)] = sizes.get(int(number), 0) + len(text)
+        room = MOST_BYTES - sum(len(text) + 1 for text, _ in self.part(set()))
+        groups, left = [], 0
+        for number, size in sorted(sizes.items()):
+            if not groups or size > left:
+                groups.append(set())
+                left = room
+            groups[-1].add(number)
+            left -= size
+        return groups
+
+    def part(self, group, end=None):
+        """The lines, with the packets of these connections alone, up to a line, and with pings for most frames of the others."""
+        found = []
+        for at, line in enumerate(self.lines):
+            what, _, rest = line[0].partition(" ")
+            if what == "send":
+                if int(rest[:rest.index(" ")]) in group and (end is None or at < end):
+                    found.append(line)
+            elif what == "frame":
+                number, index, zxid, _ = rest.split(" ", 3)
+                is_kept = int(number) in group or index == "0" or (int(number), int(index)) in self.causes or line[1] is None
+                found.append(line if is_kept else (f"frame {number} {index} {zxid} {PING}", line[1]))
+            else:
+                found.append(line)
+        return found
+
+    def alone(self, number, end=None):
+        """The lines with the packets of one connection alone, up to a line."""
+        return self.part({number}, end)
 
     def is_wrong(self, number, lines):
         words = judge(self.it.text(lines))
