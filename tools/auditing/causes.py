@@ -82,12 +82,15 @@ class Causes:
 
     def matched_attachments(self):
         """By revision, the connection that resumed a session by it."""
-        by_session, found = {}, {}
+        by_session, found, resuming = {}, {}, {}
+        for it in self.each():
+            if it.connect:
+                resuming.setdefault(it.connect.session, []).append(it)
         for it in self.revisions:
             if it.kind() == "attach":
                 by_session.setdefault(it.session(), []).append(it)
         for session, made in by_session.items():
-            mine = [it for it in self.each() if it.connect and it.connect.session == session]
+            mine = resuming.get(session, [])
             numbers = [it.number for it in made]
             welcomed = {it.number: self.attachments_of(it, made, numbers) for it in mine if it.welcome and it.welcome[0]}
             matched = matching(welcomed)
