@@ -216,8 +216,8 @@ def spoil(program, planted, work, name, kind=None):
         clients = [history.Client(record.ports, number, is_over, known) for number in range(4)]
         for it in clients:
             it.start()
-        end = time.time() + 20
-        while time.time() < end and not (spoiler and spoiler.done) and not (kind is None and time.time() > end - 15):
+        end = time.time() + (90 if kind else 5)  # on a busy machine it takes long until there is something to spoil
+        while time.time() < end and not (spoiler and spoiler.done):
             time.sleep(0.05)
         time.sleep(0.5)
         is_over.set()

@@ -10,7 +10,7 @@ GET, SET, PING = 4, 5, 11
 class Spoiler:
     """Passes frames and packets on, one by one. A kind of spoiler overrides `frame` and `packet`, which give what is passed on."""
 
-    def __init__(self, port, after=20):
+    def __init__(self, port, after=4):
         self.port, self.after, self.done, self.lock, self.count = port, after, None, threading.Lock(), 0
         self.listener = socket.create_server(("127.0.0.1", 0), backlog=100)
         self.address = f"127.0.0.1:{self.listener.getsockname()[1]}"
