@@ -4,7 +4,7 @@ import socket
 import struct
 import threading
 
-GET, SET, PING = 4, 5, 11
+GET, SET = 4, 5
 
 
 class Spoiler:

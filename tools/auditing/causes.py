@@ -1,7 +1,7 @@
 """Which connection and which of its requests caused each update.
 
-A reply that says that its own update was made names it: its zxid is the revision. A welcome names its session. Beyond that an update is
-nobody's yet, and it is looked for what may have caused it:
+A reply that says that its own update was made names it: its zxid is the revision. A welcome names its session. For every other update,
+this module looks for what may have caused it:
 
 - the attachment of a session: a connect that named the session, which came before the update. Of several, one whose replies fit: what
   was read off the tree was read after that attachment and before the next, unless it says that the session has moved, and a first reply
@@ -171,7 +171,7 @@ class Causes:
             it = self.streams.connections.get(number)
             if it is None or session not in self.service.lives:
                 continue
-            shown = bisect.bisect_left(it.answers, revision.number, key=lambda answer: answer.reply.zxid)
+            shown = bisect.bisect_left(it.zxids, revision.number)
             for index in range(max(1, shown - MOST_ANSWERED), bisect.bisect_right(it.times, revision.time)):
                 request, answer = it.requests[index], it.answer_of(index)
                 if request and request.kind in UPDATES and did(revision, self.service.effect(session, request.parts)):

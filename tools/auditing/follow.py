@@ -129,7 +129,7 @@ class Follower:
             self.is_lost, self.next = True, floor
 
     def finish(self):
-        """Waits for what etcd has by now, and writes the last line. Gives what is missing, in words; None where nothing is."""
+        """Waits for what etcd has by now, and writes the last line. Gives what is missing, in words; None if nothing is."""
         end, revision, found = time.monotonic() + PATIENCE, None, []
         while revision is None and time.monotonic() < end:
             try:

@@ -108,7 +108,7 @@ class Service:
 
     def effect(self, session, parts):
         """What these parts do, asked by this session: the triggers, and what each path holds then as data, version and owner (None: no
-        node). None where one of them is refused."""
+        node). None if one of them is refused."""
         seen, creates, triggers = {}, {}, []
 
         def find(path):
@@ -152,8 +152,8 @@ def did(revision, effect):
 
 
 class Revisions:
-    """The revisions of a record. `start` is the service as the record begins, `first` the first revision that belongs to the record's
-    own time; `notes` says in words what is missing, and `end` is the last revision before that."""
+    """The revisions of a record, `all`. If it begins with keys, these are `before`, as of revision `start`. `first` is the first revision
+    that belongs to the record's own time, and `notes` says in words what is missing."""
 
     def __init__(self, folder):
         self.start, self.all, self.notes, self.first, self.is_over, self.before = None, [], [], 0, False, {}

@@ -7,9 +7,7 @@ A frame that cannot be read is a request of the kind None. Paths and data are by
 import struct
 from collections import namedtuple
 
-CREATE, DELETE, EXISTS, GET, SET, PING, CHECK, MULTI, CREATE2 = 1, 2, 3, 4, 5, 11, 13, 14, 15
-CHECK_WATCHES, REMOVE_WATCHES, AUTH, SET_WATCHES, CLOSE = 17, 18, 100, 101, -11
-GET_ACL, CHILDREN, SYNC, CHILDREN2 = 6, 8, 9, 12
+CREATE, DELETE, SET, PING, MULTI, CREATE2, CHECK_WATCHES, REMOVE_WATCHES, AUTH, CLOSE = 1, 2, 5, 11, 14, 15, 17, 18, 100, -11
 UPDATES = (CREATE, DELETE, SET, MULTI, CREATE2)
 EPHEMERAL, SEQUENCE = 1, 2
 SESSION_EXPIRED, SESSION_MOVED, BAD_ARGUMENTS = -112, -118, -8
@@ -74,7 +72,7 @@ def connect_of(frame):
 
 
 def welcome_of(packet):
-    """The session that the answer to a connect gives, with its password; 0 where it was refused."""
+    """The session that the answer to a connect gives, with its password; 0 if it was refused."""
     try:
         it = Reader(packet, 4)
         _timeout, session = it.take("iq")
@@ -124,7 +122,7 @@ def is_notice(packet):
 
 
 def reply_of(packet, request):
-    """What is at the head of a reply, and whether it says that the request's own update was made; None where it is no reply."""
+    """What is at the head of a reply, and whether it says that the request's own update was made; None if it is no reply."""
     if len(packet) < 16:
         return None
     xid, zxid, error = struct.unpack_from(">iqi", packet)

@@ -15,6 +15,8 @@ from follow import Follower
 from records import Log
 from relay import Relays
 
+LATE = 5_000_000  # microseconds until it is said that etcd is not followed yet
+
 
 def follow(endpoints, path, clock, is_begun, is_over):
     """The process that follows etcd."""
@@ -51,7 +53,11 @@ def record(endpoints, pairs, folder, seconds):
     path = os.path.join(folder, "revisions")
     follower = context.Process(target=follow, args=(endpoints, path, clock, is_begun, is_over), daemon=True)
     follower.start()
+    is_late = False
     while not is_begun.wait(0.2):
+        if not is_late and clock() > LATE:
+            is_late = True
+            print(f"audit: etcd cannot be followed yet, and is tried again; the lines `said` of {path} say why", file=sys.stderr)
         if stopped or not follower.is_alive():
             follower.kill()
             print("audit: etcd could not be followed: nothing is recorded", file=sys.stderr)
@@ -60,7 +66,7 @@ def record(endpoints, pairs, folder, seconds):
     try:
         relays = Relays(pairs, log)
     except OSError as wrong:
-        print(f"audit: cannot listen: {wrong}", file=sys.stderr)
+        print(f"audit: {wrong}", file=sys.stderr)
         follower.kill()
         return 1
     print(f"recording {' '.join(f'{it[0]}:{it[1]}' for it, _ in pairs)}", flush=True)

@@ -11,8 +11,8 @@ keys, every number of them included:
   to be done first. A multi has room for 24 parts. The real history had no more room, so there is enough.
 
 The parts are asked for by connections that were not recorded (`unrecorded`): an ephemeral node's by its session's, any other by one that is
-open then; if there is none, by that of a session that is made up, and so is one whose start is the last update if nothing shows what that
-was. A made-up session stays open to the end, and nobody sees it. Whose lease has lapsed gets its line `lapse` at the end.
+open then. If none is open, a session is made up. If nothing shows what the last update was, it is the start of a made-up session. Such a
+session stays open to the end, and nobody sees it. A session whose lease has lapsed gets its line `lapse` at the end.
 """
 import heapq
 from collections import defaultdict

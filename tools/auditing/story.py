@@ -14,7 +14,7 @@ MOST_TRIALS, AROUND = 60, 4
 
 
 def in_words(lines):
-    """These lines of a transcript, each in words; as they are where the program is not built."""
+    """These lines of a transcript, each in words; as they are if that program is not built."""
     from verdict import NoProgram, program_of
     try:
         text = "".join(f"{it}\n" for it in lines).encode()
@@ -148,7 +148,7 @@ class Story:
         return found or self.trials() or [self.otherwise()]
 
     def otherwise(self):
-        """What is left to say where nothing else is."""
+        """What is left to say if nothing else is."""
         paths = sorted(paths_in(self.connection.frames[self.index])) if self.index else []
         for path in paths:
             last = max((it for it in self.updates.numbers if it <= self.zxid and path in self.updates.paths(it)), default=None)

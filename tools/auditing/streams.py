@@ -9,7 +9,7 @@ Replies are counted: the first packet answers the connect, and of the others tha
 """
 from collections import namedtuple
 
-from packets import Cutter, MAX_FRAME, connect_of, has_moment, is_notice, reply_of, request_of, welcome_of
+from packets import CLOSE, Cutter, MAX_FRAME, connect_of, has_moment, is_notice, reply_of, request_of, welcome_of
 from records import from_hex, lines_of
 
 Item = namedtuple("Item", "what number index data time")
@@ -21,7 +21,7 @@ class Connection:
     def __init__(self, number, proxy, address):
         self.number, self.proxy, self.address = number, proxy, address
         self.frames, self.places, self.times, self.requests = [], [], [], []
-        self.packets, self.answers, self.welcome, self.welcomed_at = 0, [], None, None
+        self.packets, self.answers, self.zxids, self.welcome, self.welcomed_at = 0, [], [], None, None
         self.cutters = {">": Cutter(MAX_FRAME), "<": Cutter(MOST_PACKET)}
         self.ended, self.is_closed, self.connect = [], False, None
 
@@ -38,7 +38,7 @@ class Connection:
         if fault:
             return f"length {fault[0]} {fault[1]}"
         last = self.answers[-1] if self.answers else None
-        if last and last.reply.updates and self.requests[last.index].kind == -11:
+        if last and last.reply.updates and self.requests[last.index].kind == CLOSE:
             return "closed"
         if self.ended[:1] == ["client"]:
             return f"client {self.cutters['>'].place + len(self.cutters['>'].kept)}"
@@ -99,7 +99,9 @@ class Streams:
         if it.packets == 0:
             it.welcome, it.welcomed_at = welcome_of(whole), place
         elif not is_notice(whole):
-            request = it.requests[index] if index < len(it.requests) else request_of(b"")
+            request = it.requests[index] if index < len(it.requests) else None
+            request = request or request_of(b"")
             reply = reply_of(whole, request)
             if reply:
                 it.answers.append(Answer(index, place, reply, has_moment(request, reply)))
+                it.zxids.append(reply.zxid)

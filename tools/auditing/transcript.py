@@ -5,8 +5,8 @@ number that the relays gave it, its proxy the place of the relay in the command;
 of these, at proxy 0. A connection that began no session offers one of number 1, which means nothing. `close` says `client`, `closed`
 or `length` if the streams show as much, and otherwise `link`, whatever it was: the judge does not look at it.
 
-The time of an update is that of the nodes that it wrote, which clients see in a Stat. Where it wrote none, the time is in the reply or
-means nothing, and is that of the update before.
+The time of an update is that of the nodes that it wrote, which clients see in a Stat. If it wrote none, the time is in the reply, or
+means nothing and is that of the update before.
 """
 from causes import Causes
 from keys import Revisions, Service

@@ -91,7 +91,7 @@ class Unrecorded:
         return number and (number, self.asks(number, zxid, struct.pack(">ii", 1, CLOSE)))
 
     def asked(self, zxid, revision):
-        """Who asked for this update, and by which frame; None where no such connection may have."""
+        """Who asked for this update, and by which frame; None if no such connection may have."""
         nodes = [node_of(put.value, revision.number) for _, put in revision.of(b"zk/d/") if put]
         last = self.order[-1] if self.order else None
         owner = next((it.owner for it in nodes if it.owner and it.czxid == revision.number), last)

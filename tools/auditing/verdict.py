@@ -5,7 +5,7 @@ packets are not what the service gives it. This module finds which reply that is
 are not lawful, by a search with some ten runs of the judge. What was sent to such a connection from that reply on is then left out, and the
 rest is judged again, so that each connection at fault is told, in the order of time.
 
-The judge reads 100,000,000 bytes. Whether a connection's packets are lawful depends on the history and on its own lines alone. So a longer
+The judge reads at most 100,000,000 bytes. Whether a connection's packets are lawful depends on the history and on its own lines alone. So a longer
 transcript is judged in several parts, each of which has the whole history and some of the connections: of any other, the packets are left
 out, and a frame that caused no update becomes a ping.
 
@@ -28,6 +28,10 @@ class NoProgram(Exception):
     """A program is not built."""
 
 
+class NoVerdict(Exception):
+    """The judge did not judge a transcript."""
+
+
 def program_of(name, variable):
     wanted = [os.environ.get(variable), f"{ROOT}/crates/{name}/out/{name}", f"{ROOT}/out/native/{name}"]
     found = next((it for it in wanted if it and os.access(it, os.X_OK)), None)
@@ -41,7 +45,10 @@ def judge(text):
     made = subprocess.run([program_of("zetcd", "ZETCD"), "judge"], input=text.encode(), capture_output=True, check=False)
     words = made.stdout.decode().split()
     if made.returncode not in (0, 3, 8) or not words:
-        raise NoProgram(f"the judge ended with status {made.returncode}: {made.stderr.decode().strip()}")
+        raise NoVerdict(f"the judge ended with status {made.returncode}: {made.stderr.decode().strip()}")
+    if words[0] == "fault":
+        raise NoVerdict(f"the judge cannot read line {words[1]} of a transcript of {len(text):,} bytes. It reads 100,000,000, and 2,200,000 of a"
+                        " line: record for a shorter time, and without longer packets")
     return words
 
 
@@ -158,8 +165,6 @@ class Verdict:
     def of_line(self, words):
         """The words of a verdict that names a line."""
         from story import line_words
-        if words[0] == "fault" or len(words) < 3:
-            return f"the transcript cannot be read: {' '.join(words)}"
         return line_words(self, words[1], int(words[2]) - 1)
 
     def words(self):
@@ -184,7 +189,7 @@ def verdict(folder, has_others):
     it = Transcript(folder, has_others)
     try:
         found = Verdict(it)
-    except NoProgram as wrong:
+    except (NoProgram, NoVerdict) as wrong:
         print(f"audit: {wrong}", file=sys.stderr)
         return 1
     print(found.words())
