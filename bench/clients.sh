@@ -1,11 +1,11 @@
 #!/usr/bin/env bash
-# Tries `zetcd serve` with real clients on a real etcd: kazoo, ZooKeeper's Java and C clients, zkCli and Apache Curator, over two
-# proxies on the loopback. Proxies are killed, etcd is restarted, compacted and filled, and clients are stopped until their sessions have
-# lapsed. Members of an etcd of three are killed and cut off from the others, and a backup of etcd is restored. An older program, if OLD
-# names one, is upgraded to this one. Clients under all these faults are recorded by `tools/audit`, and what it recorded is judged. Prints
-# a line for each check, and ends with status 0 where all hold. Ends what it started. Takes about fifteen minutes; with words, only the
-# parts that they name (basics faults ends history members restore upgrade, and recorded for what of `faults` is recorded). AUDIT_SECONDS
-# and AUDIT_SEED are for the record, see clients/recorded.py.
+# Tries `zetcd serve` with real clients on a real etcd: kazoo, ZooKeeper's Java and C clients, zkCli and Apache Curator, over two proxies on
+# the loopback. Proxies are killed, etcd is restarted, compacted and filled, and clients are stopped until their sessions have lapsed.
+# Members of an etcd of three are killed and cut off from the others, and a backup of etcd is restored. An older program, if OLD names one,
+# is upgraded to this one. Clients under kills, stops and cuts are recorded by `tools/audit`, and what it recorded is judged. Prints a line
+# for each check, and ends with status 0 if all hold. Ends what it started. Takes about fifteen minutes; with words, only the parts that
+# they name (basics faults ends history members restore upgrade, and recorded for what of `faults` is recorded). AUDIT_SECONDS and
+# AUDIT_SEED are for the record, see clients/recorded.py.
 #
 #     bench/clients.sh [--install] [PART..]          ZETCD=PROGRAM: another program than the one that `./run` builds
 #                                                    OLD=PROGRAM: one whose sessions own at most 40 ephemeral nodes
