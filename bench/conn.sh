@@ -1,6 +1,6 @@
 #!/usr/bin/env bash
 # Serves pings and then getDatas, which come together, to one connection over a store in memory, and replays the same frames in a
-# world, which also reads a script and writes a transcript. `conn.sh COUNT` (100,000 where it is left out) prints how many thousand
+# world, which also reads a script and writes a transcript. `conn.sh COUNT` (100,000 if it is left out) prints how many thousand
 # frames a second each took, the best of three runs. Asserts nothing.
 set -eu
 here=$(cd "$(dirname "$0")/.." && pwd)

@@ -2,8 +2,8 @@
 # Drives a replay through a pipe: each next line of the script depends on what the lines before it led to. Two clients count on one
 # node: a client reads the counter with its version and sets it at that version; at each third turn the other client does so in between,
 # and the first is refused and reads again. Each reply has to come while the script is still open, within ten seconds. Then an
-# impossible line ends the script. Fails where a line does not come, comes twice or is not the expected one, where the status is
-# not 3, or where the whole output is not judged lawful. Prints how long a request takes from the script's line to the reply.
+# impossible line ends the script. Fails if a line does not come, comes twice or is not the expected one, if the status is
+# not 3, or if the whole output is not judged lawful. Prints how long a request takes from the script's line to the reply.
 #
 #     bench/drive.sh [TURNS]          ZETCD=PROGRAM: another program than the one that `./run` builds
 set -eu

@@ -1,7 +1,7 @@
 #!/usr/bin/env bash
 # Sends the same asks to a real etcd 3.4 and to `zetcd etcd`, and compares what they answer: as they stand, and as a link of this
 # workspace reads them. Then counts guarded updates a second at 1, 16 and 128 connections, of both by turns. Both listen on the loopback
-# and are new; the real one keeps its log in a temporary folder. Fails where an answer differs in what docs/DECISIONS.md does not list, or
+# and are new; the real one keeps its log in a temporary folder. Fails if an answer differs in what docs/DECISIONS.md does not list, or
 # an update is not carried out. Of the speed it asserts nothing.
 #
 #     bench/etcd.sh [--install] [SECONDS]          for each count, 5 if left out. ZETCD=PROGRAM and LINK=PROGRAM: another zetcd, and another

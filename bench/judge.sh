@@ -3,7 +3,7 @@
 # watch for each eight writes, whose notice is told later. Once the writes are of 64 nodes, so that the tree is small; once
 # they are creates of N nodes below 16 others; and once, of these, each eighth is the first part of a transaction, of which the
 # second part fails or does not in turn. Then 10,000 writes of 64 nodes on 16, 256 and 4,096 connections, once with those reads
-# and once without any watch. Prints processor seconds and peak kilobytes, and fails where a transcript is not judged lawful or a
+# and once without any watch. Prints processor seconds and peak kilobytes, and fails if a transcript is not judged lawful or a
 # peak is above its bound. Of time it asserts nothing.
 #
 # Then one connection that arms N watches, each by a request of its own and on a path of its own, while another connection writes

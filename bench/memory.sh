@@ -8,11 +8,11 @@
 # allocation has a number differs from run to run.
 #
 # Prints a line for each sweep, with the number of runs that ended in each way, names each run that ended otherwise, and ends with status 0
-# where there is none. Takes about ten minutes on four processors.
+# if there is none. Takes about ten minutes on four processors.
 #
 #     bench/memory.sh [--install] [PART | NAME]..    the parts examples, rows, load, etcd and serve, and sweeps by name (`replay/empty`)
 #
-# ZETCD, CONN_ROWS and HUB_ROWS name other programs than those that are built in crates/; the rows are passed over where they are not.
+# ZETCD, CONN_ROWS and HUB_ROWS name other programs than those that are built in crates/; the rows are passed over if they are not.
 # JOBS: how many runs at once. EVERY=N: each Nth allocation alone.
 set -eu
 here=$(cd "$(dirname "$0")/.." && pwd)

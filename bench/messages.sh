@@ -5,7 +5,7 @@
 # many short runs, taken by turns, and how many times as fast ev_json is. Of this it asserts nothing. Reading stands beside another
 # figure of the kit too: its serde_json's parser, which builds a tree of values, and its base64's decoder alone.
 # Then reads bodies of some 8,388,608 bytes that are hostile, and prints seconds and peak kilobytes of the whole program, which
-# holds the body too. Fails where a body is refused for another reason, or a peak is above its bound.
+# holds the body too. Fails if a body is refused for another reason, or a peak is above its bound.
 # usage: bench/messages.sh [ASKS]    so many asks of 236 bytes in all, 1,000,000 if left out; fewer of the longer ones
 set -eu
 here=$(cd "$(dirname "$0")/.." && pwd)

@@ -3,7 +3,7 @@
 # connections, N setDatas of one path, each planned on a kept view, one setWatches of N exist paths of absent nodes, one frame that
 # comes a byte a line, transcripts of some 10 and 100 million bytes, once of setDatas of 64 nodes and once of pings, and scripts of
 # tick lines, which show that reading a script is linear and keeps one line. Prints processor seconds and peak kilobytes, and fails
-# where a peak is above its bound or a status is another one. Of time it asserts nothing. A peak is never below that of the Python
+# if a peak is above its bound or a status is another one. Of time it asserts nothing. A peak is never below that of the Python
 # that starts the program, some 14,000 kB.
 #
 # ZETCD names another program to measure, and REPLAY_RUNS picks `requests`, `sets`, `watches`, `pieces`, `sizes` or `ticks`

@@ -1,8 +1,8 @@
 #!/usr/bin/env bash
 # How long the etcd in memory takes: N transactions that put a key each, N that read one key each, the events of the later half, and
 # one range of all keys at the revision that had half of them. `store.sh N..` prints the seconds of each, and those of the 2 N
-# transactions and the range together; without a number those of 25,000, 50,000 and 100,000 keys. Fails where a call met another
-# number of keys, and where 100,000 keys or fewer take more than LIMIT seconds together: 3, where nothing else is named.
+# transactions and the range together; without a number those of 25,000, 50,000 and 100,000 keys. Fails if a call met another
+# number of keys, and if 100,000 keys or fewer take more than LIMIT seconds together: 3, if nothing else is named.
 #
 # STORE_PROGRAM names another program to measure.
 set -eu

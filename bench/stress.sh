@@ -1,6 +1,6 @@
 #!/usr/bin/env bash
 # How long a stress takes, and how much memory: schedules of the number 7, of more and more steps, on 16 and on 256 connections.
-# Prints seconds, peak kilobytes and the summary, and fails where a second run writes something else or a status is not 0. Of time
+# Prints seconds, peak kilobytes and the summary, and fails if a second run writes something else or a status is not 0. Of time
 # it asserts nothing. A peak is never below that of the Python that starts the program, some 14,000 kB.
 set -eu
 here=$(cd "$(dirname "$0")/.." && pwd)

@@ -69,7 +69,7 @@ def sentence_of(wrong):
 
 
 def rt_says(word):
-    """What `rt` prints at this word, as bytes. Where there is no `rt`, or it fails, the program says so and ends with status 1."""
+    """What `rt` prints at this word, as bytes. If there is no `rt`, or it fails, the program says so and ends with status 1."""
     try:
         return subprocess.run(["rt", word], stdout=subprocess.PIPE, check=True).stdout
     except FileNotFoundError:
@@ -97,7 +97,7 @@ def kit():
 
 
 def library_of(folder):
-    """The module that the kit's `rt` is made of. No part of it is promised to stay as it is; ImportError where there is none."""
+    """The module that the kit's `rt` is made of. No part of it is promised to stay as it is; ImportError if there is none."""
     sys.dont_write_bytecode = True
     loader = importlib.machinery.SourceFileLoader("rtlib", f"{folder}/bin/rtlib.py")
     module = importlib.util.module_from_spec(importlib.util.spec_from_loader("rtlib", loader))
@@ -110,7 +110,7 @@ def library_of(folder):
 
 
 def text_of(path):
-    """What a file holds; None where there is no such file."""
+    """What a file holds; None if there is no such file."""
     try:
         with open(path, encoding="utf-8") as it:
             return it.read()

@@ -155,7 +155,7 @@ class Proxy:
         self.process.send_signal(how)
 
     def status(self, seconds=15):
-        """The status with which it ends by itself; None where it does not in this time."""
+        """The status with which it ends by itself; None if it does not in this time."""
         try:
             return self.process.wait(seconds)
         except subprocess.TimeoutExpired:

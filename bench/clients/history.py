@@ -177,7 +177,7 @@ def random_op(dice):
 
 
 class Client(threading.Thread):
-    """One connection after the other, in one session where it can be resumed."""
+    """One connection after the other, in one session if it can be resumed."""
     def __init__(self, ports, seed, is_over, known):
         super().__init__(daemon=True)
         self.ports, self.dice, self.is_over, self.known = ports, random.Random(seed), is_over, known
@@ -306,7 +306,7 @@ def parent_of(path):
 
 
 def refusal(history, zxid, op):
-    """The error of this single request in the state at this zxid; 0 where it succeeds."""
+    """The error of this single request in the state at this zxid; 0 if it succeeds."""
     kind, path = op["kind"], op["path"]
     node = history.node(zxid, path)
     if kind == "create":

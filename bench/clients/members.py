@@ -32,7 +32,7 @@ def three_members(program, work):
 
 
 class Direct(threading.Thread):
-    """A client of etcd itself: puts a key again and again, and goes on to the next member where one does not answer."""
+    """A client of etcd itself: puts a key again and again, and goes on to the next member if one does not answer."""
 
     def __init__(self, etcd, is_over):
         super().__init__()

@@ -68,7 +68,7 @@ def clients_that_read_nothing(program, work):
             last = time.time() - since if len(found) == 32 else None
             time.sleep(1)
         is_over.set()
-        # Where the system takes a few bytes after a while, the session may lapse in between.
+        # If the system takes a few bytes after a while, the session may lapse in between.
         assert last and {cause.split()[0] for cause in found} <= {"write", "expired"}, found
         assert first > 25, (first, last)
         it.bounds(32 * 6 + 30, 60)
@@ -156,8 +156,8 @@ def clients_that_send_a_byte_a_second(program, work):
 
 
 def frames_of_1_MB_on_all_connections(program, work):
-    """255 clients make a node of 1 MB each at once. Where the etcd takes longer than their timeout for that, their sessions lapse, and
-    where it takes longer than a minute, their links end."""
+    """255 clients make a node of 1 MB each at once. If the etcd takes longer than their timeout for that, their sessions lapse, and
+    if it takes longer than a minute, their links end."""
     with staged(program, work) as it:
         def harm(number):
             client = Client(it.port, timeout=40_000, seconds=240)
@@ -186,7 +186,7 @@ def frames_of_1_MB_on_all_connections(program, work):
 
 def frames_of_1_MB_that_spell_nothing(program, work):
     """255 clients, or as many as get a session within two minutes, send four frames of 1 MB each at once, which spell no request, and read
-    that they do not. Of etcd they want a session and keepalives alone; where it has no time for these, their links or sessions end."""
+    that they do not. Of etcd they want a session and keepalives alone; if it has no time for these, their links or sessions end."""
     with staged(program, work) as it:
         frame = create(b"/none", b"x" * (MOST - 9 - len(create(b"/none")))) + b"x"
         assert len(frame) + 8 == MOST
@@ -313,7 +313,7 @@ def nodes_with_many_children(program, work):
 
 def updates_with_the_longest_entries(program, work):
     """4,400 multis of 12 creates and 12 deletes of paths of 1,020 bytes: the hub keeps the last 4,096 of their entries. An etcd without
-    the processor time for that carries out as many as it can within four minutes. Where it takes longer for one than a session's timeout
+    the processor time for that carries out as many as it can within four minutes. If it takes longer for one than a session's timeout
     or a link's patience, its client begins another session."""
     with staged(program, work) as it:
         counts, ends, since = [0] * 16, [0] * 16, time.time()

@@ -109,7 +109,7 @@ class Relay:
         raise Over()
 
     def forget(self):
-        """The streams of watches are gone without a word, as where a host has lost its power: nothing is sent, and nobody answers."""
+        """The streams of watches are gone without a word, as if a host had lost its power: nothing is sent, and nobody answers."""
         for it in self.watches:
             it.setsockopt(socket.IPPROTO_TCP, TCP_REPAIR, 1)
             os.close(it.detach())
