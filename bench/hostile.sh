@@ -4,7 +4,7 @@
 # garbage. A real etcd and all of these run on the loopback. Of each it checks that the memory and the processor time of the server stay
 # within a bound, that another client is served meanwhile, and that the connection ends for the cause that docs/OPERATIONS.md names.
 # Then: a table of descriptors that is full, and empty again; a thousand sessions that lapse; a proxy that falls behind. Prints a line
-# for each check, with what was measured, and ends with status 0 where all hold. Names the Debian packages that are missing, and installs
+# for each check, with what was measured, and ends with status 0 if all hold. Names the Debian packages that are missing, and installs
 # them if told so by `--install` (as root). It ends what it started. Takes about half an hour and some 3 GB; with words, only the parts
 # (clients floods descriptors lapses behind etcds watches memory) and the checks that they name.
 #

@@ -1,6 +1,6 @@
 #!/usr/bin/env bash
 # How fast `zetcd show` is, and how much memory it takes: a stream of 95 MB of mixed requests, beside `xxd -p` of the same
-# file. Prints the best of five runs of each in seconds, and the peak kilobytes; then a stream of 100,000,001 bytes. Fails where
+# file. Prints the best of five runs of each in seconds, and the peak kilobytes; then a stream of 100,000,001 bytes. Fails if
 # our peak is above its bound: a frame, a piece and the text of a piece are kept, and not the stream. Of time it asserts
 # nothing. A peak is never below that of the Python that starts the program, some 14,000 kB.
 set -eu

@@ -228,7 +228,7 @@ def sessions_that_lapse_after_a_fault(program, work):
 
 
 def looks_for_lapsed_sessions(program, work):
-    """What a proxy asks, and what it and etcd take, where nobody asks it for anything: with no session, and with 5,000 that live."""
+    """What a proxy asks, and what it and etcd take, if nobody asks it for anything: with no session, and with 5,000 that live."""
     etcd = Etcd(work, "--quota-backend-bytes", "8589934592", "--log-level", "error")
     proxy = None
     try:

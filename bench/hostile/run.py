@@ -19,7 +19,7 @@ PARTS = {"clients": clients.checks, "floods": floods.checks, "descriptors": desc
 
 
 def main():
-    # Where memory runs out, these processes go first.
+    # If memory runs out, these processes go first.
     with open("/proc/self/oom_score_adj", "w") as score:
         score.write("1000")
     _soft, hard = resource.getrlimit(resource.RLIMIT_NOFILE)

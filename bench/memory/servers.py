@@ -65,7 +65,7 @@ class Server:
 
 
 def kind_of(status):
-    """The kind of an end that a server may have; where the system's own calls find no memory, a door, a dial or a thread fails."""
+    """The kind of an end that a server may have; if the system's own calls find no memory, a door, a dial or a thread fails."""
     kinds = {0: "served on", 7: "status 7", 6: "status 6"}
     if status not in kinds:
         raise Wrong(f"status {status}")
@@ -106,7 +106,7 @@ STATES = [set(), {"YQ==", "Yg=="}, {"YQ==", "Yw=="}]
 
 
 def asked(port, route, body):
-    """The status and the body of an answer, over a connection of its own, as curl asks; None where it was closed before a whole answer."""
+    """The status and the body of an answer, over a connection of its own, as curl asks; None if it was closed before a whole answer."""
     try:
         stream = dial(port, seconds=PATIENCE)
     except ConnectionError:

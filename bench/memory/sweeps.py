@@ -34,8 +34,8 @@ class Ends:
 
 
 def sweep(run, name, words, stdin, judge, wanted=None, status=0, folder=None):
-    """Runs a program so. `wanted` and `status` are what it writes and ends with where nothing is refused; `judge` gives the kind of an end,
-    from its status, how its output stands to that of the whole run, and what standard error said, or None where it is wrong."""
+    """Runs a program so. `wanted` and `status` are what it writes and ends with if nothing is refused; `judge` gives the kind of an end,
+    from its status, how its output stands to that of the whole run, and what standard error said, or None if it is wrong."""
     ends, report = Ends(name), os.path.join(run.work, name.replace("/", "-"))
     environment = {**os.environ, "LD_PRELOAD": run.library, "REFUSE_SWEEP": report, "REFUSE_EVERY": str(run.every)}
     with open(stdin, "rb") as source:

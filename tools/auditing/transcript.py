@@ -61,7 +61,7 @@ class Transcript:
         self.lines.append(("done", None))
 
     def known_ends(self):
-        """Where not all revisions are known: the place, by connection, from which its packets may show what is not."""
+        """If not all revisions are known: the place, by connection, from which its packets may show what is not."""
         found = {}
         for it in self.streams.connections.values() if self.revisions.notes else []:
             last = it.welcomed_at or 0
