@@ -1,6 +1,6 @@
 //! Puts keys with a guard each, over HTTP to etcd's JSON gateway, and prints how many such updates a second were carried out:
 //! `etcd HOST:PORT CONNECTIONS SECONDS`. Each connection has a thread and a key of its own, and sends the next update once the
-//! last is answered. Ends with status 1 where an update is not carried out. See etcd.sh.
+//! last is answered. Ends with status 1 if an update is not carried out. See etcd.sh.
 
 use std::io::{BufRead, BufReader, Error, ErrorKind, Read, Result, Write};
 use std::net::TcpStream;
