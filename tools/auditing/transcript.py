@@ -20,7 +20,7 @@ NO_SESSION = f"{1:016x} {'0' * 32}"
 
 class Transcript:
     def __init__(self, folder, has_others=False):
-        self.streams, self.revisions = Streams(folder), Revisions(folder)
+        self.folder, self.streams, self.revisions = folder, Streams(folder), Revisions(folder)
         self.all = [it for it in self.revisions.all if it.kind()]
         self.notes = self.revisions.notes + self.streams.notes
         self.lines, self.zxid, self.now, self.places = [], 0, 0, {}

@@ -9,15 +9,16 @@ The judge reads at most 100,000,000 bytes. Whether a connection's packets are la
 transcript is judged in several parts, each of which has the whole history and some of the connections: of any other, the packets are left
 out, and a frame that caused no update becomes a ping.
 
-Then it says, of the reply: its frame, what was sent between the reply before and it, how old it is, and the updates around it. Two
-experiments help to say what is wrong: one of the notifications is left out, or one that an update of that time may have given is put in. If
-the judge then finds the reply lawful, that notification was one too many, or is missing.
+What is wrong with that reply, or with that line, is put into words by `story` and `lines`. Of a lawful record the words say what it covers.
 """
 import os
+import re
 import subprocess
 import sys
 
 from packets import is_notice
+from steps import unanswered
+from updates import Clock, counted
 
 ROOT = os.path.dirname(os.path.dirname(os.path.dirname(os.path.realpath(__file__))))
 MOST_FAULTS, MOST_BYTES = 10, 95_000_000
@@ -55,6 +56,8 @@ def judge(text):
 class Verdict:
     def __init__(self, transcript):
         self.it, self.lines, self.faults, self.dropped = transcript, list(transcript.lines), [], []
+        self.clock, self.told = Clock(transcript.folder), set()
+        self.miscounted = set()  # connections of which a reply is missing, or is there twice, or has a wrong zxid
         self.causes = {(it.number, it.index) for it in transcript.causes.found.values()}
         while len(self.faults) < MOST_FAULTS:
             words = self.judged()
@@ -164,23 +167,45 @@ class Verdict:
 
     def of_line(self, words):
         """The words of a verdict that names a line."""
-        from story import line_words
+        from lines import line_words
         return line_words(self, words[1], int(words[2]) - 1)
 
     def words(self):
         streams, it = self.it.streams, self.it
         replies = sum(len(each.answers) for each in streams.connections.values())
         notices = sum(1 for item in streams.items if item.what == "send" and is_notice(item.data))
-        updates = sum(1 for each in it.all if each.kind() != "lapse")
-        found = [f"{'lawful' if self.is_lawful() else 'unlawful'}: {len(streams.connections)} connections, {replies} replies, "
-                 f"{notices} notifications, {updates} updates, {streams.time / 1e6:.1f} s"]
+        numbers = [each.number for each in it.all if each.kind() != "lapse"]
+        counts = [counted(len(streams.connections), "connection"), counted(replies, "reply", "replies"),
+                  counted(notices, "notification"), counted(len(numbers), "update")]
+        zxids = f" (zxid {numbers[0]} to {numbers[-1]})" if len(numbers) > 1 else ""
+        day = f" from {self.clock.at(0)}" if self.clock.at(0) else ""
+        found = [f"{'lawful' if self.is_lawful() else 'unlawful'}: {', '.join(counts)}{zxids}, {streams.time / 1e6:.1f} s{day}"]
+        if self.is_lawful():
+            found.append(self.covered())
         found += [f"\n{text}" for _, text in self.faults]
         if it.unasked:
             some = ", ".join(map(str, sorted(it.unasked)[:10])) + (" .." if len(it.unasked) > 10 else "")
-            found.append(f"\nnobody who was recorded asked for {len(it.unasked)} updates: {some}. (If other clients do not go through the"
-                         " relays, judge with --others.)")
-        found += [f"note: {note}" for note in it.notes + it.causes.notes + self.dropped]
+            found.append(f"\nnobody who was recorded asked for {counted(len(it.unasked), 'update')}: {some}. (If other clients do not go"
+                         f" through the relays, judge with --others.){' It may follow from the fault above.' if self.faults else ''}")
+        found += [f"note: {note}" for note in it.notes + [each for each in it.causes.notes if not self.is_told(each)] + self.dropped]
         return "\n".join(found)
+
+    def is_told(self, note):
+        """Whether a note on a cause is told otherwise, or comes of replies whose zxids or frames are told to be wrong."""
+        return note in self.told or any(re.search(f" of connection {number}\\b", note) for number in self.miscounted)
+
+    def covered(self):
+        """What was judged: how many frames were answered, who was cut off, and what of."""
+        all_of = self.it.streams.connections.values()
+        open_ones = [each for each in all_of if each.frames]
+        frames = sum(len(each.frames) for each in open_ones)
+        left = sum(len(unanswered(each, len(self.it.streams.items))) + (each.welcomed_at is None) for each in open_ones)
+        ends = [each.cause().split()[0] if each.is_closed else "open" for each in all_of]
+        closed, cut, still = ends.count("closed"), sum(1 for each in ends if each not in ("closed", "open")), ends.count("open")
+        others = len([it for it in self.it.causes.unasked if it >= self.it.revisions.first])
+        found = f"all {counted(frames, 'frame')} were answered" if not left else f"{frames - left} of {counted(frames, 'frame')} were answered"
+        found += f"; {counted(closed, 'connection')} ended by closeSession, {cut} cut off" + (f", {still} still open" if still else "")
+        return f"judged: {found}" + (f"; {counted(others, 'update')} of clients that were not recorded" if others else "")
 
 
 def verdict(folder, has_others):
