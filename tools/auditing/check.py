@@ -3,7 +3,7 @@
 - The records of examples/audit, each with a file `expected`: the words of `judge`, its status, and texts that its output has. They were
   recorded from real proxies over a real etcd; the unlawful ones through a relay that spoiled one thing, which is what has to be found.
 - Spoilings of a lawful one: each packet left out, sent twice, or with a zxid that is lower by one. None may pass for lawful, but for the
-  last packet of a connection left out.
+  last packet of a connection left out. Of some the words are known.
 - A record that lacks a revision says so.
 - A relay passes on what it is given, byte by byte, and writes just that; a follower tells what was compacted unread.
 
@@ -36,22 +36,36 @@ def an_example(folder):
     """What differs from what is expected of this record."""
     with open(os.path.join(folder, "expected"), encoding="utf-8") as it:
         words, status, *texts = it.read().splitlines()
+    return differs(folder, "--others" in words.split(), int(status), texts)
+
+
+def differs(folder, has_others, status, texts):
     said = io.StringIO()
     with contextlib.redirect_stdout(said):
-        found = verdict(folder, "--others" in words.split())
-    wrong = [f"status {found}, not {status}"] if found != int(status) else []
+        found = verdict(folder, has_others)
+    wrong = [f"status {found}, not {status}"] if found != status else []
     return wrong + [f"its verdict does not say: {it}" for it in texts if it not in said.getvalue()]
 
 
-def spoiled(folder, room, change):
-    """The verdict on a copy of a record whose lines of `streams` were changed, and what the transcript says is missing."""
+def spoil(folder, room, change):
+    """Copies a record, with the lines of its `streams` changed."""
     shutil.rmtree(room, ignore_errors=True)
     shutil.copytree(folder, room)
     with open(os.path.join(room, "streams"), encoding="ascii") as it:
         lines = it.readlines()
     with open(os.path.join(room, "streams"), "w", encoding="ascii") as it:
         it.writelines(change(lines))
-    return judge(Transcript(room).text())[0]
+
+
+def words_of_spoilings(room):
+    """The words on spoilings whose kind is known: by the time of a piece, how it is changed, and what has to be said."""
+    wrong = []
+    for time, change, *texts in SPOILT:
+        def change_it(lines, time=time, change=change):
+            return [made for it in lines for made in (change(it) if it.startswith(f"{time} <") else [it])]
+        spoil(os.path.join(EXAMPLES, WHOLE), room, change_it)
+        wrong += [f"the piece of {time}: {it}" for it in differs(room, False, 8, texts)]
+    return wrong
 
 
 def spoilings(room):
@@ -68,7 +82,8 @@ def spoilings(room):
             kinds["has a lower zxid"] = lambda lines: lines[:at] + [lowered(lines[at])] + lines[at + 1:]
         for kind, change in kinds.items():
             count += 1
-            if spoiled(folder, room, change) == "lawful":
+            spoil(folder, room, change)
+            if judge(Transcript(room).text())[0] == "lawful":
                 wrong.append(f"the piece in line {at + 1} of the streams {kind}, and the record is lawful")
     return wrong if count > 40 else wrong + [f"only {count} spoilings"]
 
@@ -81,6 +96,19 @@ def lowered(line):
         at += 4 + struct.unpack_from(">i", some, at)[0]
     struct.pack_into(">q", some, at + 8, struct.unpack_from(">q", some, at + 8)[0] - 1)
     return " ".join([*front, some.hex()]) + "\n"
+
+
+SPOILT = [
+    (1034355, lambda line: [], "connection 1: no reply to frame 5 (xid 5 getData /w)\n", "expected  a reply with xid 5\n"),
+    (729519, lambda line: [], "connection 2: 3 notifications are missing, due before 1.031160 s: NodeDataChanged /w, NodeCreated /other, Node",
+     "missing   NodeCreated /other (update 8, watch set by frame 3)\n"),
+    (729519, lambda line: [line] * 2, "connection 2: 3 notifications are of no watch that was left, from 0.729519 s on: NodeDataChanged /w, Node"),
+    (1033804, lambda line: [lowered(line)], "connection 2: wrong zxid in the reply to frame 7 (xid 7 getData /w)\n", "expected  zxid 9\n"),
+    (1036329, lambda line: [lowered(line)], "update 9 is not what frame 6 (xid 6 multi check /w", "expected  zxid 10 in the reply: update 10 does"),
+    (319144, lambda line: [], "connection 2: no answer to its connect\n"),
+    (370749, lambda line: [line.replace("ffffff9b", "ffffff92")], "connection 2: wrong error in the reply to frame 3", "expected  error NoNode\n"),
+    (370749, lambda line: [line] * 2, "connection 2: a reply to frame 3 (xid 3) comes a second time\n"),
+]
 
 
 def a_gap(room):
@@ -191,7 +219,8 @@ def check():
         return 1
     with tempfile.TemporaryDirectory(prefix="audit-") as room:
         checks = [(name, lambda name=name: an_example(os.path.join(EXAMPLES, name))) for name in sorted(os.listdir(EXAMPLES))]
-        checks += [(it.__name__, lambda it=it: it(os.path.join(room, it.__name__))) for it in (spoilings, a_gap, a_relay, a_follower)]
+        checks += [(it.__name__, lambda it=it: it(os.path.join(room, it.__name__))) for it in
+                   (spoilings, words_of_spoilings, a_gap, a_relay, a_follower)]
         for name, run in checks:
             count += 1
             wrong += [f"{name}: {it}" for it in run()]

@@ -4,6 +4,9 @@ asked for, that was done twice, or that came after one of a later frame.
 Which frame an update is of is read off the replies, and otherwise found by what it did (`causes`). So if a reply is missing in the record,
 the frame that is named is the wrong one. The words say so, and which frames have no reply.
 """
+from expected import state_after
+from keys import did
+from packets import CLOSE, UPDATES
 from rows import Rows
 from steps import connect_words, misstep, misstep_words, unanswered
 from updates import Updates, cut, event_text, seconds
@@ -56,6 +59,16 @@ def of_order(verdict, updates, number, cause):
     return f"update {number} does what {asked} asked for, after {after}", f"{after} first", f"update {number} before it", [], involved
 
 
+def is_asked(verdict, revision, cause):
+    """Whether an update does what a frame asks for, as far as that can be seen here."""
+    it, causes = verdict.it.streams.connections[cause.number], verdict.it.causes
+    session = next((session for session, made in causes.sessions.items() if cause.number in made.values()), it.welcome[0] if it.welcome else 0)
+    request = it.requests[cause.index]
+    if request is None or request.kind not in UPDATES:
+        return revision.kind() == ("closed" if request and request.kind == CLOSE else None)
+    return revision.kind() == "asked" and did(revision, state_after(verdict.it, revision.number - 1).effect(session, request.parts))
+
+
 def of_history(verdict, updates, number, cause):
     it, claims = verdict.it.streams.connections[cause.number], verdict.it.causes.claims.get(number, [])
     asked, told = f"frame {cause.index} ({updates.frame(*cause)})", [event_text(*each) for each in updates.by_number[number].triggers()]
@@ -66,6 +79,8 @@ def of_history(verdict, updates, number, cause):
     others = [f"frame {index} of connection {who} ({updates.frame(who, index)})" for who, index in claims if (who, index) != tuple(cause)]
     if others:
         more.insert(0, f"the reply to {' and that to '.join(others)} has the same zxid")
+    if is_asked(verdict, updates.by_number[number], cause):
+        return f"update {number} does what {asked} asks for, and the service could not do that there", got, "no such update", more, {number}
     if tuple(cause) not in claims:
         wanted = "what that frame asks for, or another frame"
         return f"update {number} cannot have been done by {asked}, to which it is put", got, wanted, more, {number}

@@ -1,13 +1,13 @@
 """Replies out of step. Replies are counted: the k-th answers frame k and has its xid. If one has another xid, a reply is missing before it,
 or one is there twice, or just its xid is wrong. Which, is read off the xids of the replies after it. What is judged of that connection from
 there on is about pairs that do not belong together, so nothing else is said of them. The same holds if the first packet of a connection is
-no answer to its connect, or names a session that etcd never had.
+no answer to its connect, gives no session, or names one that etcd never had.
 """
 import struct
 
 from keys import OWNED
 from packets import NOTICE
-from updates import seconds
+from updates import counted, seconds
 
 
 def misstep(it):
@@ -24,7 +24,10 @@ def connect_words(it, updates):
     if xid and asked and asked.xid == xid:
         got, more = f"a first packet with xid {xid}, as frame 1 has, at {seconds(first.time)}", "the proxy did not send it, or the record lacks it"
         return "no answer to its connect", got, "an answer to the connect", [more]
-    if it.welcome[0] and it.welcome[0] not in sessions_of(updates.it):
+    if not it.welcome[0] and it.answers:
+        got = f"no session at {seconds(first.time)}, and then {counted(len(it.answers), 'reply', 'replies')}"
+        return "its connect was refused, and its frames were answered", got, "no replies, or a session", []
+    if it.welcome[0] and it.welcome[0] not in sessions_of(updates.it) and not updates.it.revisions.notes:
         return "the answer to its connect names a session that etcd never had", f"session {it.welcome[0]:016x}, at {seconds(first.time)}", \
             "a session that etcd has", []
     return None

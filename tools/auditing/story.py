@@ -88,6 +88,8 @@ class Story:
             return headline
         if self.index == 0:
             return self.of_connect()
+        if self.index is not None and (self.answer is None or self.request is None):
+            return f"a packet of {len(self.reply)} bytes, at {seconds(self.last.time)}, is no reply to any frame"
         if self.index is None:
             surplus = self.trials.surplus()
             if surplus:
