@@ -246,7 +246,7 @@ def planted_programs_are_found(program, work):
     for it in planted:
         name = os.path.basename(it)
         status, said = spoil(program, it, work, name)
-        assert status == 8 and "is wrong" in said, f"{name}: status {status}, {said}"
+        assert status == 8 and "\nconnection " in said, f"{name}: status {status}, {said}"
     return ", ".join(os.path.basename(it) for it in planted) or "AUDIT_PLANTED names none"
 
 

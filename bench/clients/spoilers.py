@@ -69,7 +69,7 @@ class Spoiler:
 
 class LosesNotice(Spoiler):
     """A notification is not sent."""
-    FOUND = ["that is missing"]
+    FOUND = [" is missing (watch set by frame ", " notifications are missing, due before "]
 
     def notice(self, _talk, body):
         if self.is_due():
@@ -80,7 +80,7 @@ class LosesNotice(Spoiler):
 
 class ReadsStale(Spoiler):
     """A getData is answered what an earlier one of the same path was, with the zxid of that, though the node has changed since."""
-    FOUND = ["which is older than its request", "which this connection was shown before"]
+    FOUND = ["stale read: ", " goes back: it is as of update ", ", older than its frame: "]
 
     def reply(self, talk, frame, body):
         xid, kind = struct.unpack_from(">ii", frame)
@@ -96,7 +96,7 @@ class ReadsStale(Spoiler):
 
 class DoublesUpdate(Spoiler):
     """A setData with any version is handed in twice, and answered once."""
-    FOUND = ["is carried out a second time"]
+    FOUND = [" does again what frame "]
 
     def frame(self, talk, body):
         if struct.unpack_from(">i", body, 4)[0] == SET and body[-4:] == b"\xff" * 4 and not talk["asked"] and self.is_due():
@@ -113,7 +113,7 @@ class DoublesUpdate(Spoiler):
 
 class ShowsTooNew(Spoiler):
     """A reply has a zxid that no update has yet."""
-    FOUND = ["there is no update with its zxid", "before that was asked for"]
+    FOUND = ["wrong zxid in the reply to frame ", "before that was asked for", "and the reply to that has zxid"]
 
     def reply(self, _talk, _frame, body):
         if self.is_due():
@@ -124,7 +124,7 @@ class ShowsTooNew(Spoiler):
 
 class NoticesTwice(Spoiler):
     """A notification is sent twice."""
-    FOUND = ["that was sent and should not have been"]
+    FOUND = [" is sent twice, again at "]
 
     def notice(self, _talk, body):
         if self.is_due():
@@ -135,7 +135,7 @@ class NoticesTwice(Spoiler):
 
 class SwapsData(Spoiler):
     """A getData is answered other data of the same length."""
-    FOUND = ["it is not what the service gives"]
+    FOUND = ["wrong data in the reply to frame "]
 
     def reply(self, _talk, frame, body):
         length = struct.unpack_from(">i", body, 16)[0] if len(body) > 20 else 0
