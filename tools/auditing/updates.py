@@ -80,7 +80,16 @@ class Updates:
     def __init__(self, transcript):
         self.it = transcript
         self.by_number = {it.number: it for it in transcript.all if it.kind() != "lapse"}
-        self.numbers = sorted(self.by_number)
+        self.numbers, self.told = sorted(self.by_number), None
+
+    def told_of(self, path):
+        """What the updates told of a path: their numbers and events, in order. All paths are gone through once."""
+        if self.told is None:
+            self.told = {}
+            for number in self.numbers:
+                for event, each in self.by_number[number].triggers():
+                    self.told.setdefault(each, []).append((number, event))
+        return self.told.get(path, [])
 
     def paths(self, number):
         """The paths that an update touches."""

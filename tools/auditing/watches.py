@@ -80,10 +80,9 @@ class Watches:
         """What the open watches were to be told of the updates up to a zxid, in their order."""
         found = {}
         for watch in self.open.values():
-            for number in updates.numbers:
-                events = [event for event, path in updates.by_number[number].triggers() if path == watch.path and watch.kind in kinds_of(event)]
-                if watch.zxid < number <= zxid and events:
-                    found.setdefault((number, events[0], watch.path), Due(events[0], watch.path, number, watch.frame))
-                    break
+            first = next(((number, event) for number, event in updates.told_of(watch.path)
+                          if watch.zxid < number <= zxid and watch.kind in kinds_of(event)), None)
+            if first:
+                found.setdefault((*first, watch.path), Due(first[1], watch.path, first[0], watch.frame))
         order = {key: updates.by_number[key[0]].triggers().index(key[1:]) for key in found}
         return [found[key] for key in sorted(found, key=lambda key: (key[0], order[key]))]
